@@ -1,0 +1,123 @@
+-- Laws of packed bits: the bit at a place, and packing and unpacking undo each other.
+-- Assumes nothing.
+use Prim.Native.Nat.{ℕ, zero, suc, _+_, _-_, _*_, _/_, _%_, _^_, _<_, _≤_}
+use mathlib.Core.Path.{_≡_, refl, sym, subst, ap, ap₂, _∙_}
+use mathlib.Core.List.{List, [], _∷_, _++_}
+use native.Mathlib.Nat.{not-suc-le-zero}
+use native.Mathlib.Omega.{arith}
+use native.Mathlib.Decide.{decLe}
+use lib.ListN.{length, getD, drop, length-append, length-drop, List·getD-append, List·getD-eq-default}
+use lib.Seq.{getD-append-add, getD-drop, drop-at, drop-drop}
+use Rattle.arith.specs.Digits.{number, digits}
+use Rattle.arith.specs.Bits.{unpacked, packedTo, packed}
+use Rattle.arith.specs.Need.{need}
+use Rattle.arith.proofs.DigitLaws.{length-digits, digit-at, digit-below, digit-number, number-digits, number-same}
+use Rattle.arith.proofs.Needs.{need-is}
+
+pub length-unpacked : (s : List ℕ) → length (unpacked s) ≡ 8 * length s
+length-unpacked [] = refl
+length-unpacked (b ∷ bs) =
+    length-append (digits 2 8 b) (unpacked bs) ∙ omega (arith, length-digits 2 8 b, length-unpacked bs)
+
+-- past the first byte, the bits are those of the rest
+later : (b : ℕ) (bits : List ℕ) (j : ℕ) → getD (digits 2 8 b ++ bits) (8 + j) 0 ≡ getD bits j 0
+later b bits j =
+    subst (λ (n : ℕ). getD (digits 2 8 b ++ bits) (n + j) 0 ≡ getD bits j 0) (length-digits 2 8 b)
+    (getD-append-add (digits 2 8 b) bits j 0)
+
+-- within the first byte they are its own
+early : (b : ℕ) (bits : List ℕ) (k : ℕ) → k < 8 → getD (digits 2 8 b ++ bits) k 0 ≡ getD (digits 2 8 b) k 0
+early b bits k h = List·getD-append (digits 2 8 b) bits 0 k (omega (arith, length-digits 2 8 b))
+
+-- bit r of byte q
+pub unpacked-at :
+    (s : List ℕ) (q r : ℕ) →
+    r < 8 →
+    q < length s →
+    getD (unpacked s) (8 * q + r) 0 ≡ getD s q 0 / 2 ^ (7 - r) % 2
+unpacked-at [] q r h l = absurd (not-suc-le-zero l)
+unpacked-at (b ∷ bs) zero r h l =
+    let z : 8 * 0 + r ≡ r = omega arith in
+    let e : 8 - suc r ≡ 7 - r = omega arith in
+    ap (λ (k : ℕ). getD (unpacked (b ∷ bs)) k 0) z
+    ∙ early b (unpacked bs) r h
+    ∙ digit-at 2 8 b r h
+    ∙ ap (λ (k : ℕ). b / 2 ^ k % 2) e
+unpacked-at (b ∷ bs) (suc q) r h l =
+    let z : 8 * suc q + r ≡ 8 + (8 * q + r) = omega arith in
+    ap (λ (k : ℕ). getD (unpacked (b ∷ bs)) k 0) z
+    ∙ later b (unpacked bs) (8 * q + r)
+    ∙ unpacked-at bs q r h (omega arith)
+
+-- every one is 0 or 1
+pub unpacked-below : (s : List ℕ) (k : ℕ) → getD (unpacked s) k 0 < 2
+unpacked-below [] k = omega arith
+unpacked-below (b ∷ bs) k =
+    elim (decLe 8 k) [
+      | yes h ↦ let e : k ≡ 8 + (k - 8) = omega arith in
+          subst (λ (n : ℕ). getD (unpacked (b ∷ bs)) n 0 < 2) (sym e)
+          (subst (λ (x : ℕ). x < 2) (sym (later b (unpacked bs) (k - 8))) (unpacked-below bs (k - 8)))
+      | no h ↦ subst (λ (x : ℕ). x < 2) (sym (early b (unpacked bs) k (omega arith))) (digit-below 2 8 b k (omega arith))
+    ]
+
+pub length-packed : (n : ℕ) (bits : List ℕ) → length (packedTo n bits) ≡ n
+length-packed zero bits = refl
+length-packed (suc n) bits = ap suc (length-packed n (drop 8 bits))
+
+-- byte j is made of the eight bits from 8 * j on
+pub packed-at : (n : ℕ) (bits : List ℕ) (j : ℕ) → j < n → getD (packedTo n bits) j 0 ≡ number 2 8 (drop (8 * j) bits)
+packed-at zero bits j h = absurd (not-suc-le-zero h)
+packed-at (suc n) bits zero h = refl
+packed-at (suc n) bits (suc j) h =
+    let e : 8 + 8 * j ≡ 8 * suc j = omega arith in
+    packed-at n (drop 8 bits) j (omega arith)
+    ∙ ap (λ (l : List ℕ). number 2 8 l) (drop-drop (8 * j) 8 bits ∙ ap (λ (k : ℕ). drop k bits) e)
+
+-- packing looks only at the bits, and past a list's end they are 0
+pub packed-same :
+    (n : ℕ) (xs ys : List ℕ) →
+    ((k : ℕ) → getD xs k 0 ≡ getD ys k 0) →
+    packedTo n xs ≡ packedTo n ys
+packed-same zero xs ys h = refl
+packed-same (suc n) xs ys h =
+    ap₂ (λ (x : ℕ) (l : List ℕ). x ∷ l) (number-same 2 8 xs ys (λ k l. h k))
+    (packed-same n (drop 8 xs) (drop 8 ys) (λ k. getD-drop 8 xs k 0 ∙ h (8 + k) ∙ sym (getD-drop 8 ys k 0)))
+
+-- bytes unpacked and packed again are the same bytes
+pub packed-unpacked :
+    (s : List ℕ) → ((k : ℕ) → k < length s → getD s k 0 < 256) → packedTo (length s) (unpacked s) ≡ s
+packed-unpacked [] h = refl
+packed-unpacked (b ∷ bs) h =
+    ap₂ (λ (x : ℕ) (l : List ℕ). x ∷ l) (number-digits 2 8 b (unpacked bs) (omega arith) (h 0 (omega arith)))
+    (ap (λ (l : List ℕ). packedTo (length bs) l) (drop-at (digits 2 8 b) (unpacked bs) 8 (length-digits 2 8 b))
+    ∙ packed-unpacked bs (λ k l. h (suc k) (omega arith)))
+
+-- bits packed and unpacked again are the same bits
+pub unpacked-packed :
+    (n : ℕ) (bits : List ℕ) →
+    length bits ≤ 8 * n →
+    ((k : ℕ) → getD bits k 0 < 2) →
+    (k : ℕ) →
+    getD (unpacked (packedTo n bits)) k 0 ≡ getD bits k 0
+unpacked-packed zero bits l h k = sym (List·getD-eq-default bits 0 (omega arith))
+unpacked-packed (suc n) bits l h k =
+    elim (decLe 8 k) [
+      | yes f ↦ let e : 8 + (k - 8) ≡ k = omega arith in
+          let rest : getD (unpacked (packedTo n (drop 8 bits))) (k - 8) 0 ≡ getD (drop 8 bits) (k - 8) 0 =
+          unpacked-packed n (drop 8 bits) (simp length-drop (omega arith)) (λ j. subst (λ (x : ℕ). x < 2) (sym (getD-drop 8 bits j 0)) (h (8 + j))) (k - 8) in
+          ap (λ (j : ℕ). getD (unpacked (packedTo (suc n) bits)) j 0) (sym e)
+          ∙ later (number 2 8 bits) (unpacked (packedTo n (drop 8 bits))) (k - 8)
+          ∙ rest
+          ∙ getD-drop 8 bits (k - 8) 0
+          ∙ ap (λ (j : ℕ). getD bits j 0) e
+      | no f ↦ early (number 2 8 bits) (unpacked (packedTo n (drop 8 bits))) k (omega arith)
+          ∙ digit-number 2 8 bits (λ j q. h j) k (omega arith)
+    ]
+
+-- bit k, by the byte that it stands in
+pub bit-of : (s : List ℕ) (k byte : ℕ) → k < 8 * length s → byte ≡ getD s (k / 8) 0 → byte / 2 ^ (7 - k % 8) % 2 ≡ getD (unpacked s) k 0
+bit-of s k byte h e =
+    let place : 8 * (k / 8) + k % 8 ≡ k = omega arith in
+    ap (λ (b : ℕ). b / 2 ^ (7 - k % 8) % 2) e
+    ∙ sym (unpacked-at s (k / 8) (k % 8) (omega arith) (omega arith))
+    ∙ ap (λ (j : ℕ). getD (unpacked s) j 0) place

@@ -1,0 +1,135 @@
+-- The laws of digits, over any base and width.
+-- Assumes nothing.
+use Prim.Native.Nat.{ℕ, zero, suc, _+_, _-_, _*_, _/_, _%_, _^_, _<_, _≤_}
+use mathlib.Core.Path.{_≡_, refl, sym, subst, ap, ap₂, _∙_}
+use mathlib.Core.List.{List, [], _∷_, _++_, append-assoc}
+use native.Mathlib.Nat.{mod-lt, div-add-mod', div-lt-iff-lt-mul, div-div-eq-div-mul, pow-zero, pow-suc, mul-comm, div-one, not-suc-le-zero, lt-of-lt-of-le, pow-le-pow-right}
+use native.Mathlib.Numerals.{add-one}
+use native.Mathlib.Omega.{arith}
+use native.Mathlib.Decide.{decLe}
+use lib.Arith.{digits-lt, digits-div, digits-mod}
+use lib.ListN.{length, getD, take, drop, length-append, List·getD-append, List·getD-eq-default}
+use lib.Seq.{getD-append-seam, ext-getD, length-take-le, getD-take, getD-drop}
+use Rattle.arith.specs.Digits.{number, digits}
+
+pub length-digits : (b n x : ℕ) → length (digits b n x) ≡ n
+length-digits b zero x = refl
+length-digits b (suc n) x =
+    length-append (digits b n (x / b)) (x % b ∷ []) ∙ omega (arith, length-digits b n (x / b))
+
+-- a number looks only at its digits
+pub number-same :
+    (b n : ℕ) (ds es : List ℕ) →
+    ((k : ℕ) → k < n → getD ds k 0 ≡ getD es k 0) →
+    number b n ds ≡ number b n es
+number-same b zero ds es h = refl
+number-same b (suc n) ds es h =
+    ap₂ (λ (x y : ℕ). x * b + y) (number-same b n ds es (λ k l. h k (omega arith))) (h n (omega arith))
+
+pub number-append : (b n : ℕ) (ds es : List ℕ) → n ≤ length ds → number b n (ds ++ es) ≡ number b n ds
+number-append b n ds es h =
+    number-same b n (ds ++ es) ds (λ k l. List·getD-append ds es 0 k (omega arith))
+
+-- a number of n digits is below the base to the n
+pub number-below :
+    (b n : ℕ) (ds : List ℕ) → ((k : ℕ) → k < n → getD ds k 0 < b) → number b n ds < b ^ n
+number-below b zero ds h = rw pow-zero (omega arith)
+number-below b (suc n) ds h =
+    rw pow-suc (digits-lt (number-below b n ds (λ k l. h k (omega arith))) (h n (omega arith)))
+
+-- the digits of a number make the number again
+pub number-digits :
+    (b n x : ℕ) (rest : List ℕ) → 0 < b → x < b ^ n → number b n (digits b n x ++ rest) ≡ x
+number-digits b zero x rest p h =
+    let e : x < 1 = rw pow-zero at h in
+    omega arith
+number-digits b (suc n) x rest p h =
+    let l : x < b ^ n * b = rw pow-suc at h in
+    let front : List ℕ = digits b n (x / b) in
+    let s : front ++ (x % b ∷ []) ++ rest ≡ front ++ (x % b ∷ rest) = append-assoc front (x % b ∷ []) rest in
+    subst (λ (r : List ℕ). number b n r * b + getD r n 0 ≡ x) (sym s)
+    (ap₂ (λ (y z : ℕ). y * b + z)
+    (number-digits b n (x / b) (x % b ∷ rest) p (div-lt-iff-lt-mul p .1 l))
+    (subst (λ (k : ℕ). getD (front ++ (x % b ∷ rest)) k 0 ≡ x % b) (length-digits b n (x / b))
+    (getD-append-seam front (x % b) rest 0))
+    ∙ div-add-mod' x b)
+
+-- and a number's digits are those it was made of
+pub digit-number :
+    (b n : ℕ) (ds : List ℕ) →
+    ((k : ℕ) → k < n → getD ds k 0 < b) →
+    (k : ℕ) →
+    k < n →
+    getD (digits b n (number b n ds)) k 0 ≡ getD ds k 0
+digit-number b zero ds h k l = absurd (not-suc-le-zero l)
+digit-number b (suc n) ds h k l =
+    let d : ℕ = getD ds n 0 in
+    let small : d < b = h n (omega arith) in
+    let e : digits b (suc n) (number b (suc n) ds) ≡ digits b n (number b n ds) ++ (d ∷ []) =
+    ap₂ (λ (x y : ℕ). digits b n x ++ (y ∷ [])) (digits-div (number b n ds) small) (digits-mod (number b n ds) small) in
+    let len : length (digits b n (number b n ds)) ≡ n = length-digits b n (number b n ds) in
+    ap (λ (x : List ℕ). getD x k 0) e
+    ∙ elim (decLe (suc k) n) [
+      | yes f ↦ List·getD-append (digits b n (number b n ds)) (d ∷ []) 0 k (omega arith)
+          ∙ digit-number b n ds (λ j q. h j (omega arith)) k f
+      | no f ↦ last ds (digits b n (number b n ds)) d k n len (omega arith) refl
+    ]
+  where
+    last : (ds front : List ℕ) (d k n : ℕ) → length front ≡ n → k ≡ n → d ≡ getD ds n 0 → getD (front ++ (d ∷ [])) k 0 ≡ getD ds k 0
+    last ds front d k n len e same =
+        ap (λ (m : ℕ). getD (front ++ (d ∷ [])) m 0) (e ∙ sym len)
+        ∙ getD-append-seam front d [] 0
+        ∙ same
+        ∙ ap (λ (m : ℕ). getD ds m 0) (sym e)
+
+pub digits-number :
+    (b n : ℕ) (ds : List ℕ) →
+    n ≤ length ds →
+    ((k : ℕ) → k < n → getD ds k 0 < b) →
+    digits b n (number b n ds) ≡ take n ds
+digits-number b n ds l h =
+    let len : length (digits b n (number b n ds)) ≡ n = length-digits b n (number b n ds) in
+    ext-getD 0 (digits b n (number b n ds)) (take n ds) (len ∙ sym (length-take-le n ds l))
+    (λ k q. digit-number b n ds h k (omega arith) ∙ sym (getD-take n ds k 0 (omega arith)))
+
+-- the digit at a place
+pub digit-at : (b n x k : ℕ) → k < n → getD (digits b n x) k 0 ≡ x / b ^ (n - suc k) % b
+digit-at b zero x k h = absurd (not-suc-le-zero h)
+digit-at b (suc n) x k h =
+    elim (decLe (suc k) n) [ yes l ↦ front l (digit-at b n (x / b) k l) | no l ↦ last (omega arith) ]
+  where
+    front : k < n → getD (digits b n (x / b)) k 0 ≡ x / b / b ^ (n - suc k) % b → getD (digits b (suc n) x) k 0 ≡ x / b ^ (suc n - suc k) % b
+    front l rest =
+        let e : suc n - suc k ≡ suc (n - suc k) = omega arith in
+        List·getD-append (digits b n (x / b)) (x % b ∷ []) 0 k (subst (λ (m : ℕ). k < m) (sym (length-digits b n (x / b))) l)
+        ∙ rest
+        ∙ ap (λ (m : ℕ). m % b) (div-div-eq-div-mul x b (b ^ (n - suc k)) ∙ ap (λ (m : ℕ). x / m) (mul-comm b (b ^ (n - suc k)) ∙ sym (pow-suc b (n - suc k)) ∙ ap (λ (m : ℕ). b ^ m) (sym e)))
+
+    last : k ≡ n → getD (digits b (suc n) x) k 0 ≡ x / b ^ (suc n - suc k) % b
+    last e =
+        let z : suc n - suc k ≡ 0 = omega arith in
+        subst (λ (m : ℕ). getD (digits b n (x / b) ++ (x % b ∷ [])) m 0 ≡ x % b) (length-digits b n (x / b) ∙ sym e) (getD-append-seam (digits b n (x / b)) (x % b) [] 0)
+        ∙ ap (λ (m : ℕ). m % b) (sym (ap (λ (m : ℕ). x / m) (ap (λ (m : ℕ). b ^ m) z ∙ pow-zero b) ∙ div-one x))
+
+-- every digit is below the base
+pub digit-below : (b n x k : ℕ) → 0 < b → getD (digits b n x) k 0 < b
+digit-below b n x k p =
+    elim (decLe (suc k) n) [
+      | yes l ↦ subst (λ (d : ℕ). d < b) (sym (digit-at b n x k l)) (mod-lt (x / b ^ (n - suc k)) p)
+      | no l ↦ let out : length (digits b n x) ≤ k = omega (arith, length-digits b n x) in
+          subst (λ (d : ℕ). d < b) (sym (List·getD-eq-default (digits b n x) 0 out)) p
+    ]
+
+-- one digit more, as a loop takes it
+pub number-more :
+    (b i at acc : ℕ) (s : List ℕ) →
+    acc ≡ number b i (drop at s) →
+    acc * b + getD s (at + i) 0 ≡ number b (i + 1) (drop at s)
+number-more b i at acc s e =
+    rw add-one (ap₂ (λ (x y : ℕ). x * b + y) e (sym (getD-drop at s i 0)))
+
+pub below-more : (b i acc d : ℕ) → acc < b ^ i → d < b → acc * b + d < b ^ (i + 1)
+below-more b i acc d h l = rw (add-one, pow-suc) (digits-lt h l)
+
+pub below-cap : (b i m acc : ℕ) → 0 < b → i ≤ m → acc < b ^ i → acc < b ^ m
+below-cap b i m acc p l h = lt-of-lt-of-le h (pow-le-pow-right p l)

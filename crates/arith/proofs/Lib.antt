@@ -1,0 +1,6 @@
+pub mod Tests
+pub mod Needs
+pub mod Divisors
+pub mod DigitLaws
+pub mod BitLaws
+pub mod Stores

@@ -1,0 +1,52 @@
+-- A test inside a definition, and what it tells: a view for each kind of test, to be taken apart by `elim`.
+-- Assumes nothing.
+use Prim.Native.Nat.{ℕ, suc, _≤_, _<_}
+use mathlib.Core.Bool.{Bool, true, false, not}
+use mathlib.Core.Path.{_≡_, subst, sym, refl}
+use lib.Dec.{T, leb, ltb, eqb, leb→le, nleb→lt, eqb→eq, eqb-refl}
+use Rattle.arith.specs.Choice.{both, every}
+use mathlib.Core.List.{List, [], _∷_}
+
+pub data TestLe (m n : ℕ) : Bool → Type 0 where
+  le-yes : m ≤ n → TestLe m n true
+  le-not : n < m → TestLe m n false
+
+-- `ltb m n` is `leb (suc m) n`, so this serves both
+pub testLe : (m n : ℕ) → TestLe m n (leb m n)
+testLe m n = view (leb m n) (leb→le m n) (nleb→lt m n)
+  where
+    view : (b : Bool) → (T b → m ≤ n) → (T (not b) → n < m) → TestLe m n b
+    view true y x = le-yes (y tt)
+    view false y x = le-not (x tt)
+
+pub data TestEq (m n : ℕ) : Bool → Type 0 where
+  eq-yes : m ≡ n → TestEq m n true
+  eq-not : (m ≡ n → ⊥) → TestEq m n false
+
+pub testEq : (m n : ℕ) → TestEq m n (eqb m n)
+testEq m n = view (eqb m n) (eqb→eq m n) (λ e. subst (λ (k : ℕ). T (eqb m k)) e (eqb-refl m))
+  where
+    view : (b : Bool) → (T b → m ≡ n) → (m ≡ n → T b) → TestEq m n b
+    view true y x = eq-yes (y tt)
+    view false y x = eq-not x
+
+-- a test by itself
+pub data Tested : Bool → Type 0 where
+  passed : Tested true
+  failed : Tested false
+
+pub tested : (b : Bool) → Tested b
+tested true = passed
+tested false = failed
+
+-- both tests of a pair passed
+pub both-left : (a b : Bool) → both a b ≡ true → a ≡ true
+both-left true b h = refl
+both-left false b h = h
+
+pub both-right : (a b : Bool) → both a b ≡ true → b ≡ true
+both-right true b h = h
+both-right false b h = absurd (subst T (sym h) tt)
+
+pub both-true : {a b : Bool} → a ≡ true → b ≡ true → both a b ≡ true
+both-true {a} {b} p q = subst (λ (x : Bool). both x b ≡ true) (sym p) q

@@ -1,0 +1,37 @@
+use Prim.Native.Nat.{ℕ, _<_, _/_, _^_}
+use mathlib.Core.Path.{subst, sym}
+use native.Mathlib.Nat.{div-le-self}
+use native.Mathlib.Omega.{arith}
+use Rattle.arith.proofs.Divisors.{gcd-positive, product-below, lcm-of}
+use borrow.Author.Needs.{needs}
+use Rattle.arith.proofs.lcm_of.Statement.{statement}
+use Rattle.arith.proofs.lcm_of.Tie as tie
+use Rattle.arith.proofs.lcm_of.Reads as reads
+use Rattle.arith.proofs.lcm_of.Lts as lts
+use Rattle.arith.proofs.gcd_of.Reads as gcd-of-reads
+
+-- src/lib.rt:38:9
+gcd-of-requires : tie.Need-gcd-of-requires
+gcd-of-requires c κs = search needs
+
+-- src/lib.rt:39:16
+div-part : tie.Need-div-part
+div-part c = subst (λ (g : ℕ). 0 < g) (sym (c .gcd-of .ensures)) (gcd-positive (c .before .args .a) (c .before .args .b) (c .before .pre))
+
+-- src/lib.rt:40:6
+cast-result : tie.Need-cast-result
+cast-result c = omega (arith, div-le-self (c .before .args .a) (c .gcd-of .result), c .before .fits .a)
+
+-- src/lib.rt:40:5
+mul-result : tie.Need-mul-result
+mul-result c =
+    record {
+      fits = product-below (2 ^ 32) (c .before .args .a / c .gcd-of .result) (c .before .args .b) (omega (arith, div-le-self (c .before .args .a) (c .gcd-of .result), c .before .fits .a)) (omega (arith, c .before .fits .b));
+    }
+
+-- src/lib.rt:34:1
+returns : tie.Need-returns
+returns c = lcm-of (c .before .args .a) (c .before .args .b) (c .gcd-of .result) (c .gcd-of .ensures)
+
+pub lcm-of-spec : {M : Type 1} → statement M
+lcm-of-spec = tie.close (tie.spec gcd-of-requires div-part cast-result mul-result returns)

@@ -1,0 +1,6 @@
+pub mod Choice
+pub mod Sum
+pub mod Need
+pub mod Divisor
+pub mod Digits
+pub mod Bits

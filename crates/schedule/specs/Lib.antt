@@ -1,0 +1,2 @@
+pub mod PlainSchedule
+pub mod Feasibility

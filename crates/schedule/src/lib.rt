@@ -1,0 +1,1 @@
+// The plain schedule. Its definitions and theorems stand in specs/ and proofs/.
