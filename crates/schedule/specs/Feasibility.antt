@@ -3,6 +3,7 @@
 use Prim.Native.Nat.{ℕ, zero, suc, _+_, _*_, _/_, _%_, _<_, _≤_}
 use mathlib.Core.Path.{_≡_}
 use mathlib.Core.List.{List, [], _∷_}
+use mathlib.Core.Logic.{_⊎_}
 use Rattle.arith.specs.Sum.{sumTo}
 use Rattle.schedule.specs.PlainSchedule.{Timing, Pending, deadline, canonicalAt}
 
@@ -10,6 +11,11 @@ use Rattle.schedule.specs.PlainSchedule.{Timing, Pending, deadline, cano
 abbrev pub All {ℓ} : {A : Type ℓ} → (A → Type 0) → List A → Type 0
 All P [] = Unit {0}
 All P (x ∷ xs) = P x × All P xs
+
+-- x is an element of a list
+abbrev pub In : {A : Type 0} → A → List A → Type 0
+In x [] = ⊥
+In x (y ∷ ys) = (x ≡ y) ⊎ In x ys
 
 -- over a common multiple of the periods, the jobs' allotments fit (01: a level admits the plan)
 pub record Fitting (τ : Timing) (hyperperiod : ℕ) : Type 0 where

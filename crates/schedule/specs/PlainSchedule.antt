@@ -1,7 +1,7 @@
 -- 01, "Plan, levels, plain schedule": jobs, urgency and the plain schedule, tick by tick. The field calls the plain schedule the
 -- canonical schedule, the open jobs pending, and the plain ticks left of a job its remaining canonical ticks. No job is replaced here.
 -- Assumes nothing.
-use Prim.Native.Nat.{ℕ, zero, suc, _+_, _-_, _%_}
+use Prim.Native.Nat.{ℕ, zero, suc, _+_, _-_, _*_, _/_, _%_}
 use mathlib.Core.Bool.{Bool}
 use mathlib.Core.List.{List, [], _∷_}
 use lib.Dec.{leb, ltb, eqb}
@@ -41,6 +41,11 @@ abbrev pub serve : List Pending → List Pending
 serve [] = []
 serve (e ∷ q) = pick (leb (e .remaining) 1) q (record { job = e .job; remaining = e .remaining - 1 } ∷ q)
 
+-- d ticks taken from a ready queue, most urgent entry first, entries at 0 leaving it
+abbrev pub drain : ℕ → List Pending → List Pending
+drain d [] = []
+drain d (e ∷ q) = pick (ltb d (e .remaining)) (record { job = e .job; remaining = e .remaining - d } ∷ q) (drain (d - e .remaining) q)
+
 -- a new job of task i at tick t, with its full allotment
 abbrev pub newJob : Timing → ℕ → ℕ → Pending
 newJob τ t i = record { job = record { task = i; arrival = t }; remaining = τ .allotment i }
@@ -75,3 +80,20 @@ after τ (suc d) b = tick τ (after τ d b)
 -- the plain schedule at tick t
 abbrev pub canonicalAt : Timing → ℕ → Book
 canonicalAt τ t = after τ t (opened τ)
+
+-- 01: a task's job at tick t is the one that arrived last: at the greatest multiple of its period that is at most t
+abbrev pub latest : Timing → ℕ → ℕ → Job
+latest τ t i = record { task = i; arrival = t / τ .period i * τ .period i }
+
+-- the ready queue of the tasks below n at tick t, from each task's remaining ticks: "entries with plain ticks left only", most urgent first
+abbrev pub queueOne : Timing → ℕ → (ℕ → ℕ) → ℕ → List Pending → List Pending
+queueOne τ t left i q = pick (eqb (left i) 0) q (enqueue τ (record { job = latest τ t i; remaining = left i }) q)
+
+abbrev pub queueOf : Timing → ℕ → (ℕ → ℕ) → ℕ → List Pending
+queueOf τ t left zero = []
+queueOf τ t left (suc i) = queueOne τ t left i (queueOf τ t left i)
+
+-- what a queue has left for task i: 0 where it has no entry
+abbrev pub leftIn : ℕ → List Pending → ℕ
+leftIn i [] = 0
+leftIn i (e ∷ q) = pick (eqb (e .job .task) i) (e .remaining) (leftIn i q)

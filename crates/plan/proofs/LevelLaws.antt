@@ -1,0 +1,198 @@
+-- Laws of the levels and of the hyperperiod.
+-- Assumes nothing.
+use Prim.Native.Nat.{ℕ, zero, suc, _*_, _/_, _<_, _≤_, _∣_}
+use mathlib.Core.Bool.{Bool, true, false}
+use mathlib.Core.Path.{_≡_, refl, sym, subst, _∙_}
+use mathlib.Core.List.{List, [], _∷_}
+use native.Mathlib.Nat.{not-suc-le-zero, add-le-add, mul-le-mul-right, le-trans, dvd-refl, dvd-trans, one-dvd, le-of-dvd}
+use native.Mathlib.Omega.{arith}
+use native.Mathlib.Decide.{decLe}
+use lib.Dec.{T, ltb}
+use lib.ListN.{length, getD, drop}
+use Rattle.arith.specs.Choice.{pick, both, every, first}
+use Rattle.arith.specs.Sum.{sumOf}
+use Rattle.arith.specs.Need.{need}
+use Rattle.arith.proofs.Tests.{passed, failed, tested, both-left, both-right}
+use Rattle.arith.proofs.Needs.{need-faster}
+use Rattle.arith.proofs.Divisors.{lcm-left, lcm-right, lcm-least, lcm-positive}
+use Rattle.plan.specs.declared.Task.{Task}
+use Rattle.plan.specs.Levels.{baseSpeeds, Rising, speedOf, hyperperiod, demandWithin, admits, nominal}
+use Rattle.plan.specs.Blocks.{noTask}
+use Rattle.plan.specs.Questions.{inRange}
+use Rattle.plan.specs.Laws.{AdmitsFromNominal, HyperperiodIsLeast}
+use borrow.Author.Tests.{leb-true, le-leb}
+use Rattle.plan.proofs.Facts.{range-at}
+
+-- the first element that passes a test
+module _ {ℓ} {A : Type ℓ} (f : A → Bool) where
+  pub first-most : (l : List A) → first f l ≤ length l
+  first-most [] = omega arith
+  first-most (x ∷ xs) =
+      elim (tested (f x)) as (λ t _. pick t 0 (suc (first f xs)) ≤ suc (length xs)) [
+        | passed ↦ omega arith
+        | failed ↦ omega (arith, first-most xs)
+      ]
+
+  -- none that passes stands before it
+  pub first-le : (l : List A) (k : ℕ) (d : A) → k < length l → f (getD l k d) ≡ true → first f l ≤ k
+  first-le [] k d l h = absurd (not-suc-le-zero l)
+  first-le (x ∷ xs) zero d l h = subst (λ (t : Bool). pick t 0 (suc (first f xs)) ≤ 0) (sym h) (omega arith)
+  first-le (x ∷ xs) (suc k) d l h =
+      elim (tested (f x)) as (λ t _. pick t 0 (suc (first f xs)) ≤ suc k) [
+        | passed ↦ omega arith
+        | failed ↦ omega (arith, first-le xs k d (omega arith) h)
+      ]
+
+  -- and it passes
+  pub first-passes : (l : List A) (d : A) → first f l < length l → f (getD l (first f l) d) ≡ true
+  first-passes [] d h = absurd (not-suc-le-zero h)
+  first-passes (x ∷ xs) d h = go (f x) refl h (first-passes xs d)
+    where
+      go :
+          (t : Bool) →
+          f x ≡ t →
+          pick t 0 (suc (first f xs)) < suc (length xs) →
+          (first f xs < length xs → f (getD xs (first f xs) d) ≡ true) →
+          f (getD (x ∷ xs) (pick t 0 (suc (first f xs))) d) ≡ true
+      go true e l rest = e
+      go false e l rest = rest (omega arith)
+
+  pub first-before : (l : List A) (k : ℕ) (d : A) → k < first f l → f (getD l k d) ≡ false
+  first-before l k d h =
+      elim (tested (f (getD l k d))) as (λ t _. f (getD l k d) ≡ t → t ≡ false) [
+        | passed ↦ λ e. absurd (omega (arith, first-le l k d (omega (arith, first-most l)) e))
+        | failed ↦ λ e. refl
+      ] refl
+
+  -- where a pass at one place gives a pass at every later one, all that fail stand before it
+  pub first-after :
+      (l : List A) (d : A) →
+      ((i j : ℕ) → i ≤ j → j < length l → f (getD l i d) ≡ true → f (getD l j d) ≡ true) →
+      (k : ℕ) →
+      k < length l →
+      f (getD l k d) ≡ false →
+      k < first f l
+  first-after l d up k h e =
+      elim (decLe (first f l) k) [
+        | yes p ↦ absurd (subst T (sym (up (first f l) k p h (first-passes l d (omega arith))) ∙ e) tt)
+        | no p ↦ omega arith
+      ]
+
+-- a smaller value at each element makes a smaller sum
+pub sumOf-le {ℓ} : {A : Type ℓ} (f g : A → ℕ) (l : List A) → ((x : A) → f x ≤ g x) → sumOf f l ≤ sumOf g l
+sumOf-le f g [] h = omega arith
+sumOf-le f g (x ∷ xs) h = add-le-add (h x) (sumOf-le f g xs h)
+
+-- a faster speed demands no more, so it admits what a slower one does
+pub demand-faster :
+    (span r s : ℕ) (ts : List Task) → 0 < r → r ≤ s → demandWithin span s ts ≤ demandWithin span r ts
+demand-faster span r s ts h le =
+    sumOf-le (λ (t : Task). need s (t .worst) * (span / t .period)) (λ (t : Task). need r (t .worst) * (span / t .period)) ts
+    (λ t. mul-le-mul-right (span / t .period) (need-faster r s (t .worst) h le))
+
+pub admits-faster : (ts : List Task) (r s : ℕ) → 0 < r → r ≤ s → admits ts r ≡ true → admits ts s ≡ true
+admits-faster ts r s h le a =
+    let span : ℕ = hyperperiod ts in
+    le-leb (demandWithin span s ts) span
+    (le-trans (demand-faster span r s ts h le) (leb-true (demandWithin span r ts) span a))
+
+-- along a rising table, a level above one that admits admits too
+pub admits-higher :
+    (speeds : List ℕ) →
+    Rising speeds →
+    (ts : List Task) (low high : ℕ) →
+    low ≤ high →
+    high < length speeds →
+    admits ts (speedOf speeds low) ≡ true →
+    admits ts (speedOf speeds high) ≡ true
+admits-higher speeds rising ts low high le h a =
+    elim (decLe high low) [
+      | yes p ↦ let e : low ≡ high = omega arith in
+          subst (λ (k : ℕ). admits ts (speedOf speeds k) ≡ true) e a
+      | no p ↦ admits-faster ts (speedOf speeds low) (speedOf speeds high) (rising .positive low (omega arith))
+          (omega (arith, rising .faster low high (omega arith) h)) a
+    ]
+
+pub admits-from-nominal : (speeds : List ℕ) → Rising speeds → AdmitsFromNominal speeds
+admits-from-nominal speeds rising ts level h = (
+  first-le (admits ts) speeds level 0 h,
+  λ le. admits-higher speeds rising ts (nominal speeds ts) level le h (first-passes (admits ts) speeds 0 (omega arith)),
+)
+
+-- every period is above 0
+abbrev pub Positive : List Task → Type 0
+Positive ts = (i : ℕ) → i < length ts → 0 < getD ts i noTask .period
+
+pub range-positive : (ts : List Task) → every inRange ts ≡ true → Positive ts
+range-positive ts h i l = range-at ts i h l .period-low
+
+pub hyperperiod-is-least : HyperperiodIsLeast
+hyperperiod-is-least ts pos = (multiple ts, least ts pos)
+  where
+    multiple : (ts : List Task) (i : ℕ) → i < length ts → getD ts i noTask .period ∣ hyperperiod ts
+    multiple [] i h = absurd (not-suc-le-zero h)
+    multiple (t ∷ ts) zero h = lcm-left (t .period) (hyperperiod ts)
+    multiple (t ∷ ts) (suc i) h =
+        dvd-trans (getD ts i noTask .period) (multiple ts i (omega arith)) (lcm-right (t .period) (hyperperiod ts))
+
+    least :
+        (ts : List Task) →
+        Positive ts →
+        (m : ℕ) →
+        ((i : ℕ) → i < length ts → getD ts i noTask .period ∣ m) →
+        hyperperiod ts ∣ m
+    least [] pos m h = one-dvd m
+    least (t ∷ ts) pos m h =
+        lcm-least (t .period) (hyperperiod ts) m (pos 0 (omega arith)) (h 0 (omega arith))
+        (least ts (λ i l. pos (suc i) (omega arith)) m (λ i l. h (suc i) (omega arith)))
+
+pub hyperperiod-positive : (ts : List Task) → Positive ts → 0 < hyperperiod ts
+hyperperiod-positive [] pos = omega arith
+hyperperiod-positive (t ∷ ts) pos =
+    lcm-positive (t .period) (hyperperiod ts) (pos 0 (omega arith))
+    (hyperperiod-positive ts (λ i l. pos (suc i) (omega arith)))
+
+-- the tasks from one on have a hyperperiod that divides that of all, so it is no greater
+pub hyperperiod-from : (ts : List Task) (i : ℕ) → hyperperiod (drop i ts) ∣ hyperperiod ts
+hyperperiod-from ts zero = dvd-refl (hyperperiod ts)
+hyperperiod-from [] (suc i) = dvd-refl 1
+hyperperiod-from (t ∷ ts) (suc i) =
+    dvd-trans (hyperperiod (drop i ts)) (hyperperiod-from ts i) (lcm-right (t .period) (hyperperiod ts))
+
+pub hyperperiod-drop : (ts : List Task) → Positive ts → (i : ℕ) → hyperperiod (drop i ts) ≤ hyperperiod ts
+hyperperiod-drop ts pos i = le-of-dvd (hyperperiod-positive ts pos) (hyperperiod-from ts i)
+
+-- a test that a table's speeds rise from above a given one
+abbrev pub rises : ℕ → List ℕ → Bool
+rises low [] = true
+rises low (x ∷ xs) = both (ltb low x) (rises x xs)
+
+pub rises-above : (low : ℕ) (l : List ℕ) → rises low l ≡ true → (k : ℕ) → k < length l → low < getD l k 0
+rises-above low [] h k l = absurd (not-suc-le-zero l)
+rises-above low (x ∷ xs) h zero l = leb-true (suc low) x (both-left (ltb low x) (rises x xs) h)
+rises-above low (x ∷ xs) h (suc k) l =
+    omega (
+      arith,
+      leb-true (suc low) x (both-left (ltb low x) (rises x xs) h),
+      rises-above x xs (both-right (ltb low x) (rises x xs) h) k (omega arith),
+    )
+
+pub rises-faster :
+    (low : ℕ) (l : List ℕ) →
+    rises low l ≡ true →
+    (i j : ℕ) →
+    i < j →
+    j < length l →
+    getD l i 0 < getD l j 0
+rises-faster low [] h i j lt l = absurd (not-suc-le-zero l)
+rises-faster low (x ∷ xs) h i zero lt l = absurd (not-suc-le-zero lt)
+rises-faster low (x ∷ xs) h zero (suc j) lt l =
+    rises-above x xs (both-right (ltb low x) (rises x xs) h) j (omega arith)
+rises-faster low (x ∷ xs) h (suc i) (suc j) lt l =
+    rises-faster x xs (both-right (ltb low x) (rises x xs) h) i j (omega arith) (omega arith)
+
+pub rising : (speeds : List ℕ) → rises 0 speeds ≡ true → Rising speeds
+rising speeds h = record { positive = rises-above 0 speeds h; faster = rises-faster 0 speeds h }
+
+pub baseRising : Rising baseSpeeds
+baseRising = rising baseSpeeds refl

@@ -1,0 +1,10 @@
+pub mod General
+pub mod Facts
+pub mod Lists
+pub mod LevelLaws
+pub mod BlockBits
+pub mod Fields
+pub mod RoundTrip
+pub mod Judgements
+pub mod Codec
+pub mod Packing

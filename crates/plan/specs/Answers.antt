@@ -1,0 +1,70 @@
+-- 01, "Blocks" and "Questions put to every call": what the calls on plans return and leave in a lent buffer.
+-- Assumes nothing.
+use Prim.Native.Nat.{ℕ, zero, suc}
+use mathlib.Core.List.{List, [], _∷_, _++_}
+use lib.ListN.{length, drop}
+use Rattle.plan.specs.declared.Task.{Task}
+use Rattle.plan.specs.declared.Plan.{Plan}
+use Rattle.plan.specs.declared.Judged.{Judged}
+use Rattle.plan.specs.declared.Verdict.{Verdict}
+use Rattle.plan.specs.declared.Verdict.the-variants as verdict
+use Rattle.plan.specs.declared.Written.{Written}
+use Rattle.plan.specs.declared.Written.the-variants as written
+use Rattle.plan.specs.Levels.{hyperperiod, nominal}
+use Rattle.plan.specs.Blocks.{planOf, tasksOf, tasksIn, planBlock}
+use Rattle.plan.specs.Questions.{firstNo, judging, reading, roomQuestion}
+
+-- 01: "Reading and judging return the plan, its nominal level and hyperperiod"; at a refusal its number "is all that is returned"
+abbrev pub answered : ℕ → List ℕ → List Task → Verdict
+answered zero speeds ts = verdict.Admitted (nominal speeds ts) (hyperperiod ts)
+answered (suc n) speeds ts = verdict.Refused (suc n)
+
+-- the plan "that stands beside a refusal is zero throughout"
+abbrev pub beside : ℕ → List Task → Plan
+beside zero ts = planOf ts
+beside (suc n) ts = planOf []
+
+abbrev pub judgedBy : ℕ → List ℕ → List Task → Judged
+judgedBy n speeds ts = record { verdict = answered n speeds ts; plan = beside n ts }
+
+-- a list of tasks judged
+abbrev pub judgedList : List ℕ → ℕ → List Task → Judged
+judgedList speeds count ts = judgedBy (firstNo (judging speeds count ts)) speeds ts
+
+-- a plan judged
+abbrev pub judgedPlan : List ℕ → Plan → Judged
+judgedPlan speeds p = judgedList speeds (p .count) (tasksOf p)
+
+-- a block read
+abbrev pub readBlock : List ℕ → List ℕ → Judged
+readBlock speeds block = judgedBy (firstNo (reading speeds block)) speeds (tasksIn block)
+
+-- the number that writing a plan into so much room is answered with: 3, 6, 7, 8, "then" 9
+abbrev pub writeNumber : List ℕ → Plan → ℕ → ℕ
+writeNumber speeds p room =
+    firstNo (judging speeds (p .count) (tasksOf p) ++ (roomQuestion (length (planBlock (tasksOf p))) room ∷ []))
+
+-- 01: "writing and showing [return] the count of bytes written"
+abbrev pub writtenBy : ℕ → List ℕ → Written
+writtenBy zero bytes = written.Bytes (length bytes)
+writtenBy (suc n) bytes = written.Refused (suc n)
+
+-- 01: "Bytes past those written stay untouched"; at a refusal "every lent buffer and state stays as found"
+abbrev pub storedBy : ℕ → List ℕ → List ℕ → List ℕ
+storedBy zero bytes buffer = bytes ++ drop (length bytes) buffer
+storedBy (suc n) bytes buffer = buffer
+
+abbrev pub writePlan : List ℕ → Plan → ℕ → Written
+writePlan speeds p room = writtenBy (writeNumber speeds p room) (planBlock (tasksOf p))
+
+abbrev pub writeBuffer : List ℕ → Plan → List ℕ → List ℕ
+writeBuffer speeds p buffer = storedBy (writeNumber speeds p (length buffer)) (planBlock (tasksOf p)) buffer
+
+-- 01's number of each case of an answer, 0 where it is no refusal
+abbrev pub refusalOf : Verdict → ℕ
+refusalOf (verdict.Admitted level span) = 0
+refusalOf (verdict.Refused n) = n
+
+abbrev pub refusalOfWritten : Written → ℕ
+refusalOfWritten (written.Bytes n) = 0
+refusalOfWritten (written.Refused n) = n

@@ -1,0 +1,32 @@
+-- The calls on plans as C sees them: a plan handed over as plain numbers, an answer as one number.
+-- Assumes nothing.
+use Prim.Native.Nat.{ℕ, zero, suc, _+_, _*_}
+use mathlib.Core.List.{List, [], _∷_, _++_}
+use lib.ListN.{getD}
+use Rattle.plan.specs.declared.Task.{Task}
+use Rattle.plan.specs.declared.Plan.{Plan}
+use Rattle.plan.specs.declared.Verdict.{Verdict}
+use Rattle.plan.specs.declared.Verdict.the-variants as verdict
+use Rattle.plan.specs.declared.Written.{Written}
+use Rattle.plan.specs.declared.Written.the-variants as written
+
+-- task i of a list of numbers: a period, then a worst case, for each task; past the list's end they are 0
+abbrev pub taskAt : List ℕ → ℕ → Task
+taskAt numbers i = record { period = getD numbers (2 * i) 0; worst = getD numbers (2 * i + 1) 0 }
+
+abbrev pub tasksUpTo : ℕ → List ℕ → List Task
+tasksUpTo zero numbers = []
+tasksUpTo (suc n) numbers = tasksUpTo n numbers ++ (taskAt numbers n ∷ [])
+
+abbrev pub planFrom : ℕ → List ℕ → Plan
+planFrom count numbers = record { count = count; tasks = tasksUpTo 16 numbers }
+
+-- a refusal is its number; else the level times 256 and the hyperperiod times 65,536
+abbrev pub verdictNumber : Verdict → ℕ
+verdictNumber (verdict.Admitted level span) = 256 * level + 65536 * span
+verdictNumber (verdict.Refused n) = n
+
+-- a refusal is its number; else the count of bytes times 256
+abbrev pub writtenNumber : Written → ℕ
+writtenNumber (written.Bytes n) = 256 * n
+writtenNumber (written.Refused n) = n

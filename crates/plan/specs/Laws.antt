@@ -1,0 +1,49 @@
+-- What is promised of plans as a whole, each as a type that a proof has.
+-- Assumes nothing.
+use Prim.Native.Nat.{ℕ, zero, suc, _<_, _≤_, _∣_}
+use mathlib.Core.Path.{_≡_}
+use mathlib.Core.Bool.{true}
+use mathlib.Core.Logic.{_↔_}
+use mathlib.Core.List.{List, [], _∷_}
+use lib.ListN.{length, getD}
+use Rattle.plan.specs.declared.Task.{Task}
+use Rattle.plan.specs.declared.Plan.{Plan}
+use Rattle.plan.specs.Levels.{Rising, speedOf, hyperperiod, admits, nominal}
+use Rattle.plan.specs.Blocks.{noTask, tasksOf, planBlock}
+use Rattle.plan.specs.Questions.{firstNo, judging, reading}
+use Rattle.plan.specs.Answers.{judgedPlan, readBlock}
+
+-- a list of bytes
+abbrev pub Bytes : List ℕ → Type 0
+Bytes s = (k : ℕ) → k < length s → getD s k 0 < 256
+
+-- demand 2: "a written plan reads back as the same plan"
+abbrev pub WrittenReadsBack : List ℕ → Type 0
+WrittenReadsBack speeds =
+    (p : Plan) →
+    length (p .tasks) ≡ 16 →
+    firstNo (judging speeds (p .count) (tasksOf p)) ≡ 0 →
+    readBlock speeds (planBlock (tasksOf p)) ≡ judgedPlan speeds p
+
+-- demand 2: "and an accepted block written again has the same bytes"
+abbrev pub AcceptedWritesBack : List ℕ → Type 0
+AcceptedWritesBack speeds =
+    (block : List ℕ) →
+    Bytes block →
+    firstNo (reading speeds block) ≡ 0 →
+    planBlock (tasksOf (readBlock speeds block .plan)) ≡ block
+
+-- a level admits exactly from the nominal one up
+abbrev pub AdmitsFromNominal : List ℕ → Type 0
+AdmitsFromNominal speeds =
+    (ts : List Task) (level : ℕ) →
+    level < length speeds →
+    (admits ts (speedOf speeds level) ≡ true) ↔ (nominal speeds ts ≤ level)
+
+-- the hyperperiod is a multiple of every period, and every common multiple is a multiple of it
+abbrev pub HyperperiodIsLeast : Type 0
+HyperperiodIsLeast =
+    (ts : List Task) →
+    ((i : ℕ) → i < length ts → 0 < getD ts i noTask .period) →
+    ((i : ℕ) → i < length ts → getD ts i noTask .period ∣ hyperperiod ts)
+    × ((m : ℕ) → ((i : ℕ) → i < length ts → getD ts i noTask .period ∣ m) → hyperperiod ts ∣ m)

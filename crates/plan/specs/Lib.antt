@@ -1,0 +1,6 @@
+pub mod Levels
+pub mod Blocks
+pub mod Questions
+pub mod Answers
+pub mod Laws
+pub mod Entries

@@ -1,0 +1,62 @@
+-- 01, "Questions put to every call": those put to a plan, in their order, with their numbers.
+-- Assumes nothing.
+use Prim.Native.Nat.{ℕ}
+use mathlib.Core.Bool.{Bool}
+use mathlib.Core.List.{List, [], _∷_, _++_}
+use lib.Dec.{leb, ltb, eqb}
+use lib.ListN.{length}
+use Rattle.arith.specs.Choice.{pick, both, every}
+use Rattle.plan.specs.declared.Task.{Task}
+use Rattle.plan.specs.Levels.{hyperperiod, nominal}
+use Rattle.plan.specs.Blocks.{editionIn, countIn, tasksIn, blockLength, closingBits}
+
+-- a question's reply, and the number that is the answer when the reply is no
+pub record Question : Type 0 where
+  pub number : ℕ
+  pub reply : Bool
+
+abbrev pub ask : ℕ → Bool → Question
+ask n b = record { number = n; reply = b }
+
+-- 01: "The number is the answer when the reply is no; the first no decides." 0 where there is no no.
+abbrev pub firstNo : List Question → ℕ
+firstNo [] = 0
+firstNo (q ∷ qs) = pick (q .reply) (firstNo qs) (q .number)
+
+-- a value from low to high
+abbrev pub within : ℕ → ℕ → ℕ → Bool
+within low high x = both (leb low x) (leb x high)
+
+-- 01: "A task has a period (1 to 65,535 ticks) and a worst case (1 to 1,048,575 units of work)."
+abbrev pub inRange : Task → Bool
+inRange t = both (within 1 65535 (t .period)) (within 1 1048575 (t .worst))
+
+-- "Is the count 1 to 16? 3"
+abbrev pub countQuestion : ℕ → Question
+countQuestion count = ask 3 (within 1 16 count)
+
+-- "Is each period and worst case in its range? 6  Is the hyperperiod at most 1,000,000? 7  Does some level admit the plan? 8"
+abbrev pub taskQuestions : List ℕ → List Task → List Question
+taskQuestions speeds ts =
+    ask 6 (every inRange ts)
+    ∷ ask 7 (leb (hyperperiod ts) 1000000)
+    ∷ ask 8 (ltb (nominal speeds ts) (length speeds))
+    ∷ []
+
+-- 01: "Writing a plan, and judging a list, put 3, 6, 7, 8."
+abbrev pub judging : List ℕ → ℕ → List Task → List Question
+judging speeds count ts = countQuestion count ∷ taskQuestions speeds ts
+
+-- 01: "Reading a plan"
+abbrev pub reading : List ℕ → List ℕ → List Question
+reading speeds block =
+    ask 1 (leb 2 (length block))
+    ∷ ask 2 (eqb (editionIn block) 1)
+    ∷ countQuestion (countIn block)
+    ∷ ask 4 (eqb (length block) (blockLength (countIn block)))
+    ∷ ask 5 (every (eqb 0) (closingBits block))
+    ∷ taskQuestions speeds (tasksIn block)
+
+-- 01: "is the lent buffer long enough? 9"
+abbrev pub roomQuestion : ℕ → ℕ → Question
+roomQuestion wanted room = ask 9 (leb wanted room)

@@ -1,0 +1,34 @@
+// Plans: their levels, how they are judged, and the plan block.
+pub mod block;
+pub mod entries;
+pub mod judging;
+
+// A task: its period in ticks and its worst case in units of work.
+#[repr(C)]
+pub struct Task {
+    pub period: u32,
+    pub worst: u32,
+}
+
+// A plan is its first `count` tasks.
+pub struct Plan {
+    pub count: usize,
+    pub tasks: [Task; 16],
+}
+
+// What judging and reading answer: the nominal level and the hyperperiod, or a refusal's number.
+pub enum Verdict {
+    Admitted { nominal: usize, hyperperiod: u32 },
+    Refused(u32),
+}
+
+pub struct Judged {
+    pub verdict: Verdict,
+    pub plan: Plan,
+}
+
+// What writing answers: the count of bytes written, or a refusal's number.
+pub enum Written {
+    Bytes(usize),
+    Refused(u32),
+}

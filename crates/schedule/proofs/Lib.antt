@@ -1,0 +1,16 @@
+pub mod Tests
+pub mod Urgency
+pub mod Members
+pub mod Queue
+pub mod Arrivals
+pub mod Invariant
+pub mod Sums
+pub mod Periods
+pub mod Demand
+pub mod Feasible
+pub mod Drain
+pub mod Standing
+pub mod Latest
+pub mod Ahead
+pub mod Span
+pub mod Sample

@@ -1,0 +1,23 @@
+//! Links the archives of the proved library, which `rt staticlib` writes.
+
+use std::env;
+use std::path::PathBuf;
+
+/// The crates whose C entries are called.
+const CRATES: [&str; 1] = ["plan"];
+
+fn main() {
+    let manifest = env::var("CARGO_MANIFEST_DIR").expect("cargo names the package's folder");
+    let folder = PathBuf::from(manifest).join("../../target/staticlib");
+    println!("cargo:rustc-link-search=native={}", folder.display());
+    for name in CRATES {
+        let archive = folder.join(format!("lib{name}.a"));
+        println!("cargo:rerun-if-changed={}", archive.display());
+        assert!(
+            archive.is_file(),
+            "{} is missing: `make host` makes it",
+            archive.display()
+        );
+        println!("cargo:rustc-link-lib=static={name}");
+    }
+}

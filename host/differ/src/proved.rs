@@ -1,0 +1,113 @@
+//! The calls that the proved library has for C, with slices in and results out.
+//!
+//! In C a slice is a pointer, then a length in elements.
+
+extern "C" {
+    fn kilmstra_plan_judge(count: usize, numbers: *const u32, numbers_len: usize) -> u64;
+
+    fn kilmstra_plan_read(block: *const u8, block_len: usize) -> u64;
+
+    fn kilmstra_plan_write(
+        count: usize,
+        numbers: *const u32,
+        numbers_len: usize,
+        buffer: *mut u8,
+        buffer_len: usize,
+    ) -> u64;
+
+    fn kilmstra_plan_copy(
+        block: *const u8,
+        block_len: usize,
+        buffer: *mut u8,
+        buffer_len: usize,
+    ) -> u64;
+}
+
+/// What judging and reading say of an accepted plan.
+#[derive(Clone, Copy, PartialEq, Eq, Debug)]
+pub struct Judged {
+    pub level: u64,
+    pub hyperperiod: u64,
+}
+
+/// Judges the plan of so many tasks. Its numbers are a period and a worst case for each task; the
+/// ones that are not there are 0.
+pub fn judge(count: usize, numbers: &[u32]) -> Result<Judged, u32> {
+    // SAFETY: pointer and length are those of a slice, which the call only reads.
+    let answer = unsafe { kilmstra_plan_judge(count, numbers.as_ptr(), numbers.len()) };
+    judged(answer)
+}
+
+/// Reads a plan block.
+pub fn read(block: &[u8]) -> Result<Judged, u32> {
+    // SAFETY: pointer and length are those of a slice, which the call only reads.
+    let answer = unsafe { kilmstra_plan_read(block.as_ptr(), block.len()) };
+    judged(answer)
+}
+
+/// Writes the block of a plan, given as for judging, and says how many bytes it has.
+pub fn write(count: usize, numbers: &[u32], buffer: &mut [u8]) -> Result<u64, u32> {
+    // SAFETY: pointers and lengths are those of two slices that don't overlap; the call reads the
+    // first and writes within the second.
+    let answer = unsafe {
+        kilmstra_plan_write(
+            count,
+            numbers.as_ptr(),
+            numbers.len(),
+            buffer.as_mut_ptr(),
+            buffer.len(),
+        )
+    };
+    unpacked(answer)
+}
+
+/// Reads a plan block, writes its plan again, and says how many bytes were written.
+pub fn copy(block: &[u8], buffer: &mut [u8]) -> Result<u64, u32> {
+    // SAFETY: pointers and lengths are those of two slices that don't overlap; the call reads the
+    // first and writes within the second.
+    let answer = unsafe {
+        kilmstra_plan_copy(
+            block.as_ptr(),
+            block.len(),
+            buffer.as_mut_ptr(),
+            buffer.len(),
+        )
+    };
+    unpacked(answer)
+}
+
+/// A level in the second byte, and a hyperperiod in all above it.
+fn judged(answer: u64) -> Result<Judged, u32> {
+    unpacked(answer).map(|rest| Judged {
+        level: rest % 256,
+        hyperperiod: rest / 256,
+    })
+}
+
+/// A refusal has its number in the lowest byte and nothing else; any other answer has 0 there.
+fn unpacked(answer: u64) -> Result<u64, u32> {
+    match answer % 256 {
+        0 => Ok(answer / 256),
+        _ => Err(u32::try_from(answer).expect("a refusal is its number alone")),
+    }
+}
+
+#[cfg(test)]
+mod tests {
+    use super::*;
+
+    /// Would catch a decoder that drops a part of an answer, so that a wrong one looks right.
+    #[test]
+    fn every_bit_of_an_answer_counts() {
+        assert_eq!(unpacked(9), Err(9));
+        assert_eq!(unpacked(256 + 9), Err(265));
+        assert_eq!(unpacked(256 * 74), Ok(74));
+        assert_eq!(unpacked(1 << 63), Ok(1 << 55));
+        assert_eq!(judged(3), Err(3));
+        let last = Judged {
+            level: 7,
+            hyperperiod: 1_000_000,
+        };
+        assert_eq!(judged(256 * 7 + 65_536 * 1_000_000), Ok(last));
+    }
+}

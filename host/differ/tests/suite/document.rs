@@ -1,0 +1,169 @@
+//! Cases whose answers stand in 01, or follow from it by hand.
+
+use crate::both::Both;
+use crate::made::{bench_plan, fits_block, numbers_of, tasks};
+use differ::proved::Judged;
+use sim::plan::{Task, SPEEDS};
+use sim::random::blocks::block_of;
+
+/// 01, "Blocks": period 40 and worst case 300.
+const EXAMPLE: [u8; 6] = [0x10, 0x80, 0x14, 0x00, 0x09, 0x60];
+
+fn accepted(level: u64, hyperperiod: u64) -> Result<Judged, u32> {
+    Ok(Judged { level, hyperperiod })
+}
+
+/// Wants this answer of judging and writing and, where a block can hold the tasks, of reading and
+/// copying.
+#[track_caller]
+fn wants(tasks: &[Task], answer: Result<Judged, u32>) {
+    let mut both = Both::new();
+    let numbers = numbers_of(tasks);
+    assert_eq!(both.judge(tasks.len(), &numbers), answer, "{tasks:?}");
+    let written = both.write(tasks.len(), &numbers, 80);
+    assert_eq!(written.err(), answer.err(), "{tasks:?}");
+    if fits_block(tasks) {
+        let block = block_of(tasks);
+        assert_eq!(both.read(&block), answer, "{tasks:?}");
+        assert_eq!(both.copy(&block, 80).err(), answer.err(), "{tasks:?}");
+    }
+}
+
+/// Would catch bits packed from the wrong end, fields swapped or of another width, and a count in
+/// the wrong place.
+#[test]
+fn the_example_block_both_ways() {
+    let mut both = Both::new();
+    assert_eq!(both.write(1, &[40, 300], 8).as_deref(), Ok(&EXAMPLE[..]));
+    assert_eq!(both.copy(&EXAMPLE, 8).as_deref(), Ok(&EXAMPLE[..]));
+    // 300 units at 10 a tick are 30 of 40 ticks.
+    assert_eq!(both.read(&EXAMPLE), accepted(0, 40));
+    assert_eq!(both.judge(1, &[40, 300]), accepted(0, 40));
+}
+
+/// Would catch closing bits forgotten or a whole byte of them, for odd and for even counts.
+#[test]
+fn blocks_have_6_to_74_bytes() {
+    let sizes = [
+        6, 11, 15, 20, 24, 29, 33, 38, 42, 47, 51, 56, 60, 65, 69, 74,
+    ];
+    let mut both = Both::new();
+    for (before, size) in sizes.into_iter().enumerate() {
+        let list = vec![(1_000, 37); before + 1];
+        let numbers = numbers_of(&tasks(&list));
+        let block = both.write(list.len(), &numbers, 100).unwrap();
+        assert_eq!(block.len(), size);
+        assert_eq!(both.write(list.len(), &numbers, size).as_ref(), Ok(&block));
+        assert_eq!(both.write(list.len(), &numbers, size - 1), Err(9));
+        assert_eq!(both.copy(&block, size).as_ref(), Ok(&block));
+        assert_eq!(both.copy(&block, size - 1), Err(9));
+    }
+}
+
+/// Past the largest by one or by far, and numbers that would be 10 with one high bit left out.
+fn past(bits: u32) -> Vec<u64> {
+    let mut numbers = vec![1 << bits, (1 << bits) + 1, u64::from(u32::MAX)];
+    numbers.extend((bits..32).map(|bit| (1 << bit) + 10));
+    numbers
+}
+
+/// Would catch a range that is off by one at either end, a field cut to fewer bits before it is
+/// asked about, and a place that is not asked about.
+#[test]
+fn each_field_at_the_ends_of_its_range() {
+    for count in 1..=16 {
+        for place in 0..count {
+            let with = |period, worst| {
+                let mut list = tasks(&vec![(65_535, 1); count]);
+                list[place] = Task { period, worst };
+                list
+            };
+            // One tick of 65,535 for each task.
+            wants(&with(65_535, 1), accepted(0, 65_535));
+            // All of the ticks for one task, and one for each of the others.
+            let full = if count == 1 { accepted(0, 1) } else { Err(8) };
+            wants(&with(1, 1), full);
+            // 52,429 ticks at 20 a tick, and 104,858 at 10.
+            wants(&with(65_535, 1_048_575), accepted(1, 65_535));
+            wants(&with(0, 1), Err(6));
+            wants(&with(65_535, 0), Err(6));
+            for period in past(16) {
+                wants(&with(period, 1), Err(6));
+            }
+            for worst in past(20) {
+                wants(&with(65_535, worst), Err(6));
+            }
+        }
+    }
+    // 1,048,575 units at 100 a tick are 10,486 ticks.
+    wants(&tasks(&[(10_486, 1_048_575)]), accepted(7, 10_486));
+    wants(&tasks(&[(10_485, 1_048_575)]), Err(8));
+}
+
+/// Would catch a limit that is off by one, a multiple that is not the least, and a product that
+/// wraps at 32 or 64 bits.
+#[test]
+fn hyperperiods_around_a_million() {
+    wants(&tasks(&[(15_625, 1), (64, 1)]), accepted(0, 1_000_000));
+    wants(&tasks(&[(64, 1), (15_625, 1)]), accepted(0, 1_000_000));
+    // The product of these two is far above, the least common multiple is not.
+    wants(&tasks(&[(62_500, 1), (40_000, 1)]), accepted(0, 1_000_000));
+    wants(&tasks(&[(999, 1), (1_000, 1)]), accepted(0, 999_000));
+    wants(&tasks(&[(37, 1), (27_027, 1)]), accepted(0, 999_999));
+    // 101 times 9,901 is 1,000,001.
+    wants(&tasks(&[(101, 1), (9_901, 1)]), Err(7));
+    wants(&tasks(&[(1_000, 1), (1_001, 1)]), Err(7));
+    // 580 and 113 have 65,540, and times 65,533 that is 65,524 more than 2 to the 32.
+    for order in [[580, 113, 65_533], [65_533, 113, 580], [113, 65_533, 580]] {
+        wants(&tasks(&order.map(|period| (period, 1))), Err(7));
+    }
+    let primes = [
+        65_521, 65_519, 65_497, 65_479, 65_449, 65_447, 65_437, 65_423, 65_419, 65_413, 65_407,
+        65_393, 65_381, 65_371, 65_357, 65_353,
+    ];
+    wants(&tasks(&primes.map(|period| (period, 1))), Err(7));
+}
+
+/// Would catch a wrong speed, a time needed that is rounded down, and a level that is not the
+/// lowest.
+#[test]
+fn one_tick_holds_a_levels_speed_and_no_more() {
+    for (level, speed) in SPEEDS.into_iter().enumerate() {
+        let next = level as u64 + 1;
+        wants(&tasks(&[(1, speed)]), accepted(level as u64, 1));
+        let over = if next < 8 { accepted(next, 1) } else { Err(8) };
+        wants(&tasks(&[(1, speed + 1)]), over);
+    }
+}
+
+/// Would catch a sum that must stay below the hyperperiod, or may go over it.
+#[test]
+fn the_bench_plan_fills_30_of_30() {
+    wants(&bench_plan(), accepted(7, 30));
+    wants(&tasks(&[(10, 400), (10, 400), (30, 601)]), Err(8));
+    wants(&tasks(&[(10, 400), (10, 401), (30, 600)]), Err(8));
+    wants(&tasks(&[(10, 400), (10, 400), (29, 600)]), Err(8));
+}
+
+/// Would catch numbers read past the end of their list, a list that must have the count's length,
+/// and tasks past the count that are asked about.
+#[test]
+fn numbers_that_are_not_there_are_zero() {
+    let mut both = Both::new();
+    assert_eq!(both.judge(1, &[]), Err(6));
+    assert_eq!(both.judge(1, &[40]), Err(6));
+    assert_eq!(both.judge(2, &[40, 300]), Err(6));
+    assert_eq!(both.judge(2, &[40, 300, 40]), Err(6));
+    assert_eq!(both.write(2, &[40, 300, 40], 80), Err(6));
+    assert_eq!(both.judge(1, &[40, 300, 0, u32::MAX]), accepted(0, 40));
+    let written = both.write(1, &[40, 300, 0, u32::MAX, 7], 80);
+    assert_eq!(written.as_deref(), Ok(&EXAMPLE[..]));
+    // Sixteen tasks of 50 ticks each in 1,000, and more numbers than a plan has places for.
+    let mut many = [1_000; 40];
+    assert_eq!(both.judge(16, &many), accepted(1, 1_000));
+    assert_eq!(both.judge(16, &many[..32]), accepted(1, 1_000));
+    assert_eq!(both.judge(16, &many[..31]), Err(6));
+    many[32..].fill(0);
+    assert_eq!(both.judge(16, &many), accepted(1, 1_000));
+    assert_eq!(both.judge(17, &many), Err(3));
+}

@@ -1,0 +1,113 @@
+//! Plans, blocks and lengths made for the tests, beside the simulator's own.
+
+use crate::both::{Both, PLACES};
+use differ::proved::Judged;
+use sim::plan::{block_bytes, judge_list, Task, LARGEST_PERIOD, LARGEST_WORST, SPEEDS};
+use sim::random::blocks::block_of;
+use sim::random::plans::plan_at_level;
+use sim::random::Random;
+
+/// Tasks from pairs of period and worst case.
+pub fn tasks(pairs: &[(u64, u64)]) -> Vec<Task> {
+    let task = |(period, worst): &(u64, u64)| Task {
+        period: *period,
+        worst: *worst,
+    };
+    pairs.iter().map(task).collect()
+}
+
+/// 01's bench plan.
+pub fn bench_plan() -> Vec<Task> {
+    tasks(&[(10, 400), (10, 400), (30, 600)])
+}
+
+/// The tasks as a host hands them over. What 32 bits don't hold becomes the largest that they do,
+/// which is as far out of range.
+pub fn numbers_of(tasks: &[Task]) -> Vec<u32> {
+    let narrow = |number: u64| u32::try_from(number).unwrap_or(u32::MAX);
+    let pair = |task: &Task| [narrow(task.period), narrow(task.worst)];
+    tasks.iter().flat_map(pair).collect()
+}
+
+/// Whether a block can hold these tasks, in range or not.
+pub fn fits_block(tasks: &[Task]) -> bool {
+    let fits = |task: &Task| task.period <= LARGEST_PERIOD && task.worst <= LARGEST_WORST;
+    tasks.len() < 32 && tasks.iter().all(fits)
+}
+
+/// Any level, any bases, and exactly so many tasks: accepted.
+pub fn plan_of_count(random: &mut Random, count: usize) -> Vec<Task> {
+    loop {
+        let level = random.place(SPEEDS.len());
+        let mut tasks = plan_at_level(random, level);
+        if tasks.len() >= count {
+            // With fewer tasks the hyperperiod and the sum are no greater.
+            tasks.truncate(count);
+            assert!(judge_list(&tasks).is_ok());
+            return tasks;
+        }
+    }
+}
+
+/// The same tasks but for one step: a field one more or one less, two places swapped, a task left
+/// out, or one of them twice.
+pub fn nearby(random: &mut Random, tasks: &[Task]) -> Vec<Task> {
+    let mut near = tasks.to_vec();
+    let place = random.place(near.len());
+    match random.below(8) {
+        0 | 1 => near[place].worst += 1,
+        2 => near[place].worst -= 1,
+        3 => near[place].period += 1,
+        4 => near[place].period -= 1,
+        5 => near.swap(place, 0),
+        6 => drop(near.remove(place)),
+        _ => near.push(near[place]),
+    }
+    near
+}
+
+/// Any few tasks in range, with short periods that are often far from a common multiple.
+pub fn loose_plan(random: &mut Random) -> Vec<Task> {
+    let longest = random.pick(&[4, 12, 40, 200, 3_000, LARGEST_PERIOD]);
+    let heaviest = random.pick(&[1, 20, 100, 2_000, LARGEST_WORST]);
+    let count = random.between(1, 6);
+    let task = |_| Task {
+        period: random.between(1, longest),
+        worst: random.between(1, heaviest),
+    };
+    (0..count).map(task).collect()
+}
+
+/// A buffer's length: exact, one byte off, empty, or anything.
+pub fn some_room(random: &mut Random, needed: usize) -> usize {
+    match random.below(8) {
+        0 | 1 => needed,
+        2 => needed - 1,
+        3 => needed + 1,
+        4 => 0,
+        5 => random.place(needed),
+        _ => needed + random.place(40),
+    }
+}
+
+/// Puts a list of tasks to every call: it is judged and written, and its block read and copied.
+/// Reading must say what judging says.
+#[track_caller]
+pub fn put_tasks(both: &mut Both, random: &mut Random, tasks: &[Task]) -> Result<Judged, u32> {
+    let numbers = numbers_of(tasks);
+    let judged = both.judge(tasks.len(), &numbers);
+    let needed = block_bytes(tasks.len().min(PLACES) as u64);
+    let _ = both.write(tasks.len(), &numbers, some_room(random, needed));
+    if fits_block(tasks) {
+        assert_eq!(put_block(both, random, &block_of(tasks)), judged);
+    }
+    judged
+}
+
+/// Puts a block to reading and copying.
+#[track_caller]
+pub fn put_block(both: &mut Both, random: &mut Random, block: &[u8]) -> Result<Judged, u32> {
+    let room = some_room(random, block.len().max(1));
+    let _ = both.copy(block, room);
+    both.read(block)
+}

@@ -1,0 +1,157 @@
+//! Random plans, judged, written, read and copied on both sides.
+
+use crate::both::{Both, Call, ACCEPTED};
+use crate::made::{loose_plan, nearby, numbers_of, put_tasks, some_room};
+use sim::plan::{block_bytes, SPEEDS};
+use sim::random::plans::{
+    edge_count_and_entries, full_plan, plan_above_largest_hyperperiod, plan_at_largest_hyperperiod,
+    plan_at_level, plan_one_over, plan_one_unit_over,
+};
+use sim::random::Random;
+
+/// Would catch a level or a hyperperiod that is wrong for some plan, a task or a field that is
+/// packed wrongly at some place, and a plan refused for no reason. Their neighbours would catch an
+/// edge that is off by one.
+#[test]
+fn accepted_plans_at_every_level_and_their_neighbours() {
+    let mut both = Both::new();
+    let mut random = Random::new(101);
+    for level in 0..SPEEDS.len() {
+        for _ in 0..1_000 {
+            let tasks = plan_at_level(&mut random, level);
+            let judged = put_tasks(&mut both, &mut random, &tasks);
+            assert_eq!(judged.map(|judged| judged.level), Ok(level as u64));
+            for _ in 0..4 {
+                let near = nearby(&mut random, &tasks);
+                let _ = put_tasks(&mut both, &mut random, &near);
+            }
+        }
+    }
+    both.saw("accepted plans and neighbours", 79_000);
+    for call in [Call::Judge, Call::Read] {
+        both.wants(call, ACCEPTED, 20_000);
+        both.wants(call, 3, 500);
+        both.wants(call, 6, 300);
+        both.wants(call, 7, 1_000);
+        both.wants(call, 8, 500);
+    }
+    both.wants(Call::Write, 9, 5_000);
+    both.wants(Call::Copy, 9, 5_000);
+}
+
+/// Would catch a limit on the hyperperiod that is off by a little, a multiple that is not the
+/// least, and a limit that depends on the order of the tasks.
+#[test]
+fn plans_around_the_largest_hyperperiod() {
+    let mut both = Both::new();
+    let mut random = Random::new(102);
+    for _ in 0..1_500 {
+        let at = plan_at_largest_hyperperiod(&mut random);
+        let judged = put_tasks(&mut both, &mut random, &at);
+        assert_eq!(judged.map(|judged| judged.hyperperiod), Ok(1_000_000));
+        let above = plan_above_largest_hyperperiod(&mut random);
+        assert_eq!(put_tasks(&mut both, &mut random, &above), Err(7));
+    }
+    both.saw("largest hyperperiod", 6_000);
+    both.wants(Call::Judge, ACCEPTED, 1_500);
+    both.wants(Call::Judge, 7, 1_500);
+}
+
+/// Would catch an admission sum that is off by one or is cut, a time needed that is rounded down,
+/// and a speed that is wrong at one level.
+#[test]
+fn plans_around_the_full_sum() {
+    let mut both = Both::new();
+    let mut random = Random::new(103);
+    for level in 0..SPEEDS.len() {
+        for _ in 0..400 {
+            let full = full_plan(&mut random, level);
+            let judged = put_tasks(&mut both, &mut random, &full);
+            assert!(judged.is_ok_and(|judged| judged.level <= level as u64));
+            let over = plan_one_over(&mut random, level);
+            let judged = put_tasks(&mut both, &mut random, &over);
+            assert_ne!(judged.map(|judged| judged.level), Ok(level as u64));
+            let unit = plan_one_unit_over(&mut random, level);
+            let judged = put_tasks(&mut both, &mut random, &unit);
+            if level == 7 {
+                assert_eq!(judged, Err(8));
+            } else {
+                assert_eq!(judged.map(|judged| judged.level), Ok(level as u64 + 1));
+            }
+        }
+    }
+    both.saw("full sum", 19_000);
+    both.wants(Call::Judge, ACCEPTED, 5_000);
+    both.wants(Call::Judge, 8, 800);
+}
+
+/// Would catch a range off by one, a field or a count cut to fewer bits, and entries past the count
+/// that are looked at.
+#[test]
+fn fields_and_counts_at_their_edges() {
+    let mut both = Both::new();
+    let mut random = Random::new(104);
+    for _ in 0..15_000 {
+        let (count, entries) = edge_count_and_entries(&mut random);
+        let count = count as usize;
+        let mut numbers = numbers_of(&entries);
+        let _ = both.judge(count, &numbers);
+        let needed = block_bytes(count.min(16) as u64);
+        let _ = both.write(count, &numbers, some_room(&mut random, needed));
+        // The same with some numbers missing.
+        numbers.truncate(random.place(numbers.len()));
+        let _ = both.judge(count, &numbers);
+        let _ = both.write(count, &numbers, some_room(&mut random, needed));
+    }
+    both.saw("edges of fields and counts", 30_000);
+    for call in [Call::Judge, Call::Write] {
+        both.wants(call, ACCEPTED, 3_000);
+        both.wants(call, 3, 500);
+        both.wants(call, 6, 3_000);
+        both.wants(call, 8, 50);
+    }
+}
+
+/// Would catch a list that is read past its end, where more good numbers stand, one that is not
+/// read up to it, and a count that some list lets through.
+#[test]
+fn every_count_with_a_list_of_every_length() {
+    let mut both = Both::new();
+    let mut random = Random::new(105);
+    for count in 0..=31 {
+        for length in 0..=40 {
+            for worst in [1, 1_000] {
+                let mut good = [[16_000, worst]; 32].concat();
+                let enough = (1..=16).contains(&count) && length >= 2 * count;
+                assert_eq!(both.judge(count, &good[..length]).is_ok(), enough);
+                let written = both.write(count, &good[..length], 90);
+                assert_eq!(written.is_ok(), enough);
+                // A zero matters exactly if a task of the plan has it.
+                let place = random.place(good.len());
+                good[place] = 0;
+                let holed = both.judge(count, &good[..length]);
+                assert_eq!(holed.is_ok(), enough && place >= 2 * count);
+            }
+        }
+    }
+    both.saw("counts and lengths of lists", 5_000);
+    both.wants(Call::Judge, ACCEPTED, 700);
+    both.wants(Call::Judge, 3, 1_000);
+    both.wants(Call::Judge, 6, 1_000);
+}
+
+/// Would catch a wrong least common multiple or sum where nothing was chosen to come out even.
+#[test]
+fn loose_plans() {
+    let mut both = Both::new();
+    let mut random = Random::new(106);
+    for _ in 0..20_000 {
+        let tasks = loose_plan(&mut random);
+        let _ = put_tasks(&mut both, &mut random, &tasks);
+    }
+    both.saw("loose plans", 40_000);
+    for number in [ACCEPTED, 7, 8] {
+        both.wants(Call::Judge, number, 2_000);
+        both.wants(Call::Read, number, 2_000);
+    }
+}

@@ -1,0 +1,138 @@
+//! Each refusal number from 1 to 9 is reached, from every call that can give it, and where several
+//! questions would say no the first decides.
+
+use crate::both::{Both, Call, ACCEPTED};
+use crate::made::{bench_plan, numbers_of, tasks};
+use sim::plan::{pack_block, Task};
+use sim::random::blocks::block_of;
+
+/// Reading and copying refuse the block so, however long the buffer.
+#[track_caller]
+fn refuses_block(both: &mut Both, block: &[u8], number: u32) {
+    assert_eq!(both.read(block), Err(number));
+    for room in [0, 1, block.len(), 74, 90] {
+        assert_eq!(both.copy(block, room), Err(number));
+    }
+}
+
+/// All four calls refuse the tasks so.
+#[track_caller]
+fn refuses_tasks(both: &mut Both, list: &[Task], number: u32) {
+    let numbers = numbers_of(list);
+    assert_eq!(both.judge(list.len(), &numbers), Err(number));
+    for room in [0, 1, 74, 90] {
+        assert_eq!(both.write(list.len(), &numbers, room), Err(number));
+    }
+    refuses_block(both, &block_of(list), number);
+}
+
+fn refusals_1_and_2(both: &mut Both) {
+    for short in [&[][..], &[0x10], &[0x1f], &[0xff], &[0x00]] {
+        refuses_block(both, short, 1);
+    }
+    for edition in (0..16).filter(|edition| *edition != 1) {
+        refuses_block(both, &pack_block(edition, 3, &bench_plan()), 2);
+        // Before a bad count, a bad length and a bad field.
+        refuses_block(both, &pack_block(edition, 0, &[]), 2);
+        refuses_block(both, &pack_block(edition, 17, &tasks(&[(0, 0)])), 2);
+    }
+}
+
+fn refusals_3_and_4(both: &mut Both) {
+    for count in [0].into_iter().chain(17..32) {
+        // Before a bad length and a bad field.
+        refuses_block(both, &pack_block(1, count, &[]), 3);
+        refuses_block(both, &pack_block(1, count, &bench_plan()), 3);
+        refuses_tasks(both, &tasks(&vec![(1_000, 1); count as usize]), 3);
+        refuses_tasks(both, &tasks(&vec![(0, 0); count as usize]), 3);
+    }
+    let block = block_of(&bench_plan());
+    for length in 2..block.len() {
+        refuses_block(both, &block[..length], 4);
+    }
+    // Before a closing bit and a bad field.
+    refuses_block(both, &[&block[..], &[0]].concat(), 4);
+    refuses_block(both, &[&block[..], &[1]].concat(), 4);
+    refuses_block(both, &pack_block(1, 3, &tasks(&[(0, 0), (0, 0)])), 4);
+}
+
+fn refusals_5_and_6(both: &mut Both) {
+    for bit in [1, 2, 4] {
+        for list in [bench_plan(), tasks(&[(0, 0)]), tasks(&[(1, 101)])] {
+            // Before a bad field, and before a plan that no level admits.
+            let mut block = block_of(&list);
+            *block.last_mut().unwrap() |= bit;
+            refuses_block(both, &block, 5);
+        }
+    }
+    refuses_tasks(both, &tasks(&[(0, 1)]), 6);
+    refuses_tasks(both, &tasks(&[(1, 0)]), 6);
+    // Before 7 and 8, though the tasks in front are enough for these.
+    refuses_tasks(both, &tasks(&[(1_000, 1), (1_001, 1), (0, 1)]), 6);
+    refuses_tasks(both, &tasks(&[(1, 101), (5, 0)]), 6);
+}
+
+fn refusals_7_to_9(both: &mut Both) {
+    refuses_tasks(both, &tasks(&[(1_000, 1), (1_001, 1)]), 7);
+    // Before 8.
+    refuses_tasks(both, &tasks(&[(1_000, 900_000), (1_001, 900_000)]), 7);
+    refuses_tasks(both, &tasks(&[(1, 101)]), 8);
+    refuses_tasks(both, &tasks(&[(1, 1), (1, 1)]), 8);
+    let numbers = numbers_of(&bench_plan());
+    let block = block_of(&bench_plan());
+    for room in 0..15 {
+        assert_eq!(both.write(3, &numbers, room), Err(9));
+        assert_eq!(both.copy(&block, room), Err(9));
+    }
+    assert_eq!(both.write(3, &numbers, 15).as_ref(), Ok(&block));
+    assert_eq!(both.copy(&block, 15).as_ref(), Ok(&block));
+    assert!(both.judge(3, &numbers).is_ok());
+    assert!(both.read(&block).is_ok());
+}
+
+/// Would catch a question left out, two in the wrong order, and a wrong number.
+#[test]
+fn every_number_from_every_call_that_gives_it() {
+    let mut both = Both::new();
+    refusals_1_and_2(&mut both);
+    refusals_3_and_4(&mut both);
+    refusals_5_and_6(&mut both);
+    refusals_7_to_9(&mut both);
+    let given = [
+        (Call::Judge, &[3, 6, 7, 8][..]),
+        (Call::Read, &[1, 2, 3, 4, 5, 6, 7, 8]),
+        (Call::Write, &[3, 6, 7, 8, 9]),
+        (Call::Copy, &[1, 2, 3, 4, 5, 6, 7, 8, 9]),
+    ];
+    for (call, numbers) in given {
+        both.wants(call, ACCEPTED, 1);
+        for number in numbers {
+            both.wants(call, *number, 2);
+        }
+    }
+    both.saw("every number", 150);
+}
+
+/// Would catch a count cut to fewer bits before it is asked about, and a plan of so many tasks read
+/// past its places.
+#[test]
+fn counts_far_out_of_range() {
+    let mut both = Both::new();
+    let numbers = numbers_of(&tasks(&[(1_000, 1); 20]));
+    for width in [5, 8, 16, 32, 63] {
+        for low in 0..=16 {
+            let count = (1usize << width) + low;
+            assert_eq!(both.judge(count, &numbers), Err(3));
+            assert_eq!(both.write(count, &numbers, 90), Err(3));
+        }
+    }
+    for count in [usize::MAX, usize::MAX - 1, usize::MAX / 2, usize::MAX / 36] {
+        assert_eq!(both.judge(count, &numbers), Err(3));
+        assert_eq!(both.write(count, &numbers, 90), Err(3));
+    }
+    assert!(both.judge(16, &numbers).is_ok());
+    assert!(both.write(16, &numbers, 90).is_ok());
+    both.saw("counts far out of range", 90);
+    both.wants(Call::Judge, 3, 89);
+    both.wants(Call::Write, 3, 89);
+}

@@ -1,0 +1,284 @@
+//! 01, "Orders and passes", and the questions that starting, passing and showing put.
+
+use crate::plan::{judge_list, read_plan, time_needed, Judged, Task, SPEEDS};
+use crate::schedule::{allotment, Urgency};
+use crate::state::{pack, unpack, Entry, Running, State, LARGEST_CLOCK, STATE_BYTES};
+
+#[derive(Clone, Copy, PartialEq, Eq, Debug)]
+pub enum Order {
+    Run { task: u8, level: u8, hold: u32 },
+    Idle { hold: u32 },
+}
+
+/// Starting: reads the block (1 to 8), then asks for 200 bytes (9). Of a longer buffer the bytes
+/// past the 200 stay as they were.
+pub fn start(block: &[u8], state: &mut [u8]) -> Result<Order, u32> {
+    let (tasks, judged) = read_plan(block)?;
+    if state.len() < STATE_BYTES {
+        return Err(9);
+    }
+    let mut fresh = State {
+        clock: 0,
+        running: None,
+        entries: Vec::new(),
+    };
+    for task in tasks {
+        fresh.entries.push(new_job(task, judged.nominal));
+    }
+    fresh.running = choose(&fresh);
+    state[..STATE_BYTES].copy_from_slice(&pack(&fresh));
+    Ok(order_now(&fresh))
+}
+
+/// Passing: asks whether the state is sound (10), then 11 to 15, and only then changes it.
+pub fn pass(state: &mut [u8], d: u32, finished: bool) -> Result<Order, u32> {
+    let (mut now, judged) = sound(state).ok_or(10u32)?;
+    let d = u64::from(d);
+    if d < 1 {
+        return Err(11);
+    }
+    if d > ticks_to_next_arrival(&now) {
+        return Err(12);
+    }
+    if finished && now.running.is_none() {
+        return Err(13);
+    }
+    if let Some(running) = now.running {
+        let needed = time_needed(now.entries[running.task].work_left, running.level);
+        if d > needed || (!finished && d == needed) {
+            return Err(14);
+        }
+    }
+    if now.clock + d > LARGEST_CLOCK {
+        return Err(15);
+    }
+
+    // "In this order": the queue, the running job, the clock, the arrivals, the order.
+    take_from_queue(&mut now, d);
+    if let Some(running) = now.running {
+        let entry = &mut now.entries[running.task];
+        if finished {
+            entry.work_left = 0;
+        } else {
+            // Below the time needed (14), so some work is left.
+            entry.work_left -= d * SPEEDS[running.level];
+        }
+    }
+    now.clock += d;
+    let arrived = let_jobs_arrive(&mut now, judged.nominal);
+    if finished || arrived {
+        now.running = choose(&now);
+    }
+    state.copy_from_slice(&pack(&now));
+    Ok(order_now(&now))
+}
+
+/// Showing the queue: asks whether the state is sound (10), then for room (9). "3 bytes an entry,
+/// task then plain ticks left, most urgent first, entries with plain ticks left only".
+pub fn show(state: &[u8], buffer: &mut [u8]) -> Result<usize, u32> {
+    let (now, _) = sound(state).ok_or(10u32)?;
+    let mut shown = Vec::new();
+    for task in by_urgency(&now) {
+        let left = now.entries[task].plain_left;
+        if left > 0 {
+            shown.push(task as u8);
+            shown.push((left / 256) as u8);
+            shown.push((left % 256) as u8);
+        }
+    }
+    if buffer.len() < shown.len() {
+        return Err(9);
+    }
+    buffer[..shown.len()].copy_from_slice(&shown);
+    Ok(shown.len())
+}
+
+/// The state and what its plan is judged to be, or nothing if 01's "Sound means ..." fails.
+pub fn sound(block: &[u8]) -> Option<(State, Judged)> {
+    // "exactly 200 bytes, laid out as above"
+    let state = unpack(block)?;
+    // "a plan that passes 3, 6, 7, 8"
+    let judged = judge_list(&tasks_of(&state)).ok()?;
+    // "a clock in range"
+    if state.clock > LARGEST_CLOCK {
+        return None;
+    }
+    if !state
+        .entries
+        .iter()
+        .all(|entry| entry_is_sound(entry, judged.nominal))
+    {
+        return None;
+    }
+    if !order_is_sound(&state, judged.nominal) {
+        return None;
+    }
+    Some((state, judged))
+}
+
+/// "for each task, work left at most the worst case, plain ticks left at most the allotment, and
+/// the time needed for the work left at the nominal level at most the plain ticks left"
+fn entry_is_sound(entry: &Entry, nominal: usize) -> bool {
+    entry.work_left <= entry.task.worst
+        && entry.plain_left <= allotment(&entry.task, nominal)
+        && time_needed(entry.work_left, nominal) <= entry.plain_left
+}
+
+/// "an idle order exactly if no job is open, else the most urgent open job at a level no higher
+/// than nominal that meets its allowance"
+fn order_is_sound(state: &State, nominal: usize) -> bool {
+    match (most_urgent_open(state), state.running) {
+        (None, None) => true,
+        (Some(urgent), Some(running)) => {
+            running.task == urgent
+                && running.level <= nominal
+                && time_needed(state.entries[urgent].work_left, running.level)
+                    <= allowance(state, urgent)
+        }
+        _ => false,
+    }
+}
+
+fn tasks_of(state: &State) -> Vec<Task> {
+    state.entries.iter().map(|entry| entry.task).collect()
+}
+
+/// An entry just after an arrival: "a new job with full worst case and allotment".
+fn new_job(task: Task, nominal: usize) -> Entry {
+    Entry {
+        task,
+        work_left: task.worst,
+        plain_left: allotment(&task, nominal),
+    }
+}
+
+/// An entry stands for the task's latest job, because each arrival replaces what stood there. So
+/// its arrival is the largest multiple of the period that is at most the clock.
+fn latest_arrival(state: &State, task: usize) -> u64 {
+    let period = state.entries[task].task.period;
+    state.clock / period * period
+}
+
+/// The next multiple of the period after the clock: the deadline of the entry's job too.
+fn next_arrival(state: &State, task: usize) -> u64 {
+    latest_arrival(state, task) + state.entries[task].task.period
+}
+
+fn ticks_to_next_arrival(state: &State) -> u64 {
+    let mut fewest = u64::MAX;
+    for task in 0..state.entries.len() {
+        fewest = fewest.min(next_arrival(state, task) - state.clock);
+    }
+    fewest
+}
+
+/// "the deadline is its next arrival"
+fn urgency_of(state: &State, task: usize) -> Urgency {
+    (next_arrival(state, task), latest_arrival(state, task), task)
+}
+
+/// All task numbers, the one with the most urgent job first, its job open or not.
+fn by_urgency(state: &State) -> Vec<usize> {
+    let mut order: Vec<usize> = (0..state.entries.len()).collect();
+    order.sort_by_key(|task| urgency_of(state, *task));
+    order
+}
+
+/// A job is open in the dispatcher while it has work left: "work left (3; 0 once finished)".
+fn most_urgent_open(state: &State) -> Option<usize> {
+    by_urgency(state)
+        .into_iter()
+        .find(|task| state.entries[*task].work_left > 0)
+}
+
+/// "the sum of the plain ticks left of all jobs at least as urgent as it, itself included,
+/// finished or not in the dispatcher"
+fn allowance(state: &State, task: usize) -> u64 {
+    let own = urgency_of(state, task);
+    let mut sum = 0;
+    for other in 0..state.entries.len() {
+        if urgency_of(state, other) <= own {
+            sum += state.entries[other].plain_left;
+        }
+    }
+    sum
+}
+
+/// "The level is the lowest at which the work left needs no more than the allowance."
+fn lowest_level(state: &State, task: usize) -> usize {
+    let allowance = allowance(state, task);
+    for level in 0..SPEEDS.len() {
+        if time_needed(state.entries[task].work_left, level) <= allowance {
+            return level;
+        }
+    }
+    // Every entry keeps the time needed at the nominal level within its own plain ticks, and
+    // those are part of the allowance.
+    unreachable!("the nominal level always meets the allowance")
+}
+
+/// The task and level of a new order: the most urgent open job, or idle if there is none.
+pub fn choose(state: &State) -> Option<Running> {
+    let task = most_urgent_open(state)?;
+    Some(Running {
+        task,
+        level: lowest_level(state, task),
+    })
+}
+
+/// The order of a state, with its hold.
+///
+/// A new order has the hold that 01 says: the smaller of the time needed and the ticks to the next
+/// arrival, and for idle the latter. An order that stays has a hold that fell by d, but the block
+/// doesn't keep the hold. It needn't: the same rule, put to the state after the pass, gives it.
+/// - The work left fell by d whole ticks' worth at the order's level, so the time needed for it at
+///   that level fell by exactly d: (work - d * speed) / speed is work / speed - d, and taking away
+///   the whole number d doesn't change the rounding.
+/// - The clock rose by d and nothing arrived, so the ticks to the next arrival fell by exactly d.
+///
+/// If both fall by d, so does the smaller of them. Pass by pass, the hold of an order that stays
+/// is therefore always what this rule gives for the state as it stands.
+fn order_now(state: &State) -> Order {
+    let arrival = ticks_to_next_arrival(state);
+    match state.running {
+        None => Order::Idle {
+            hold: arrival as u32,
+        },
+        Some(running) => {
+            let needed = time_needed(state.entries[running.task].work_left, running.level);
+            Order::Run {
+                task: running.task as u8,
+                level: running.level as u8,
+                hold: needed.min(arrival) as u32,
+            }
+        }
+    }
+}
+
+/// "d ticks are taken from the queue, most urgent entry first, entries at 0 leaving it". With the
+/// queue empty, the rest of the ticks are lost.
+fn take_from_queue(state: &mut State, d: u64) {
+    let order = by_urgency(state);
+    for _ in 0..d {
+        let first = order
+            .iter()
+            .copied()
+            .find(|task| state.entries[*task].plain_left > 0);
+        if let Some(task) = first {
+            state.entries[task].plain_left -= 1;
+        }
+    }
+}
+
+/// "tasks whose period divides the clock get a new job with full worst case and allotment,
+/// replacing what stood there". Says whether there was one.
+fn let_jobs_arrive(state: &mut State, nominal: usize) -> bool {
+    let mut arrived = false;
+    for entry in &mut state.entries {
+        if state.clock % entry.task.period == 0 {
+            *entry = new_job(entry.task, nominal);
+            arrived = true;
+        }
+    }
+    arrived
+}

@@ -1,0 +1,20 @@
+//! A reference simulator of the knee's dispatcher, written from document 01 alone.
+//!
+//! It is meant to be read beside that document: every step is done the long way, tick by tick and
+//! level by level, so that a reader can see that it says what the document says. Nothing here is
+//! meant to be fast.
+
+pub mod bits;
+pub mod books;
+pub mod dispatch;
+pub mod listing;
+pub mod plan;
+pub mod random;
+pub mod schedule;
+pub mod state;
+
+pub use books::{demand3_holds, ActualBook, PlainBook};
+pub use dispatch::{pass, show, start, Order};
+pub use listing::listing;
+pub use plan::{judge, judge_list, read_plan, time_needed, write_plan, Judged, Task};
+pub use schedule::Schedule;

@@ -1,0 +1,112 @@
+//! Random plan blocks, whole and damaged, and inputs for the bench program.
+
+use super::states::any_pass;
+use super::Random;
+use crate::dispatch::{pass, start};
+use crate::plan::{pack_block, Task};
+use crate::state::STATE_BYTES;
+
+/// The block of a plan, nothing being asked of it.
+pub fn block_of(tasks: &[Task]) -> Vec<u8> {
+    pack_block(1, tasks.len() as u64, tasks)
+}
+
+/// The block cut, made longer, with bits flipped, with closing bits set, with another edition or
+/// count, or with a field set to zero. Now and then the damage leaves it as it was.
+pub fn damaged_block(random: &mut Random, block: &[u8]) -> Vec<u8> {
+    let mut damaged = block.to_vec();
+    match random.below(8) {
+        0 => damaged.truncate(random.place(block.len() + 1)),
+        1 => {
+            for _ in 0..random.between(1, 4) {
+                let byte = if random.one_in(2) {
+                    0
+                } else {
+                    random.number() as u8
+                };
+                damaged.push(byte);
+            }
+        }
+        2 => flip_bits(random, &mut damaged, 1),
+        3 => flip_bits(random, &mut damaged, 3),
+        4 => set_closing_bit(random, &mut damaged),
+        5 => put_bits(&mut damaged, 0, 4, random.number()),
+        6 => put_bits(&mut damaged, 4, 5, random.number()),
+        _ => clear_field(random, &mut damaged),
+    }
+    damaged
+}
+
+fn flip_bits(random: &mut Random, block: &mut [u8], most: u64) {
+    if block.is_empty() {
+        return;
+    }
+    for _ in 0..random.between(1, most) {
+        let place = random.place(block.len());
+        block[place] ^= 1 << random.below(8);
+    }
+}
+
+/// Overwrites `width` bits from a bit's place on, as far as the block goes.
+fn put_bits(block: &mut [u8], from: usize, width: usize, number: u64) {
+    for step in 0..width {
+        let place = from + step;
+        if place / 8 < block.len() {
+            let mask = 0x80 >> (place % 8);
+            block[place / 8] &= !mask;
+            if (number >> (width - 1 - step)) & 1 == 1 {
+                block[place / 8] |= mask;
+            }
+        }
+    }
+}
+
+/// Sets one of the bits between the last task and the end of the block.
+fn set_closing_bit(random: &mut Random, block: &mut [u8]) {
+    let bits = 8 * block.len();
+    if bits < 9 {
+        return;
+    }
+    let closing = (bits - 9) % 36;
+    if closing > 0 {
+        let place = bits - 1 - random.place(closing);
+        put_bits(block, place, 1, 1);
+    }
+}
+
+/// Sets a period or a worst case to zero.
+fn clear_field(random: &mut Random, block: &mut [u8]) {
+    let count = (8 * block.len()).saturating_sub(9) / 36;
+    if count == 0 {
+        return;
+    }
+    let from = 9 + 36 * random.place(count);
+    if random.one_in(2) {
+        put_bits(block, from, 16, 0);
+    } else {
+        put_bits(block, from + 16, 20, 0);
+    }
+}
+
+/// An input for the bench program: the plan, then passes that follow a run of the simulator, so
+/// that many are accepted and some refused; now and then an odd byte at the end.
+pub fn bench_input(random: &mut Random, tasks: &[Task], passes: usize) -> Vec<u8> {
+    let mut input = block_of(tasks);
+    let mut state = [0; STATE_BYTES];
+    if let Ok(first) = start(&input, &mut state) {
+        let mut order = first;
+        for _ in 0..passes {
+            let (d, finished) = any_pass(random, order);
+            let d = d & 0x7fff;
+            let packed = (d as u16) | if finished { 0x8000 } else { 0 };
+            input.extend(packed.to_be_bytes());
+            if let Ok(next) = pass(&mut state, d, finished) {
+                order = next;
+            }
+        }
+    }
+    if random.one_in(8) {
+        input.push(random.number() as u8);
+    }
+    input
+}

@@ -1,0 +1,328 @@
+//! Random plans: accepted ones at a chosen level, ones on each side of an edge, and lists with
+//! fields at and past their ranges.
+
+use super::Random;
+use crate::plan::{
+    admission_sum, hyperperiod, judge_list, time_needed, Task, LARGEST_COUNT, LARGEST_HYPERPERIOD,
+    LARGEST_PERIOD, LARGEST_WORST, SPEEDS,
+};
+
+/// The periods of a random plan are divisors of one of these numbers, so that the hyperperiod
+/// stays within bounds. Most have many divisors.
+pub const BASES: [u64; 20] = [
+    1, 2, 7, 12, 30, 60, 100, 210, 360, 840, 2_520, 4_096, 9_240, 27_720, 55_440, 65_535, 131_070,
+    720_720, 999_999, 1_000_000,
+];
+
+/// The same for runs tick by tick through many hyperperiods.
+pub const SMALL_BASES: [u64; 14] = [1, 2, 3, 4, 6, 8, 12, 16, 24, 30, 36, 60, 120, 240];
+
+/// Full plans have a task with the base itself as its period, or are built as
+/// `plan_with_sum` does it for the largest hyperperiod.
+pub const FULL_BASES: [u64; 9] = [1, 2, 6, 30, 120, 840, 2_520, 5_040, 1_000_000];
+
+const TRIES: u32 = 50_000;
+
+/// An accepted plan whose nominal level is the given one, with any of the bases.
+pub fn plan_at_level(random: &mut Random, level: usize) -> Vec<Task> {
+    let base = random.pick(&BASES);
+    plan_at_level_within(random, level, base)
+}
+
+/// An accepted plan whose nominal level is the given one and whose periods divide the base.
+pub fn plan_at_level_within(random: &mut Random, level: usize, base: u64) -> Vec<Task> {
+    let usable = usable_periods(base);
+    until_found(|| {
+        let count = random.between(1, LARGEST_COUNT);
+        let periods: Vec<u64> = (0..count).map(|_| random.pick(&usable)).collect();
+        let allotments = random_allotments(random, &periods, level)?;
+        let tasks = tasks_with(random, &periods, &allotments, level);
+        let judged = judge_list(&tasks).ok()?;
+        (judged.nominal == level).then_some(tasks)
+    })
+}
+
+/// A plan with hyperperiod 1,000,000 exactly, accepted.
+pub fn plan_at_largest_hyperperiod(random: &mut Random) -> Vec<Task> {
+    until_found(|| {
+        let periods = periods_with_hyperperiod(random, LARGEST_HYPERPERIOD)?;
+        let level = random.place(SPEEDS.len());
+        let allotments = random_allotments(random, &periods, level)?;
+        let tasks = tasks_with(random, &periods, &allotments, level);
+        judge_list(&tasks).is_ok().then_some(tasks)
+    })
+}
+
+/// A plan whose hyperperiod is a little above 1,000,000. Its worst cases are anything in range, so
+/// that question 8 would often say no as well, were it asked.
+pub fn plan_above_largest_hyperperiod(random: &mut Random) -> Vec<Task> {
+    let periods = until_found(|| {
+        let above = LARGEST_HYPERPERIOD + random.between(1, 1_000);
+        periods_with_hyperperiod(random, above)
+    });
+    let mut tasks = Vec::new();
+    for period in periods {
+        let worst = if random.one_in(2) {
+            1
+        } else {
+            random.between(1, LARGEST_WORST)
+        };
+        tasks.push(Task { period, worst });
+    }
+    tasks
+}
+
+/// A plan whose admission sum at the level is the hyperperiod exactly.
+pub fn full_plan(random: &mut Random, level: usize) -> Vec<Task> {
+    plan_with_sum(random, level, 0)
+}
+
+/// A plan whose admission sum at the level is one more than the hyperperiod.
+pub fn plan_one_over(random: &mut Random, level: usize) -> Vec<Task> {
+    plan_with_sum(random, level, 1)
+}
+
+/// A full plan at the level with all its ticks fully used, and one unit of work more in the last
+/// task, which costs that task a whole tick.
+pub fn plan_one_unit_over(random: &mut Random, level: usize) -> Vec<Task> {
+    let mut tasks = full_plan(random, level);
+    for task in &mut tasks {
+        task.worst = time_needed(task.worst, level) * SPEEDS[level];
+    }
+    let last = tasks.len() - 1;
+    tasks[last].worst += 1;
+    tasks
+}
+
+/// A list of 0 to 18 tasks, many of them with fields at and past their ranges.
+pub fn edge_list(random: &mut Random) -> Vec<Task> {
+    let level = random.place(SPEEDS.len());
+    let mut tasks = plan_at_level(random, level);
+    if random.one_in(8) {
+        let length = random.between(0, 18) as usize;
+        tasks.resize(
+            length,
+            Task {
+                period: 1_000,
+                worst: 1,
+            },
+        );
+    }
+    if tasks.is_empty() {
+        return tasks;
+    }
+    for _ in 0..random.below(3) {
+        let place = random.place(tasks.len());
+        if random.one_in(2) {
+            tasks[place].period = edge_value(random, LARGEST_PERIOD);
+        } else {
+            tasks[place].worst = edge_value(random, LARGEST_WORST);
+        }
+    }
+    tasks
+}
+
+/// A count with 18 entries beside it. Entries past the count may be anything, and the count may be
+/// out of range.
+pub fn edge_count_and_entries(random: &mut Random) -> (u64, Vec<Task>) {
+    let mut tasks = edge_list(random);
+    let count = match random.below(8) {
+        0 => random.pick(&[0, 1, 16, 17, 18, 255, 256, 65_537, 1 << 32, u64::MAX]),
+        _ => tasks.len() as u64,
+    };
+    while tasks.len() < 18 {
+        let period = edge_value(random, LARGEST_PERIOD);
+        let worst = edge_value(random, LARGEST_WORST);
+        tasks.push(Task { period, worst });
+    }
+    (count, tasks)
+}
+
+/// A value at, near or far past the ends of the range from 1 to the largest.
+fn edge_value(random: &mut Random, largest: u64) -> u64 {
+    let near = [
+        0,
+        1,
+        2,
+        largest - 1,
+        largest,
+        largest + 1,
+        largest + 2,
+        2 * largest,
+    ];
+    let far = [
+        1 << 16,
+        1 << 20,
+        1 << 24,
+        1 << 32,
+        (1 << 32) + 10,
+        u64::MAX - 1,
+        u64::MAX,
+    ];
+    match random.below(3) {
+        0 => random.pick(&near),
+        1 => random.pick(&far),
+        _ => random.between(1, largest),
+    }
+}
+
+/// Tries until a try gives something. A hundred or so are mostly enough, so after very many the
+/// thing sought can't be there at all.
+fn until_found<T>(mut attempt: impl FnMut() -> Option<T>) -> T {
+    for _ in 0..TRIES {
+        if let Some(found) = attempt() {
+            return found;
+        }
+    }
+    panic!("nothing found in {TRIES} tries")
+}
+
+/// All divisors of the base that can be a period.
+fn usable_periods(base: u64) -> Vec<u64> {
+    (1..=LARGEST_PERIOD.min(base))
+        .filter(|period| base % period == 0)
+        .collect()
+}
+
+fn hyperperiod_of(periods: &[u64]) -> Option<u64> {
+    let tasks: Vec<Task> = periods
+        .iter()
+        .map(|period| Task {
+            period: *period,
+            worst: 1,
+        })
+        .collect();
+    hyperperiod(&tasks)
+}
+
+/// The longest allotment at a level that a worst case in range can have.
+fn longest_allotment(level: usize) -> u64 {
+    LARGEST_WORST / SPEEDS[level]
+}
+
+/// Ticks for each task, with a sum that the level admits; or nothing if even one tick each is too
+/// much.
+fn random_allotments(random: &mut Random, periods: &[u64], level: usize) -> Option<Vec<u64>> {
+    let hyperperiod = hyperperiod_of(periods)?;
+    let least: u64 = periods.iter().map(|period| hyperperiod / period).sum();
+    let mut room = hyperperiod.checked_sub(least)?;
+    let mut allotments = vec![1; periods.len()];
+    for _ in 0..random.below(60) {
+        let place = random.place(periods.len());
+        let weight = hyperperiod / periods[place];
+        let most = (room / weight).min(longest_allotment(level) - allotments[place]);
+        if most > 0 {
+            let more = random.between(1, most);
+            allotments[place] += more;
+            room -= more * weight;
+        }
+    }
+    Some(allotments)
+}
+
+/// Tasks that take exactly these ticks at the level.
+fn tasks_with(random: &mut Random, periods: &[u64], ticks: &[u64], level: usize) -> Vec<Task> {
+    let mut tasks = Vec::new();
+    for (period, ticks) in periods.iter().zip(ticks) {
+        // A last tick that is only partly used is a tick all the same.
+        let unused = if random.one_in(2) {
+            0
+        } else {
+            random.below(SPEEDS[level])
+        };
+        tasks.push(Task {
+            period: *period,
+            worst: ticks * SPEEDS[level] - unused,
+        });
+    }
+    tasks
+}
+
+/// At most 16 periods with this least common multiple, or nothing if a prime power in it is too
+/// large for a period.
+fn periods_with_hyperperiod(random: &mut Random, multiple: u64) -> Option<Vec<u64>> {
+    let powers = prime_powers(multiple);
+    if powers.iter().any(|power| *power > LARGEST_PERIOD) {
+        return None;
+    }
+    let usable = usable_periods(multiple);
+    let free = random.below(LARGEST_COUNT + 1 - powers.len() as u64);
+    let mut periods = powers;
+    for _ in 0..free {
+        periods.push(random.pick(&usable));
+    }
+    // Not always the prime powers first.
+    for place in 0..periods.len() {
+        let other = random.place(periods.len());
+        periods.swap(place, other);
+    }
+    Some(periods)
+}
+
+/// 12 gives 4 and 3.
+fn prime_powers(number: u64) -> Vec<u64> {
+    let mut powers = Vec::new();
+    let mut rest = number;
+    let mut prime = 2;
+    while rest > 1 {
+        let mut power = 1;
+        while rest % prime == 0 {
+            rest /= prime;
+            power *= prime;
+        }
+        if power > 1 {
+            powers.push(power);
+        }
+        prime += 1;
+    }
+    powers
+}
+
+/// A plan whose admission sum at the level is the hyperperiod plus the extra ticks.
+fn plan_with_sum(random: &mut Random, level: usize, extra: u64) -> Vec<Task> {
+    let base = random.pick(&FULL_BASES);
+    let usable = usable_periods(base);
+    until_found(|| {
+        let count = random.between(0, 14);
+        let mut periods: Vec<u64> = (0..count).map(|_| random.pick(&usable)).collect();
+        let mut ticks = Vec::new();
+        // The first tasks take some of the base, the last ones exactly what is left.
+        let mut left = base + extra;
+        for period in &periods {
+            let most = (left / 2 / (base / period)).min(longest_allotment(level));
+            let own = random.between(1, most.max(1));
+            ticks.push(own);
+            left = left.checked_sub(own * (base / period))?;
+        }
+        if base <= LARGEST_PERIOD {
+            periods.push(base);
+            ticks.push(left);
+        } else {
+            let (a, b) = split_in_two(left, longest_allotment(level))?;
+            periods.extend([62_500, 40_000]);
+            ticks.extend([a, b]);
+        }
+        if ticks
+            .iter()
+            .any(|own| *own < 1 || *own > longest_allotment(level))
+        {
+            return None;
+        }
+        let tasks = tasks_with(random, &periods, &ticks, level);
+        let is_right =
+            hyperperiod(&tasks) == Some(base) && admission_sum(&tasks, base, level) == base + extra;
+        is_right.then_some(tasks)
+    })
+}
+
+/// Ticks for a task of period 62,500 and one of period 40,000 that come to the given sum over
+/// 1,000,000 ticks, where they have 16 and 25 jobs.
+fn split_in_two(sum: u64, longest: u64) -> Option<(u64, u64)> {
+    for a in 1..=longest {
+        let first = 16 * a;
+        if first < sum && (sum - first) % 25 == 0 && (sum - first) / 25 <= longest {
+            return Some((a, (sum - first) / 25));
+        }
+    }
+    None
+}

@@ -1,0 +1,147 @@
+//! 01, "The bench program".
+
+use crate::common::BENCH_BLOCK;
+use sim::listing;
+use sim::plan::{pack_block, Task};
+
+fn with_passes(passes: &[u8]) -> Vec<u8> {
+    [&BENCH_BLOCK[..], passes].concat()
+}
+
+fn text(input: &[u8]) -> String {
+    String::from_utf8(listing(input)).unwrap()
+}
+
+#[test]
+fn the_whole_listing() {
+    let passes = [
+        0x80, 0x01, 0x80, 0x07, 0x80, 0x02, 0x80, 0x04, 0x80, 0x04, 0x00, 0x02,
+    ];
+    let expected = "\
+plan 3 7 30
+0 run 0 7 4
+1 run 1 5 7
+8 run 2 7 2
+10 run 0 7 4
+14 run 1 7 4
+18 idle 2
+20 run 0 6 5
+";
+    assert_eq!(text(&with_passes(&passes)), expected);
+}
+
+#[test]
+fn no_passes() {
+    assert_eq!(text(&BENCH_BLOCK), "plan 3 7 30\n0 run 0 7 4\n");
+}
+
+#[test]
+fn a_refused_pass_prints_its_line_and_the_next_is_read() {
+    let passes = [
+        0x00, 0x04, 0x80, 0x05, 0x80, 0x0b, 0x00, 0x00, 0xff, 0xff, 0x00, 0x03, 0x80, 0x01,
+    ];
+    let expected = "\
+plan 3 7 30
+0 run 0 7 4
+refused 14
+refused 14
+refused 12
+refused 11
+refused 12
+3 run 0 7 1
+4 run 1 7 4
+";
+    assert_eq!(text(&with_passes(&passes)), expected);
+}
+
+#[test]
+fn an_idle_order_that_stays_and_a_finish_while_idle() {
+    let passes = [
+        0x80, 0x01, 0x80, 0x07, 0x80, 0x02, 0x80, 0x04, 0x80, 0x04, 0x80, 0x02, 0x00, 0x01, 0x00,
+        0x01,
+    ];
+    let ending = "18 idle 2\nrefused 13\n19 idle 1\n20 run 0 6 5\n";
+    assert!(text(&with_passes(&passes)).ends_with(ending));
+}
+
+#[test]
+fn an_odd_byte_at_the_end() {
+    assert_eq!(
+        text(&with_passes(&[0x80])),
+        "plan 3 7 30\n0 run 0 7 4\nrefused 16\n"
+    );
+    let ending = "0 run 0 7 4\n1 run 1 5 7\nrefused 16\n";
+    assert!(text(&with_passes(&[0x80, 0x01, 0x00])).ends_with(ending));
+}
+
+#[test]
+fn a_refused_reading_is_the_only_line() {
+    assert_eq!(text(&[]), "refused 1\n");
+    assert_eq!(text(&[0x10]), "refused 1\n");
+    assert_eq!(text(&[0x20, 0x80]), "refused 2\n");
+    // Count 0 and count 17, each with bytes to follow.
+    assert_eq!(text(&[0x10, 0x00, 0x00]), "refused 3\n");
+    assert_eq!(text(&[0x18, 0x80, 0x00]), "refused 3\n");
+    // A byte short, so the reader gets all there are.
+    assert_eq!(text(&BENCH_BLOCK[..14]), "refused 4\n");
+    assert_eq!(text(&BENCH_BLOCK[..2]), "refused 4\n");
+    // Closing bits: the last 3 of 120.
+    let mut closing = BENCH_BLOCK;
+    closing[14] |= 1;
+    assert_eq!(
+        text(&[&closing[..], &[0x80, 0x01, 0x80]].concat()),
+        "refused 5\n"
+    );
+    assert_eq!(
+        text(&pack_block(
+            1,
+            1,
+            &[Task {
+                period: 0,
+                worst: 1
+            }]
+        )),
+        "refused 6\n"
+    );
+    let long = [
+        Task {
+            period: 1_000,
+            worst: 1,
+        },
+        Task {
+            period: 1_001,
+            worst: 1,
+        },
+    ];
+    assert_eq!(text(&pack_block(1, 2, &long)), "refused 7\n");
+    assert_eq!(
+        text(&pack_block(
+            1,
+            1,
+            &[Task {
+                period: 1,
+                worst: 101
+            }]
+        )),
+        "refused 8\n"
+    );
+}
+
+#[test]
+fn input_of_65_536_bytes_and_of_one_more() {
+    let mut input = with_passes(&[0; 65_536 - 15]);
+    assert_eq!(input.len(), 65_536);
+    let lines = text(&input);
+    // 65,521 bytes are 32,760 passes of 0 ticks and an odd byte.
+    assert_eq!(lines.lines().count(), 2 + 32_760 + 1);
+    assert_eq!(
+        lines.lines().filter(|line| *line == "refused 11").count(),
+        32_760
+    );
+    assert!(lines.ends_with("refused 11\nrefused 16\n"));
+    input.push(0);
+    assert_eq!(text(&input), "refused 17\n");
+    // Before all: also when the reading would be refused.
+    assert_eq!(text(&vec![0; 65_537]), "refused 17\n");
+    assert_eq!(text(&vec![0; 65_536]), "refused 2\n");
+}

@@ -1,0 +1,82 @@
+//! What several tests need.
+
+use sim::dispatch::{pass, show, start, Order};
+use sim::plan::Task;
+use sim::random::blocks::block_of;
+
+/// The block of the bench plan, packed by hand.
+pub const BENCH_BLOCK: [u8; 15] = [
+    0x11, 0x80, 0x05, 0x00, 0x0c, 0x80, 0x00, 0x50, 0x00, 0xc8, 0x00, 0x0f, 0x00, 0x12, 0xc0,
+];
+
+/// The passes of 01's listing.
+pub const BENCH_PASSES: [(u32, bool); 6] = [
+    (1, true),
+    (7, true),
+    (2, true),
+    (4, true),
+    (4, true),
+    (2, false),
+];
+
+/// Tasks from pairs of period and worst case.
+pub fn tasks(pairs: &[(u64, u64)]) -> Vec<Task> {
+    pairs
+        .iter()
+        .map(|(period, worst)| Task {
+            period: *period,
+            worst: *worst,
+        })
+        .collect()
+}
+
+pub fn bench_plan() -> Vec<Task> {
+    tasks(&[(10, 400), (10, 400), (30, 600)])
+}
+
+pub fn run(task: u8, level: u8, hold: u32) -> Order {
+    Order::Run { task, level, hold }
+}
+
+pub fn idle(hold: u32) -> Order {
+    Order::Idle { hold }
+}
+
+/// A state started with the plan, and led through passes that are all accepted.
+pub fn led(plan: &[Task], passes: &[(u32, bool)]) -> ([u8; 200], Order) {
+    let mut state = [0; 200];
+    let mut order = start(&block_of(plan), &mut state).unwrap();
+    for (d, finished) in passes {
+        order = pass(&mut state, *d, *finished).unwrap();
+    }
+    (state, order)
+}
+
+/// The queue shown, as pairs of task and plain ticks left.
+pub fn queue(state: &[u8]) -> Vec<(usize, u64)> {
+    let mut buffer = [0; 48];
+    let length = show(state, &mut buffer).unwrap();
+    let entry = |bytes: &[u8]| {
+        (
+            usize::from(bytes[0]),
+            256 * u64::from(bytes[1]) + u64::from(bytes[2]),
+        )
+    };
+    buffer[..length].chunks(3).map(entry).collect()
+}
+
+/// Passes and wants this refusal, with no byte of the state changed.
+#[track_caller]
+pub fn refuses_pass(state: &[u8], d: u32, finished: bool, number: u32) {
+    let mut after = state.to_vec();
+    assert_eq!(pass(&mut after, d, finished), Err(number));
+    assert_eq!(after, state);
+}
+
+/// Shows into a buffer of this length and wants this refusal, with no byte changed.
+#[track_caller]
+pub fn refuses_show(state: &[u8], length: usize, number: u32) {
+    let mut buffer = vec![0xa5; length];
+    assert_eq!(show(state, &mut buffer), Err(number));
+    assert_eq!(buffer, vec![0xa5; length]);
+}

@@ -1,0 +1,13 @@
+//! The simulator held to the cases and examples of document 01, and to itself in random runs.
+
+mod astray;
+mod bench;
+mod blocks;
+mod books;
+mod common;
+mod edges;
+mod generators;
+mod passes;
+mod refusals;
+mod runs;
+mod soundness;
