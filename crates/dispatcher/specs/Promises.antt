@@ -31,7 +31,11 @@ pub record OnTime (τ : Timing) (actual : Record) (plain : Book) : Type 0 where
   pub actual-closed : (j : Job) → Arrived τ (actual .clock) j → deadline τ j ≤ actual .clock → In j (actual .closed)
   pub plain-closed : (j : Job) → Arrived τ (plain .clock) j → deadline τ j ≤ plain .clock → OpenPlain plain j → ⊥
 
--- a run: an accepted start on a lent buffer, then any list of passes
+-- "on an accepted plan": starting answered with an order
+abbrev pub Started : List ℕ → List ℕ → List ℕ → Type 0
+Started speeds block buffer = refusalOf (startReply speeds block (length buffer)) ≡ 0
+
+-- a run: a start on a lent buffer, then any list of passes
 module _ (speeds block buffer : List ℕ) (passes : List Pass) where
   abbrev pub replies : List Answered
   replies = trace speeds (startedBytes speeds block buffer) passes
@@ -49,21 +53,21 @@ module _ (speeds block buffer : List ℕ) (passes : List Pass) where
 abbrev pub Demand3 : List ℕ → Type 0
 Demand3 speeds =
     (block buffer : List ℕ) (passes : List Pass) →
-    refusalOf (startReply speeds block (length buffer)) ≡ 0 →
+    Started speeds block buffer →
     OnTime (timing speeds (tasksIn block)) (actualBook speeds block buffer passes) (plainBook speeds block buffer passes)
 
 -- Demand 2: "The queue shown is the ready queue of the plain schedule at that tick, from any accepted start on."
 abbrev pub QueueShown : List ℕ → Type 0
 QueueShown speeds =
     (block buffer : List ℕ) (passes : List Pass) →
-    refusalOf (startReply speeds block (length buffer)) ≡ 0 →
+    Started speeds block buffer →
     shownBytes speeds (stateAfter speeds block buffer passes) ≡ queueBytes (plainBook speeds block buffer passes .pending)
 
 -- A started state is sound, and so is every state that a pass leaves: in a run refusal 10 never comes.
 abbrev pub StaysSound : List ℕ → Type 0
 StaysSound speeds =
     (block buffer : List ℕ) (passes : List Pass) →
-    refusalOf (startReply speeds block (length buffer)) ≡ 0 →
+    Started speeds block buffer →
     sound speeds (stateAfter speeds block buffer passes) ≡ true
 
 -- a reply's hold
@@ -102,7 +106,7 @@ pub record Open (speeds bytes : List ℕ) (order : Reply) (clock : ℕ) : Type 0
 abbrev pub NoDeadEnd : List ℕ → Type 0
 NoDeadEnd speeds =
     (block buffer : List ℕ) (passes : List Pass) →
-    refusalOf (startReply speeds block (length buffer)) ≡ 0 →
+    Started speeds block buffer →
     Open speeds (stateAfter speeds block buffer passes)
     (lastOrder (startReply speeds block (length buffer)) (replies speeds block buffer passes))
     (actualBook speeds block buffer passes .clock)

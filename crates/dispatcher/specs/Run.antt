@@ -54,20 +54,19 @@ namedBy (reply.Refused n) last = last
 abbrev pub openedRecord : Reply → Record
 openedRecord first = record { clock = 0; closed = []; task = namedBy first 255 }
 
--- 01: "An accepted pass that says finished closes that task's latest job; then the clock rises by d. Nothing else closes a job". "A
--- refused pass changes neither book."
+-- 01: "An accepted pass that says finished closes that task's latest job"; "Nothing else closes a job"
+abbrev pub closedAfter : Timing → Record → Pass → List Job
+closedAfter τ b p = pick (p .finished) (latest τ (b .clock) (b .task) ∷ b .closed) (b .closed)
+
+-- "then the clock rises by d", and the running task is the one that the reply names
+abbrev pub moved : Timing → Record → Pass → ℕ → Record
+moved τ b p task = record { clock = b .clock + p .d; closed = closedAfter τ b p; task = task }
+
+-- 01: "An accepted pass is one answered with an order. A refused pass changes neither book."
 abbrev pub recorded : Timing → Record → Pass → Reply → Record
+recorded τ b p (reply.Run task level hold) = moved τ b p task
+recorded τ b p (reply.Idle hold) = moved τ b p 255
 recorded τ b p (reply.Refused n) = b
-recorded τ b p (reply.Run task level hold) = record {
-  clock = b .clock + p .d;
-  closed = pick (p .finished) (latest τ (b .clock) (b .task) ∷ b .closed) (b .closed);
-  task = task;
-}
-recorded τ b p (reply.Idle hold) = record {
-  clock = b .clock + p .d;
-  closed = pick (p .finished) (latest τ (b .clock) (b .task) ∷ b .closed) (b .closed);
-  task = 255;
-}
 
 abbrev pub recordAfter : Timing → Record → List Answered → Record
 recordAfter τ b [] = b
