@@ -4,3 +4,4 @@ pub mod Divisors
 pub mod DigitLaws
 pub mod BitLaws
 pub mod Stores
+pub mod Sums

@@ -4,8 +4,8 @@ use Prim.Native.Nat.{ℕ, suc, _≤_, _<_}
 use mathlib.Core.Bool.{Bool, true, false, not}
 use mathlib.Core.Path.{_≡_, subst, sym, refl}
 use lib.Dec.{T, leb, ltb, eqb, leb→le, nleb→lt, eqb→eq, eqb-refl}
-use Rattle.arith.specs.Choice.{both, every}
-use mathlib.Core.List.{List, [], _∷_}
+use native.Mathlib.Omega.{arith}
+use Rattle.arith.specs.Choice.{pick, lex, both}
 
 pub data TestLe (m n : ℕ) : Bool → Type 0 where
   le-yes : m ≤ n → TestLe m n true
@@ -50,3 +50,18 @@ both-right false b h = absurd (subst T (sym h) tt)
 
 pub both-true : {a b : Bool} → a ≡ true → b ≡ true → both a b ≡ true
 both-true {a} {b} p q = subst (λ (x : Bool). both x b ≡ true) (sym p) q
+
+-- the three outcomes of an order by a first key
+pub data TestLex (m n : ℕ) (rest : Bool) : Bool → Type 0 where
+  lex-less : m < n → TestLex m n rest true
+  lex-same : m ≡ n → TestLex m n rest rest
+  lex-more : n < m → TestLex m n rest false
+
+pub testLex : (m n : ℕ) (rest : Bool) → TestLex m n rest (lex m n rest)
+testLex m n rest =
+    elim (testLe (suc m) n) as (λ s _. TestLex m n rest (pick s true (pick (ltb n m) false rest))) [
+      | le-yes h ↦ lex-less h
+      | le-not h ↦
+          elim (testLe (suc n) m) as (λ s _. TestLex m n rest (pick s false rest))
+          [ le-yes k ↦ lex-more k | le-not k ↦ lex-same (omega arith) ]
+    ]

@@ -10,9 +10,9 @@ use Rattle.arith.specs.Choice.{pick}
 use Rattle.arith.specs.Sum.{sumTo, sumOf}
 use Rattle.arith.proofs.Tests.{passed, failed, tested}
 use Rattle.schedule.specs.PlainSchedule.{Timing, Job, Pending, moreUrgent, latest, enqueue, drain, queueOf, leftIn}
-use Rattle.schedule.proofs.Tests.{le-yes, le-not, testLe, eq-yes, eq-not, testEq}
+use Rattle.arith.proofs.Tests.{le-yes, le-not, testLe, eq-yes, eq-not, testEq}
 use Rattle.schedule.proofs.Urgency.{MoreUrgent, ahead, same, behind, compared, irreflexive, asymmetric, transitive, urgent-true, urgent-false}
-use Rattle.schedule.proofs.Sums.{sumTo-le, sumTo-eq, sumTo-add}
+use Rattle.arith.proofs.Sums.{sumTo-le, sumTo-eq, sumTo-add}
 use Rattle.schedule.proofs.Queue.{enqueue-sum}
 use Rattle.schedule.proofs.Standing.{standing, drain-queueOf}
 use Rattle.schedule.proofs.Ahead.{left-drain}

@@ -20,7 +20,7 @@ use Rattle.plan.proofs.Facts.{FineList, range-at}
 use Rattle.plan.proofs.LevelLaws.{first-le, first-passes}
 use Rattle.schedule.specs.PlainSchedule.{Job, Pending, moreUrgent, latest}
 use Rattle.schedule.proofs.Urgency.{MoreUrgent}
-use Rattle.schedule.proofs.Sums.{sumTo-eq}
+use Rattle.arith.proofs.Sums.{sumTo-eq}
 use Rattle.dispatcher.specs.declared.Entry.{Entry}
 use Rattle.dispatcher.specs.StateBlock.{State, noEntry, taskOf, workOf, remainingOf, planIn, timing}
 use Rattle.dispatcher.specs.Orders.{nextArrival, allowance, openJobs, lowestLevel, holdOf, withOrder, orderFor, chooseOrder}

@@ -8,3 +8,6 @@ pub mod RoundTrip
 pub mod Judgements
 pub mod Codec
 pub mod Packing
+pub mod Gathering
+pub mod TaskSlices
+pub mod Passing

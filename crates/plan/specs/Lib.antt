@@ -4,3 +4,4 @@ pub mod Questions
 pub mod Answers
 pub mod Laws
 pub mod Entries
+pub mod Lists

@@ -45,7 +45,7 @@ fn plan_from(count: usize, numbers: &[u32]) -> Plan
 }
 
 // A verdict as one number.
-fn verdict_number(v: Verdict) -> u64
+pub fn verdict_number(v: Verdict) -> u64
     requires { ⌜ verdictNumber v < 2 ^ 36 ⌝ }
     ensures { λ r. ⌜ r ≡ verdictNumber v ⌝ }
 {

@@ -2,6 +2,7 @@
 pub mod block;
 pub mod entries;
 pub mod judging;
+pub mod list;
 
 // A task: its period in ticks and its worst case in units of work.
 #[repr(C)]

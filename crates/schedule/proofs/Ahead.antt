@@ -10,7 +10,7 @@ use Rattle.arith.specs.Choice.{pick}
 use Rattle.arith.specs.Sum.{sumTo, sumOf}
 use Rattle.schedule.specs.PlainSchedule.{Timing, Job, Pending, moreUrgent, enqueue, drain, latest, queueOf, leftIn}
 use Rattle.schedule.specs.Feasibility.{In}
-use Rattle.schedule.proofs.Tests.{le-yes, le-not, testLe, eq-yes, eq-not, testEq}
+use Rattle.arith.proofs.Tests.{le-yes, le-not, testLe, eq-yes, eq-not, testEq}
 use Rattle.schedule.proofs.Urgency.{MoreUrgent, ahead, same, behind, compared, irreflexive, asymmetric, urgent-false}
 use Rattle.schedule.proofs.Queue.{Leads, Sorted, leads-in, enqueue-sum}
 use Rattle.schedule.proofs.Drain.{taken}

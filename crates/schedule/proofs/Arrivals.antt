@@ -10,7 +10,7 @@ use Rattle.arith.specs.Choice.{pick}
 use Rattle.arith.specs.Sum.{sumTo, sumOf}
 use Rattle.schedule.specs.PlainSchedule.{Timing, Job, Pending, enqueue, newJob, arrive}
 use Rattle.schedule.specs.Feasibility.{All, In}
-use Rattle.schedule.proofs.Tests.{eq-yes, eq-not, testEq}
+use Rattle.arith.proofs.Tests.{eq-yes, eq-not, testEq}
 use Rattle.schedule.proofs.Members.{all-in, in-all}
 use Rattle.schedule.proofs.Queue.{Sorted, enqueue-in, in-enqueue, enqueue-sorted, enqueue-sum}
 

@@ -8,7 +8,7 @@ use native.Mathlib.Omega.{arith}
 use Rattle.arith.specs.Choice.{pick}
 use Rattle.schedule.specs.PlainSchedule.{Timing, Pending, Book, serve, drain, arrive, tick, after}
 use Rattle.schedule.specs.Feasibility.{In}
-use Rattle.schedule.proofs.Tests.{le-yes, le-not, testLe}
+use Rattle.arith.proofs.Tests.{le-yes, le-not, testLe}
 use Rattle.schedule.proofs.Members.{all-in, in-all}
 use Rattle.schedule.proofs.Queue.{Sorted, Positive}
 use Rattle.schedule.proofs.Arrivals.{arrive-none}

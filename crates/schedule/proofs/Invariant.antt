@@ -7,7 +7,7 @@ use native.Mathlib.Omega.{arith}
 use Rattle.arith.specs.Choice.{pick}
 use Rattle.schedule.specs.PlainSchedule.{Timing, Pending, Book, serve, arrive, opened, tick, canonicalAt}
 use Rattle.schedule.specs.Feasibility.{All, In}
-use Rattle.schedule.proofs.Tests.{le-yes, le-not, testLe}
+use Rattle.arith.proofs.Tests.{le-yes, le-not, testLe}
 use Rattle.schedule.proofs.Members.{all-in, in-all}
 use Rattle.schedule.proofs.Queue.{Sorted, serve-sorted}
 use Rattle.schedule.proofs.Arrivals.{New, arrive-in, arrive-sorted}

@@ -1,10 +1,8 @@
-pub mod Tests
 pub mod Urgency
 pub mod Members
 pub mod Queue
 pub mod Arrivals
 pub mod Invariant
-pub mod Sums
 pub mod Periods
 pub mod Demand
 pub mod Feasible

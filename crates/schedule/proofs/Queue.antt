@@ -8,7 +8,7 @@ use Rattle.arith.specs.Choice.{pick}
 use Rattle.arith.specs.Sum.{sumOf}
 use Rattle.schedule.specs.PlainSchedule.{Timing, Job, Pending, enqueue, serve}
 use Rattle.schedule.specs.Feasibility.{All, In}
-use Rattle.schedule.proofs.Tests.{le-yes, le-not, testLe}
+use Rattle.arith.proofs.Tests.{le-yes, le-not, testLe}
 use Rattle.schedule.proofs.Urgency.{MoreUrgent, ahead, same, behind, compared, irreflexive, asymmetric, transitive}
 use Rattle.schedule.proofs.Members.{all-in, in-all}
 

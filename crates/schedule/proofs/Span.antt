@@ -10,7 +10,7 @@ use lib.Dec.{eqb}
 use Rattle.arith.specs.Choice.{pick}
 use Rattle.schedule.specs.PlainSchedule.{Timing, Job, Pending, Book, deadline, enqueue, drain, newJob, arrive, opened, tick, after, canonicalAt, latest, queueOf, leftIn}
 use Rattle.schedule.specs.Feasibility.{All, Fitting, In}
-use Rattle.schedule.proofs.Tests.{eq-yes, eq-not, testEq}
+use Rattle.arith.proofs.Tests.{eq-yes, eq-not, testEq}
 use Rattle.schedule.proofs.Members.{all-in, in-all}
 use Rattle.schedule.proofs.Queue.{same-members}
 use Rattle.schedule.proofs.Arrivals.{New, arrive-in, in-arrive, arrive-sorted}

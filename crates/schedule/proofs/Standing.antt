@@ -9,7 +9,7 @@ use lib.Dec.{eqb}
 use Rattle.arith.specs.Choice.{pick}
 use Rattle.schedule.specs.PlainSchedule.{Timing, Job, Pending, enqueue, drain, latest, queueOf, leftIn}
 use Rattle.schedule.specs.Feasibility.{All, In}
-use Rattle.schedule.proofs.Tests.{eq-yes, eq-not, testEq}
+use Rattle.arith.proofs.Tests.{eq-yes, eq-not, testEq}
 use Rattle.schedule.proofs.Members.{all-in, in-all}
 use Rattle.schedule.proofs.Queue.{Sorted, Positive, enqueue-in, in-enqueue, enqueue-sorted, sorted-single, same-members}
 use Rattle.schedule.proofs.Drain.{Was, drain-was, drain-sorted}

@@ -8,7 +8,7 @@ use native.Mathlib.Omega.{arith}
 use lib.Dec.{ltb}
 use Rattle.arith.specs.Choice.{lex}
 use Rattle.schedule.specs.PlainSchedule.{Timing, Job, deadline, moreUrgent}
-use Rattle.schedule.proofs.Tests.{le-yes, le-not, testLe, lex-less, lex-same, lex-more, testLex}
+use Rattle.arith.proofs.Tests.{le-yes, le-not, testLe, lex-less, lex-same, lex-more, testLex}
 
 -- one constructor for each way in which a is more urgent than b
 pub data MoreUrgent (τ : Timing) (a b : Job) : Type 0 where
