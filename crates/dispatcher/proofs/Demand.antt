@@ -60,7 +60,7 @@ split-no (q ∷ qs) rs p h =
     ] h
 
 -- an accepted reply is no refusal
-not-refused : (n : ℕ) (order : Reply) → refusalOf (repliedBy n order) ≡ 0 → n ≡ 0
+pub not-refused : (n : ℕ) (order : Reply) → refusalOf (repliedBy n order) ≡ 0 → n ≡ 0
 not-refused zero order h = refl
 not-refused (suc n) order h = h
 

@@ -13,3 +13,17 @@ pub mod Books
 pub mod Moved
 pub mod Runs
 pub mod Demand
+pub mod ImageLaws
+pub mod LayoutLaws
+pub mod UrgencySteps
+pub mod ReadySteps
+pub mod UrgencyLaws
+pub mod OrderLaws
+pub mod SoundLaws
+pub mod ShowLaws
+pub mod StartLaws
+pub mod EntryLaws
+pub mod PassSteps
+pub mod PassLaws
+pub mod PlaySteps
+pub mod PlayLaws

@@ -6,3 +6,6 @@ pub mod Calls
 pub mod Run
 pub mod Promises
 pub mod Cases
+pub mod Code
+pub mod Entries
+pub mod Play

@@ -262,7 +262,7 @@ module _ (p : Plan) (len : length (p .tasks) ≡ 16) (most : p .count ≤ 16) wh
       (subst (λ (n : ℕ). j < blockLength n) (sym (length-take-le (p .count) (p .tasks) (omega arith))) h))
 
 -- questions put after others: a no among those decides, and where there is none these do
-no-before : (qs rest : List Question) (n : ℕ) → 0 < n → firstNo qs ≡ n → firstNo (qs ++ rest) ≡ n
+pub no-before : (qs rest : List Question) (n : ℕ) → 0 < n → firstNo qs ≡ n → firstNo (qs ++ rest) ≡ n
 no-before [] rest n p h = absurd (omega arith)
 no-before (q ∷ qs) rest n p h = step (q .reply) (firstNo qs) (firstNo (qs ++ rest)) (q .number) (no-before qs rest n p) h
   where
@@ -270,10 +270,10 @@ no-before (q ∷ qs) rest n p h = step (q .reply) (firstNo qs) (firstNo (qs ++ r
     step true x y m f e = f e
     step false x y m f e = e
 
-abbrev numbered : Question → Bool
+abbrev pub numbered : Question → Bool
 numbered q = leb 1 (q .number)
 
-yes-before :
+pub yes-before :
     (qs rest : List Question) → every numbered qs ≡ true → firstNo qs ≡ 0 → firstNo (qs ++ rest) ≡ firstNo rest
 yes-before [] rest p h = refl
 yes-before (q ∷ qs) rest p h =

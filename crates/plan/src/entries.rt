@@ -59,7 +59,7 @@ pub fn verdict_number(v: Verdict) -> u64
 }
 
 // What writing answers as one number.
-fn written_number(w: Written) -> u64
+pub fn written_number(w: Written) -> u64
     requires { ⌜ writtenNumber w < 2 ^ 36 ⌝ }
     ensures { λ r. ⌜ r ≡ writtenNumber w ⌝ }
 {
