@@ -9,12 +9,12 @@ use mathlib.Core.Logic.{_⊎_, inl, inr, ⊎-elim}
 use native.Mathlib.Omega.{arith}
 use native.Mathlib.Decide.{decLe}
 use lib.ListN.{length, getD, take, drop}
-use lib.Seq.{take-at}
+use lib.Seq.{take-at, drop-at}
 use borrow.Author.Tests.{leb-true}
 use lib.Dec.{eqb, leb, lit<}
 use Rattle.arith.specs.Choice.{pick, both}
 use Rattle.arith.specs.Need.{need}
-use Rattle.arith.proofs.Tests.{TestEq, eq-yes, eq-not, testEq, Tested, passed, failed, tested}
+use Rattle.arith.proofs.Tests.{TestLe, le-yes, le-not, testLe, TestEq, eq-yes, eq-not, testEq, Tested, passed, failed, tested}
 use Rattle.arith.proofs.Needs.{need-zero-work}
 use Rattle.plan.specs.declared.Task.{Task}
 use Rattle.plan.specs.Levels.{Rising, hyperperiod, nominal}
@@ -130,6 +130,19 @@ module _ (speeds : List ℕ) (rising : Rising speeds) (few : length speeds ≤ 2
         let new : Storable s = fine-storable speeds ts s good rising few fine in
         ap (λ (n : ℕ). take 200 (storedBy n (encode s) buffer)) number
         ∙ take-at (encode s) (drop (length (encode s)) buffer) 200 (length-encode s (new .count))
+
+    -- the buffer had room, and what lies past the state is untouched
+    pub room : 200 ≤ length buffer
+    room =
+        elim (testLe 200 (length buffer)) as (λ b _. pick {A = ℕ} b 0 9 ≡ 0 → 200 ≤ length buffer)
+        [ le-yes h ↦ λ e. h | le-not h ↦ λ e. absurd (omega arith) ] (answers .1)
+
+    pub untouched : drop 200 (startBuffer speeds block buffer) ≡ drop 200 buffer
+    untouched =
+        let new : Storable s = fine-storable speeds ts s good rising few fine in
+        ap (λ (n : ℕ). drop 200 (storedBy n (encode s) buffer)) number
+        ∙ drop-at (encode s) (drop (length (encode s)) buffer) 200 (length-encode s (new .count))
+        ∙ ap (λ (n : ℕ). drop n buffer) (length-encode s (new .count))
 
     pub kept-start : Kept speeds rising few ts good (startedBytes speeds block buffer) (openedRecord (startReply speeds block (length buffer))) (opened τ) (startReply speeds block (length buffer))
     kept-start = record {

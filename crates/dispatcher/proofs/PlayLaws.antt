@@ -5,15 +5,16 @@ use mathlib.Core.Path.{_≡_, refl, sym, subst, ap, ap₂, _∙_}
 use mathlib.Core.Bool.{Bool, true, false}
 use mathlib.Core.List.{List, [], _∷_, _++_, map}
 use native.Mathlib.Omega.{arith}
-use borrow.Author.Tests.{eq-eqb, ne-eqb}
+use borrow.Author.Tests.{eq-eqb, ne-eqb, eqb-true, eqb-false}
 use lib.Dec.{eqb, lit<, lit≤}
 use lib.Arith.{digits-mod}
-use lib.ListN.{length, drop}
+use lib.ListN.{length, take, drop}
 use Rattle.arith.specs.Choice.{pick}
 use Rattle.arith.proofs.Tests.{TestEq, eq-yes, eq-not, testEq, Tested, passed, failed, tested}
 use Rattle.plan.specs.declared.Task.{Task}
 use Rattle.plan.specs.Levels.{baseSpeeds}
 use Rattle.plan.specs.Blocks.{tasksIn}
+use Rattle.plan.specs.Answers.{storedBy}
 use Rattle.plan.specs.Questions.{Question, firstNo, reading, roomQuestion}
 use Rattle.plan.proofs.LevelLaws.{baseRising}
 use Rattle.plan.proofs.Facts.{FineList}
@@ -21,20 +22,20 @@ use Rattle.schedule.specs.PlainSchedule.{Timing, opened}
 use Rattle.schedule.specs.Feasibility.{All}
 use Rattle.dispatcher.specs.declared.Reply.{Reply}
 use Rattle.dispatcher.specs.declared.Reply.the-variants as reply
-use Rattle.dispatcher.specs.StateBlock.{State, decode, planIn, timing}
+use Rattle.dispatcher.specs.StateBlock.{State, encode, decode, planIn, timing}
 use Rattle.dispatcher.specs.Orders.{orderWith, holdOf}
 use Rattle.dispatcher.specs.Passes.{startState, passedState, passedHold}
 use Rattle.dispatcher.specs.Questions.{passing, starting, passQuestions, sound, stateSound}
-use Rattle.dispatcher.specs.Calls.{repliedBy, refusalOf, startNumber, startReply, startOrder, passNumber, passReply, passBytes, passOrder}
-use Rattle.dispatcher.specs.Run.{Pass, Answered, trace, startedBytes, openedRecord, recordAfter, bookAfter}
+use Rattle.dispatcher.specs.Calls.{repliedBy, refusalOf, startNumber, startReply, startBuffer, startOrder, passNumber, passReply, passBytes, passOrder}
+use Rattle.dispatcher.specs.Run.{Pass, Answered, trace, bytesAfter, startedBytes, openedRecord, recordAfter, bookAfter}
 use Rattle.dispatcher.specs.Promises.{OnTime, Started, actualBook, plainBook}
 use Rattle.dispatcher.specs.Entries.{replyNumber}
-use Rattle.dispatcher.specs.Play.{replyFrom, replyNumbers, answersFrom, leftBy, playedReplies, PlayedOnTime}
+use Rattle.dispatcher.specs.Play.{replyFrom, replyNumbers, answersFrom, leftBy, playedState, playedReplies, PlayedOnTime}
 use Rattle.dispatcher.proofs.Fine.{Fine, Accepted}
 use Rattle.dispatcher.proofs.StateCodec.{Storable}
 use Rattle.dispatcher.proofs.Soundness.{all-yes, yes-all, sound-fine, accepted, fine-storable}
 use Rattle.dispatcher.proofs.PassSound.{start-fine, pass-fine}
-use Rattle.dispatcher.proofs.Demand.{demand-3, good, not-refused}
+use Rattle.dispatcher.proofs.Demand.{demand-3, good, not-refused, room, untouched}
 use Rattle.arith.proofs.Tests.{both-right}
 use Rattle.dispatcher.specs.StateBlock.{laidOut}
 
@@ -164,3 +165,70 @@ played-on-time block state replies passes ok =
         ap (λ (n : ℕ). answersFrom passes (leftBy n (replyNumbers (trace baseSpeeds (startedBytes baseSpeeds block state) passes) ++ drop (length passes) replies) replies))
         (not-refused (startNumber baseSpeeds block (length state)) (startOrder baseSpeeds (startState baseSpeeds (tasksIn block))) accepted-start)
         ∙ answers-same passes (startedBytes baseSpeeds block state) (drop (length passes) replies)
+
+-- what playing leaves where the start is refused, and where it is accepted
+module _ (block state : List ℕ) (passes : List Pass) (found : List ℕ) where
+  pub left-refused :
+      (refusalOf (startReply baseSpeeds block (length state)) ≡ 0 → ⊥) →
+      (startBuffer baseSpeeds block state ≡ playedState baseSpeeds block state passes) × (found ≡ playedReplies baseSpeeds block state passes found)
+  left-refused never = go (startNumber baseSpeeds block (length state)) refl
+    where
+      order : Reply
+      order = startOrder baseSpeeds (startState baseSpeeds (tasksIn block))
+
+      go :
+          (n : ℕ) →
+          startNumber baseSpeeds block (length state) ≡ n →
+          (storedBy (startNumber baseSpeeds block (length state)) (encode (startState baseSpeeds (tasksIn block))) state ≡ playedState baseSpeeds block state passes)
+          × (found ≡ playedReplies baseSpeeds block state passes found)
+      go zero e =
+          absurd
+          (never
+          (ap (λ (n : ℕ). refusalOf (repliedBy n order)) e
+          ∙ order-accepted (startState baseSpeeds (tasksIn block)) (holdOf baseSpeeds (timing baseSpeeds (planIn (startState baseSpeeds (tasksIn block)))) (startState baseSpeeds (tasksIn block)))))
+      go (suc n) e = (
+        ap (λ (k : ℕ). storedBy k (encode (startState baseSpeeds (tasksIn block))) state) e
+            ∙ sym (ap (λ (k : ℕ). leftBy k (bytesAfter baseSpeeds (startedBytes baseSpeeds block state) passes ++ drop 200 state) state) e),
+        sym (ap (λ (k : ℕ). leftBy k (replyNumbers (trace baseSpeeds (startedBytes baseSpeeds block state) passes) ++ drop (length passes) found) found) e),
+      )
+
+  module _ (ok : refusalOf (startReply baseSpeeds block (length state)) ≡ 0) (l : List ℕ) (started : l ≡ startBuffer baseSpeeds block state) where
+    number-zero : startNumber baseSpeeds block (length state) ≡ 0
+    number-zero = not-refused (startNumber baseSpeeds block (length state)) (startOrder baseSpeeds (startState baseSpeeds (tasksIn block))) ok
+
+    pub left-state : (m : List ℕ) → m ≡ bytesAfter baseSpeeds (take 200 l) passes → m ++ drop 200 l ≡ playedState baseSpeeds block state passes
+    left-state m e =
+        ap₂ (λ (x y : List ℕ). x ++ y)
+        (e ∙ ap (λ (x : List ℕ). bytesAfter baseSpeeds (take 200 x) passes) started)
+        (ap (drop 200) started ∙ untouched baseSpeeds baseRising few block state ok)
+        ∙ sym (ap (λ (k : ℕ). leftBy k (bytesAfter baseSpeeds (startedBytes baseSpeeds block state) passes ++ drop 200 state) state) number-zero)
+
+    pub left-replies :
+        (m : List ℕ) →
+        m ≡ replyNumbers (trace baseSpeeds (take 200 l) passes) ++ drop (length passes) found →
+        m ≡ playedReplies baseSpeeds block state passes found
+    left-replies m e =
+        e
+        ∙ ap (λ (x : List ℕ). replyNumbers (trace baseSpeeds (take 200 x) passes) ++ drop (length passes) found) started
+        ∙ sym (ap (λ (k : ℕ). leftBy k (replyNumbers (trace baseSpeeds (startedBytes baseSpeeds block state) passes) ++ drop (length passes) found) found) number-zero)
+
+    pub left-room : length l ≡ length state → 200 ≤ length l
+    left-room same = omega (arith, room baseSpeeds baseRising few block state ok)
+
+-- demand 3 of what was returned and left
+pub on-time-of :
+    (block state found : List ℕ) (passes : List Pass) (first : ℕ) (replies : List ℕ) →
+    first ≡ replyNumber (startReply baseSpeeds block (length state)) →
+    replies ≡ playedReplies baseSpeeds block state passes found →
+    PlayedOnTime baseSpeeds block first passes replies
+on-time-of block state found passes first replies e r =
+    subst (λ (x : ℕ). PlayedOnTime baseSpeeds block x passes replies) (sym e)
+    (subst (λ (l : List ℕ). PlayedOnTime baseSpeeds block (replyNumber (startReply baseSpeeds block (length state))) passes l) (sym r) (played-on-time block state found passes))
+
+-- what testing a reply tells of the one that it is
+module _ (x r : Reply) (b : Bool) (e : x ≡ r) (t : b ≡ eqb (refusalOf x) 0) where
+  pub is-refusal : b ≡ false → refusalOf r ≡ 0 → ⊥
+  is-refusal f z = eqb-false (refusalOf x) 0 (sym t ∙ f) (ap refusalOf e ∙ z)
+
+  pub no-refusal : b ≡ true → refusalOf r ≡ 0
+  no-refusal f = ap refusalOf (sym e) ∙ eqb-true (refusalOf x) 0 (sym t ∙ f)

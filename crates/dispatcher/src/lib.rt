@@ -4,6 +4,7 @@ pub mod entries;
 pub mod image;
 pub mod order;
 pub mod pass;
+pub mod play;
 pub mod show;
 pub mod sound;
 pub mod start;

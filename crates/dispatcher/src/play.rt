@@ -1,0 +1,70 @@
+// A whole list of passes played on lent blocks: the run of demand 3, from its start to its last reply.
+use crate::Reply;
+use crate::entries::reply_number;
+use crate::pass::pass;
+use crate::start::start;
+ghost use mathlib.Core.Path.{_≡_};
+ghost use mathlib.Core.List.{_++_};
+ghost use lib.Dec.{eqb};
+ghost use lib.ListN.{length, drop};
+ghost use Rattle.plan.specs.Levels.{baseSpeeds};
+ghost use Rattle.dispatcher.specs.Calls.{refusalOf, startReply, passReply, passBytes};
+ghost use Rattle.dispatcher.specs.Run.{trace, bytesAfter};
+ghost use Rattle.dispatcher.specs.Entries.{replyNumber};
+ghost use Rattle.dispatcher.specs.Play.{passFrom, playedPasses, replyNumbers, playedState, playedReplies, PlayedOnTime};
+
+// One pass, as a number, played on a state; the reply as a number.
+fn play_one(state: &mut [u8], p: u64) -> u64
+    ensures { λ r. ⌜ r ≡ replyNumber (passReply baseSpeeds (now (state .entry)) (passFrom p .d) (passFrom p .finished)) ⌝ }
+    ensures { λ _. ⌜ now (state .exit) ≡ passBytes baseSpeeds (now (state .entry)) (passFrom p .d) (passFrom p .finished) ⌝ }
+{
+    let d = (p % 4294967296) as u32;
+    let finished = p / 4294967296 % 2 == 1;
+    let r = pass(state, d, finished);
+    reply_number(r)
+}
+
+// Plays passes on a state, as many as there is room for replies.
+fn play_all(state: &mut [u8], passes: &[u64], replies: &mut [u64])
+    ensures { λ _. ⌜ now (state .exit) ≡ bytesAfter baseSpeeds (now (state .entry)) (playedPasses (now (passes .entry)) (length (now (replies .entry)))) ⌝ }
+    ensures { λ _. ⌜ now (replies .exit) ≡ replyNumbers (trace baseSpeeds (now (state .entry)) (playedPasses (now (passes .entry)) (length (now (replies .entry))))) ++ drop (length (playedPasses (now (passes .entry)) (length (now (replies .entry))))) (now (replies .entry)) ⌝ }
+{
+    let mut i: usize = 0;
+    while i < passes.len() {
+        if replies.len() <= i {
+            return;
+        }
+        replies[i] = play_one(state, passes[i]);
+        i += 1;
+    }
+}
+
+// Whether a reply is an order, and no refusal.
+fn is_order(r: Reply) -> bool
+    ensures { λ b. ⌜ b ≡ eqb (refusalOf r) 0 ⌝ }
+{
+    match r {
+        Reply::Refused(n) => n == 0,
+        Reply::Run {
+            task: _,
+            level: _,
+            hold: _,
+        } => true,
+        Reply::Idle { hold: _ } => true,
+    }
+}
+
+// Starts a plan and plays a list of passes on it. The start's reply is returned; those of the passes stand in the lent block.
+pub fn play(block: &[u8], state: &mut [u8], passes: &[u64], replies: &mut [u64]) -> u64
+    ensures { λ r. ⌜ r ≡ replyNumber (startReply baseSpeeds (now (block .entry)) (length (now (state .entry)))) ⌝ }
+    ensures { λ _. ⌜ now (state .exit) ≡ playedState baseSpeeds (now (block .entry)) (now (state .entry)) (playedPasses (now (passes .entry)) (length (now (replies .entry)))) ⌝ }
+    ensures { λ _. ⌜ now (replies .exit) ≡ playedReplies baseSpeeds (now (block .entry)) (now (state .entry)) (playedPasses (now (passes .entry)) (length (now (replies .entry)))) (now (replies .entry)) ⌝ }
+    ensures { λ r. ⌜ PlayedOnTime baseSpeeds (now (block .entry)) r (playedPasses (now (passes .entry)) (length (now (replies .entry)))) (now (replies .exit)) ⌝ }
+{
+    let first = start(block, state);
+    if !is_order(first) {
+        return reply_number(first);
+    }
+    play_all(&mut state[..200], passes, replies);
+    reply_number(first)
+}
