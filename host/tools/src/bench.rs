@@ -1,0 +1,159 @@
+//! The bench input: a plan block, then two bytes a pass.
+
+use crate::script::{largest, Pass, Script, COUNT_BITS, D_BITS, PERIOD_BITS, WORST_BITS};
+use sim::bits::Bits;
+use sim::plan::{block_bytes, judge_list, pack_block, Task};
+use std::fmt;
+
+/// The bench program takes no more bytes than this.
+pub const LARGEST_INPUT: usize = 65_536;
+
+const EDITION_BITS: u32 = 4;
+const EDITION: u64 = 1;
+const FINISHED: u16 = 1 << D_BITS;
+
+/// Why a bench input can't be said in text.
+#[derive(Clone, Copy, PartialEq, Eq, Debug)]
+pub enum Why {
+    TooShort { length: usize },
+    Edition(u64),
+    CutBlock { count: u64, needed: usize },
+    ClosingBits,
+    OddByte,
+}
+
+/// The reason and its byte, the first byte being 0. For a cut input it is the first one missing.
+#[derive(Clone, Copy, PartialEq, Eq, Debug)]
+pub struct BytesError {
+    pub byte: usize,
+    pub why: Why,
+}
+
+impl fmt::Display for Why {
+    fn fmt(&self, out: &mut fmt::Formatter) -> fmt::Result {
+        match self {
+            Why::TooShort { length } => write!(
+                out,
+                "the input ends here, before the count: length {length}, at least 2 needed"
+            ),
+            Why::Edition(edition) => write!(out, "the edition is {edition}, not {EDITION}"),
+            Why::CutBlock { count, needed } => write!(
+                out,
+                "the input ends here, within the plan block: its count is {count}, so it needs \
+                 {needed} bytes"
+            ),
+            Why::ClosingBits => write!(out, "the closing bits of the plan block are not zero"),
+            Why::OddByte => write!(out, "an odd byte is left; a pass has two"),
+        }
+    }
+}
+
+impl fmt::Display for BytesError {
+    fn fmt(&self, out: &mut fmt::Formatter) -> fmt::Result {
+        write!(out, "byte {}: {}", self.byte, self.why)
+    }
+}
+
+/// The bench input that says this. Every number must fit its field.
+pub fn to_bytes(script: &Script) -> Vec<u8> {
+    debug_assert!(fits(script));
+    let mut bytes = pack_block(EDITION, script.tasks.len() as u64, &script.tasks);
+    for pass in &script.passes {
+        bytes.extend(pack_pass(*pass));
+    }
+    bytes
+}
+
+/// Reads a bench input, whether or not the dispatcher would take it.
+pub fn from_bytes(input: &[u8]) -> Result<Script, BytesError> {
+    let (block, rest) = split(input);
+    let tasks = unpack_block(block)?;
+    let pairs = rest.chunks_exact(2);
+    if !pairs.remainder().is_empty() {
+        return Err(BytesError {
+            byte: input.len() - 1,
+            why: Why::OddByte,
+        });
+    }
+    let passes = pairs.map(unpack_pass).collect();
+    Ok(Script { tasks, passes })
+}
+
+/// The number that the bench program refuses the whole input with, if it does.
+pub fn refusal(script: &Script) -> Option<u32> {
+    if to_bytes(script).len() > LARGEST_INPUT {
+        return Some(17);
+    }
+    judge_list(&script.tasks).err()
+}
+
+/// The plan block, as far as it is there, and what follows it.
+pub fn split(input: &[u8]) -> (&[u8], &[u8]) {
+    let length = match input {
+        [_, _, ..] => block_bytes(edition_and_count(input).1),
+        _ => input.len(),
+    };
+    input.split_at(length.min(input.len()))
+}
+
+/// The first bit says finished, the other 15 are d.
+pub fn unpack_pass(pair: &[u8]) -> Pass {
+    let packed = u16::from_be_bytes([pair[0], pair[1]]);
+    Pass {
+        d: u32::from(packed & !FINISHED),
+        finished: packed & FINISHED != 0,
+    }
+}
+
+fn pack_pass(pass: Pass) -> [u8; 2] {
+    let finished = if pass.finished { FINISHED } else { 0 };
+    (finished | pass.d as u16).to_be_bytes()
+}
+
+fn fits(script: &Script) -> bool {
+    let task_fits =
+        |task: &Task| task.period <= largest(PERIOD_BITS) && task.worst <= largest(WORST_BITS);
+    script.tasks.len() as u64 <= largest(COUNT_BITS)
+        && script.tasks.iter().all(task_fits)
+        && script
+            .passes
+            .iter()
+            .all(|pass| u64::from(pass.d) <= largest(D_BITS))
+}
+
+/// The first two fields of an input of at least two bytes.
+fn edition_and_count(input: &[u8]) -> (u64, u64) {
+    let mut bits = Bits::unpack(&input[..2]);
+    let edition = bits.take(EDITION_BITS as usize);
+    let count = bits.take(COUNT_BITS as usize);
+    (edition, count)
+}
+
+/// Takes a plan block apart, in the order of document 01's questions.
+fn unpack_block(block: &[u8]) -> Result<Vec<Task>, BytesError> {
+    let at = |byte, why| Err(BytesError { byte, why });
+    let length = block.len();
+    if length < 2 {
+        return at(length, Why::TooShort { length });
+    }
+    let (edition, count) = edition_and_count(block);
+    if edition != EDITION {
+        return at(0, Why::Edition(edition));
+    }
+    let needed = block_bytes(count);
+    if length < needed {
+        return at(length, Why::CutBlock { count, needed });
+    }
+    let mut bits = Bits::unpack(block);
+    bits.take((EDITION_BITS + COUNT_BITS) as usize);
+    let mut tasks = Vec::new();
+    for _ in 0..count {
+        let period = bits.take(PERIOD_BITS as usize);
+        let worst = bits.take(WORST_BITS as usize);
+        tasks.push(Task { period, worst });
+    }
+    if !bits.all_zero() {
+        return at(length - 1, Why::ClosingBits);
+    }
+    Ok(tasks)
+}

@@ -1,0 +1,86 @@
+//! `pack`: a plan and passes in plain text to a bench input, and back.
+
+use std::env;
+use std::ffi::{OsStr, OsString};
+use std::process::ExitCode;
+use tools::command::{end, read_input, write_output, Stop};
+use tools::script::Script;
+use tools::{bench, refusal, text};
+
+const USAGE: &str = "usage: pack to-bytes [FILE] | pack to-text [FILE] | pack --help";
+
+const HELP: &str = "\
+pack: a plan and passes in plain text to a bench input, and back
+
+  pack to-bytes [FILE]   text form to bench input, on standard output
+  pack to-text [FILE]    bench input to text form, on standard output
+
+Without FILE, or with -, standard input is read.
+
+The text form, line by line:
+
+  task PERIOD WORST      a task; all tasks come before the passes
+  pass D                 D ticks went by, the running job has not finished
+  finish D               D ticks went by, the running job finished at their end
+  # ...                  a comment, also after one of the above
+
+Blank lines are ignored. Numbers are decimal: PERIOD 0 to 65535, WORST 0 to
+1048575, D 0 to 32767; at most 31 tasks. What the dispatcher would refuse can
+be packed too, as long as it fits; a warning then names the refusal.
+
+Errors name the line of the text (from 1) or the byte of the input (from 0).
+";
+
+fn main() -> ExitCode {
+    let arguments: Vec<OsString> = env::args_os().skip(1).collect();
+    end("pack", USAGE, run(&arguments))
+}
+
+fn run(arguments: &[OsString]) -> Result<(), Stop> {
+    let words: Vec<&OsStr> = arguments.iter().map(OsString::as_os_str).collect();
+    if words.iter().any(|word| *word == "--help" || *word == "-h") {
+        return write_output(HELP.as_bytes());
+    }
+    let (action, file) = match words[..] {
+        [action] => (action, None),
+        [action, file] => (action, Some(file)),
+        _ => return Err(Stop::Usage("one action and at most one file".to_string())),
+    };
+    match action.to_str() {
+        Some("to-bytes") => to_bytes(file),
+        Some("to-text") => to_text(file),
+        _ => Err(Stop::Usage(format!("unknown action {action:?}"))),
+    }
+}
+
+fn to_bytes(file: Option<&OsStr>) -> Result<(), Stop> {
+    let input = read_input(file)?;
+    // A comment may have any bytes in it.
+    let script =
+        text::parse(&String::from_utf8_lossy(&input)).map_err(|error| failure(file, error))?;
+    warn(&script);
+    write_output(&bench::to_bytes(&script))
+}
+
+fn to_text(file: Option<&OsStr>) -> Result<(), Stop> {
+    let input = read_input(file)?;
+    let script = bench::from_bytes(&input).map_err(|error| failure(file, error))?;
+    warn(&script);
+    write_output(text::write(&script).as_bytes())
+}
+
+fn failure(file: Option<&OsStr>, error: impl std::fmt::Display) -> Stop {
+    let place = match file {
+        Some(path) if path != "-" => path.to_string_lossy().into_owned(),
+        _ => "standard input".to_string(),
+    };
+    Stop::Failure(format!("{place}: {error}"))
+}
+
+/// Names the refusal if the bench program would take no pass of this.
+fn warn(script: &Script) {
+    if let Some(number) = bench::refusal(script) {
+        let meaning = refusal::meaning(number);
+        eprintln!("pack: warning: the bench program refuses this with {number}: {meaning}");
+    }
+}

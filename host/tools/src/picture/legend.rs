@@ -1,0 +1,82 @@
+//! What the signs mean.
+
+use super::style::{
+    arrival_mark, bar, canonical_bar, deadline_mark, finish_mark, idle_bar, level_height,
+    nominal_line, ordered_box, refused_mark, soft_words, text_width, unused_box, words, INK,
+    LEVELS,
+};
+use crate::svg::Element;
+use sim::plan::SPEEDS;
+
+const SIZE: f64 = 10.0;
+const LINE: f64 = 22.0;
+const SIGN: f64 = 26.0;
+const GAP: f64 = 22.0;
+const SWATCH: f64 = 26.0;
+const SCALE: f64 = 24.0;
+
+/// A sign drawn into a box with this left edge and this middle line, and its meaning.
+type Item = (fn(f64, f64) -> Element, &'static str);
+
+const ITEMS: [Item; 9] = [
+    (|x, y| arrival_mark(x + 13.0, y - 4.0), "arrival of a job"),
+    (|x, y| deadline_mark(x + 13.0, y + 4.0), "deadline of a job"),
+    (|x, y| finish_mark(x + 13.0, y), "the job finished"),
+    (
+        |x, y| unused_box(x, y - 6.0, 24.0, 12.0),
+        "unused: the job ended so many ticks early",
+    ),
+    (
+        |x, y| ordered_box(x, y - 6.0, 24.0, 12.0, LEVELS[5]),
+        "ordered, not run yet",
+    ),
+    (
+        |x, y| canonical_bar(x, y - 4.0, 24.0, 8.0),
+        "canonical (\u{201c}plain\u{201d}) schedule",
+    ),
+    (|x, y| nominal_line(x, x + 24.0, y), "nominal level"),
+    (|x, y| idle_bar(x, y - 6.0, 24.0, 12.0), "idle"),
+    (
+        |x, y| refused_mark(x + 13.0, y),
+        "refused pass, with its number",
+    ),
+];
+
+/// The legend and its height.
+pub fn draw(left: f64, top: f64, right: f64) -> (Element, f64) {
+    let mut group = Element::new("g").set("class", "legend");
+    add_levels(left, top, &mut group);
+    let (mut x, mut y) = (left, top + SCALE + 2.0 * LINE + 4.0);
+    for (sign, meaning) in ITEMS {
+        let width = SIGN + 4.0 + text_width(meaning, SIZE);
+        if x + width > right && x > left {
+            x = left;
+            y += LINE;
+        }
+        group.add(sign(x, y));
+        group.add(soft_words(x + SIGN + 4.0, y + 3.5, SIZE, meaning));
+        x += width + GAP;
+    }
+    (group, y + 10.0 - top)
+}
+
+/// The eight levels side by side, each in its height and colour, with number and speed.
+fn add_levels(left: f64, top: f64, group: &mut Element) {
+    let base = top + SCALE;
+    let first = left + 44.0;
+    group.add(soft_words(left, base + 13.0, SIZE, "level"));
+    group.add(soft_words(left, base + 25.0, SIZE, "speed"));
+    for (level, speed) in SPEEDS.iter().enumerate() {
+        let x = first + level as f64 * (SWATCH + 2.0);
+        let middle = x + SWATCH / 2.0;
+        let high = level_height(level, SCALE);
+        group.add(bar(x, base - high, SWATCH, high, level).set("stroke", INK));
+        let number = words(middle, base + 13.0, SIZE, &format!("L{level}"));
+        group.add(number.set("text-anchor", "middle"));
+        let speed = soft_words(middle, base + 25.0, SIZE, &speed.to_string());
+        group.add(speed.set("text-anchor", "middle"));
+    }
+    let x = first + SPEEDS.len() as f64 * (SWATCH + 2.0) + 10.0;
+    let text = "a bar is as high as its level is fast: its area is the work done";
+    group.add(soft_words(x, base + 13.0, SIZE, text));
+}

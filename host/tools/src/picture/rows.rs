@@ -1,0 +1,306 @@
+//! The rows of the tasks, and the row of idle time below them.
+
+use super::style::{
+    arrival_mark, bar, canonical_bar, deadline_mark, finish_mark, idle_bar, level_height, line,
+    narrow_idle_bar, nominal_line, ordered_box, soft_words, text_width, ticks, unused_box, words,
+    INK, LEVELS, SHADE,
+};
+use super::{View, LEFT, MARGIN};
+use crate::run::{Span, Stretch};
+use crate::svg::Element;
+use sim::dispatch::Order;
+use sim::plan::SPEEDS;
+use sim::schedule::allotment;
+
+/// From the top of a row: arrivals and labels, bars, the canonical strip, deadlines.
+const HEAD: f64 = 22.0;
+const BAR: f64 = 48.0;
+const STRIP_GAP: f64 = 5.0;
+const STRIP: f64 = 8.0;
+const FOOT: f64 = 22.0;
+const ROW: f64 = HEAD + BAR + STRIP_GAP + STRIP + FOOT;
+
+const IDLE_BAR: f64 = 16.0;
+const IDLE_ROW: f64 = 34.0;
+
+const LABEL_SIZE: f64 = 10.0;
+
+/// Arrivals closer together than this are not marked; bars narrower than this have no outline and
+/// no hint.
+const CLOSEST_MARKS: f64 = 6.0;
+/// Canonical turns with a gap narrower than this become one.
+const SMALLEST_GAP: f64 = 0.3;
+/// Unused time narrower than this would be all outline.
+const NARROWEST_BOX: f64 = 2.0;
+
+pub fn height(view: &View) -> f64 {
+    view.run.tasks.len() as f64 * ROW + IDLE_ROW
+}
+
+pub fn draw(view: &View, top: f64, body: &mut Element) {
+    for task in 0..view.run.tasks.len() {
+        body.add(Row::new(view, task, top + task as f64 * ROW).draw());
+    }
+    body.add(idle_row(view, top + view.run.tasks.len() as f64 * ROW));
+}
+
+struct Row<'a> {
+    view: &'a View<'a>,
+    task: usize,
+    top: f64,
+    base: f64,
+    strip: f64,
+}
+
+impl Row<'_> {
+    fn new<'a>(view: &'a View<'a>, task: usize, top: f64) -> Row<'a> {
+        let base = top + HEAD + BAR;
+        Row {
+            view,
+            task,
+            top,
+            base,
+            strip: base + STRIP_GAP,
+        }
+    }
+
+    fn draw(&self) -> Element {
+        let mut group = Element::new("g").set("class", format!("task-{}", self.task));
+        self.add_names(&mut group);
+        self.add_lines(&mut group);
+        self.add_canonical(&mut group);
+        for stretch in &self.view.run.stretches {
+            if stretch.task == self.task {
+                self.add_unused(stretch, &mut group);
+                self.add_bar(stretch, &mut group);
+            }
+        }
+        self.add_order(&mut group);
+        self.add_marks(&mut group);
+        group
+    }
+
+    fn add_names(&self, group: &mut Element) {
+        let task = self.view.run.tasks[self.task];
+        let name = format!("task {}", self.task);
+        group.add(words(MARGIN, self.top + 26.0, 13.0, &name).set("font-weight", "bold"));
+        let ticks = allotment(&task, self.view.run.judged.nominal);
+        let figures = [
+            format!("period {}", task.period),
+            format!("worst case {}", task.worst),
+            format!("allotment {ticks}"),
+        ];
+        for (place, text) in figures.iter().enumerate() {
+            let y = self.top + 41.0 + 13.0 * place as f64;
+            group.add(soft_words(MARGIN, y, LABEL_SIZE, text));
+        }
+        let strip = soft_words(LEFT - 8.0, self.strip + STRIP, 9.0, "canonical");
+        group.add(strip.set("text-anchor", "end"));
+    }
+
+    fn add_lines(&self, group: &mut Element) {
+        let (left, right) = (self.view.scale.left(), self.view.scale.right());
+        let nominal = self.base - level_height(self.view.run.judged.nominal, BAR);
+        group.add(nominal_line(left, right, nominal));
+        group.add(line(left, self.base, right, self.base, INK).set("stroke-opacity", 0.5));
+    }
+
+    /// The canonical turns as a faint strip beneath the bars.
+    fn add_canonical(&self, group: &mut Element) {
+        let scale = &self.view.scale;
+        let mut drawn: Option<(f64, f64)> = None;
+        for turn in self.view.turns.iter().filter(|turn| turn.task == self.task) {
+            let (from, to) = (scale.x(turn.span.from), scale.x(turn.span.to));
+            drawn = match drawn {
+                Some((first, last)) if from - last < SMALLEST_GAP => Some((first, to)),
+                earlier => {
+                    self.add_turn(earlier, group);
+                    Some((from, to))
+                }
+            };
+        }
+        self.add_turn(drawn, group);
+    }
+
+    fn add_turn(&self, turn: Option<(f64, f64)>, group: &mut Element) {
+        if let Some((from, to)) = turn {
+            group.add(canonical_bar(from, self.strip, to - from, STRIP));
+        }
+    }
+
+    /// Where a job that ended early would have run on to, at its level.
+    fn add_unused(&self, stretch: &Stretch, group: &mut Element) {
+        let unused = Span {
+            from: stretch.span.to,
+            to: stretch.span.to + stretch.early.unwrap_or(0),
+        };
+        let Some(shown) = unused.within(self.view.window) else {
+            return;
+        };
+        let (x, width) = self.place(shown);
+        if width < NARROWEST_BOX {
+            return;
+        }
+        let high = level_height(stretch.level, BAR);
+        let ended = format!(
+            "the job ended {} before its worst case at level {}",
+            ticks(unused.ticks()),
+            stretch.level
+        );
+        group.add(unused_box(x, self.base - high, width, high).hint(&ended));
+        let early = unused.ticks();
+        self.add_label(
+            x,
+            width,
+            high,
+            &[format!("{early} early"), early.to_string()],
+            group,
+        );
+    }
+
+    fn add_bar(&self, stretch: &Stretch, group: &mut Element) {
+        let Some(shown) = stretch.span.within(self.view.window) else {
+            return;
+        };
+        let (x, width) = self.place(shown);
+        let high = level_height(stretch.level, BAR);
+        let mut drawn = bar(x, self.base - high, width, high, stretch.level);
+        if width >= CLOSEST_MARKS {
+            drawn = drawn.set("stroke", INK).hint(&story(stretch));
+        }
+        group.add(drawn);
+        let ends_here = stretch.early.is_some() && shown.to == stretch.span.to;
+        if ends_here && self.view.scale.has_room_for_finishes() {
+            group.add(finish_mark(x + width, self.base - high));
+        }
+        self.add_label(x, width, high, &[format!("L{}", stretch.level)], group);
+    }
+
+    /// The last order, if it is for this task.
+    fn add_order(&self, group: &mut Element) {
+        let run = self.view.run;
+        let Order::Run { task, level, hold } = run.order else {
+            return;
+        };
+        let span = Span {
+            from: run.clock,
+            to: run.end_of_order(),
+        };
+        let Some(shown) = span.within(self.view.window) else {
+            return;
+        };
+        if usize::from(task) != self.task {
+            return;
+        }
+        let (x, width) = self.place(shown);
+        let level = usize::from(level);
+        let high = level_height(level, BAR);
+        let order = format!("the last order: level {level}, hold {hold}");
+        let drawn = ordered_box(x, self.base - high, width, high, LEVELS[level]);
+        group.add(drawn.hint(&order));
+        self.add_label(
+            x,
+            width,
+            high,
+            &[format!("L{level} ordered"), format!("L{level}")],
+            group,
+        );
+    }
+
+    /// Arrivals above the bars, deadlines below the strip. The deadline of a job is the arrival of
+    /// the next one, so a line joins them.
+    fn add_marks(&self, group: &mut Element) {
+        let period = self.view.run.tasks[self.task].period;
+        if self.view.scale.width(period) < CLOSEST_MARKS {
+            let y = self.top + HEAD - 4.0;
+            let text = "arrivals and deadlines are too close to be marked";
+            group.add(soft_words(LEFT + 4.0, y, LABEL_SIZE, text));
+            return;
+        }
+        let (high, low) = (self.top + 4.0, self.strip + STRIP + 12.0);
+        for tick in self.view.scale.multiples(period) {
+            let x = self.view.scale.x(tick);
+            let arrives = tick < self.view.window.to;
+            let is_due = tick > 0;
+            let from = if arrives { high } else { self.top + HEAD };
+            let to = if is_due { low } else { self.strip + STRIP };
+            group.add(line(x, from, x, to, INK).set("stroke-width", 0.8));
+            if arrives {
+                group.add(arrival_mark(x, high));
+            }
+            if is_due {
+                group.add(deadline_mark(x, low));
+            }
+        }
+    }
+
+    /// Where a span stands, and how wide it is.
+    fn place(&self, span: Span) -> (f64, f64) {
+        place(self.view, span)
+    }
+
+    /// Over something of this place and height, the first label that there is room for, if any.
+    fn add_label(&self, x: f64, width: f64, high: f64, choice: &[String], group: &mut Element) {
+        let fits = |text: &&String| text_width(text, LABEL_SIZE) + 12.0 <= width;
+        let Some(text) = choice.iter().find(fits) else {
+            return;
+        };
+        // Where the nominal line would run through the label, the label goes above the line.
+        let nominal = level_height(self.view.run.judged.nominal, BAR);
+        let under = if (high..high + 14.0).contains(&nominal) {
+            nominal
+        } else {
+            high
+        };
+        let label = words(x + width / 2.0, self.base - under - 4.0, LABEL_SIZE, text);
+        group.add(label.set("class", "label").set("text-anchor", "middle"));
+    }
+}
+
+/// What there is to say about a stretch.
+fn story(stretch: &Stretch) -> String {
+    let ending = match stretch.early {
+        Some(_) => "finished",
+        None => "not finished",
+    };
+    format!(
+        "task {}, job of tick {}: ran from tick {} to {} at level {} (speed {}), {ending}",
+        stretch.task,
+        stretch.arrival,
+        stretch.span.from,
+        stretch.span.to,
+        stretch.level,
+        SPEEDS[stretch.level]
+    )
+}
+
+fn place(view: &View, span: Span) -> (f64, f64) {
+    let x = view.scale.x(span.from);
+    (x, view.scale.x(span.to) - x)
+}
+
+fn idle_row(view: &View, top: f64) -> Element {
+    let y = top + 6.0;
+    let mut group = Element::new("g").set("class", "idle-row");
+    group.add(words(MARGIN, y + 13.0, 13.0, "idle").set("font-weight", "bold"));
+    for span in &view.run.idle {
+        if let Some(shown) = span.within(view.window) {
+            let (x, width) = place(view, shown);
+            let hint = format!("idle from tick {} to {}", span.from, span.to);
+            group.add(match width < CLOSEST_MARKS {
+                true => narrow_idle_bar(x, y, width, IDLE_BAR),
+                false => idle_bar(x, y, width, IDLE_BAR).hint(&hint),
+            });
+        }
+    }
+    let span = Span {
+        from: view.run.clock,
+        to: view.run.end_of_order(),
+    };
+    if let (Order::Idle { hold }, Some(shown)) = (view.run.order, span.within(view.window)) {
+        let (x, width) = place(view, shown);
+        let drawn = ordered_box(x, y, width, IDLE_BAR, SHADE);
+        group.add(drawn.hint(&format!("the last order: idle, hold {hold}")));
+    }
+    group
+}

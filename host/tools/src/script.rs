@@ -1,0 +1,28 @@
+//! A plan and passes, as both the text form and the bench input say them.
+
+use sim::plan::Task;
+
+/// The widths of the fields, in bits.
+pub const COUNT_BITS: u32 = 5;
+pub const PERIOD_BITS: u32 = 16;
+pub const WORST_BITS: u32 = 20;
+pub const D_BITS: u32 = 15;
+
+/// The largest number that a field of so many bits can hold.
+pub const fn largest(bits: u32) -> u64 {
+    (1 << bits) - 1
+}
+
+/// One pass: d ticks went by, and the running job finished at their end or didn't.
+#[derive(Clone, Copy, PartialEq, Eq, Debug)]
+pub struct Pass {
+    pub d: u32,
+    pub finished: bool,
+}
+
+/// Every number in it fits its field. Nothing else is asked: the dispatcher may refuse it all.
+#[derive(Clone, PartialEq, Eq, Debug, Default)]
+pub struct Script {
+    pub tasks: Vec<Task>,
+    pub passes: Vec<Pass>,
+}

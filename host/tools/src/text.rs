@@ -1,0 +1,150 @@
+//! The text form: `task PERIOD WORST` lines, then `pass D` and `finish D` lines. `#` starts a
+//! comment, and blank lines say nothing.
+
+use crate::script::{largest, Pass, Script, COUNT_BITS, D_BITS, PERIOD_BITS, WORST_BITS};
+use sim::plan::Task;
+use std::fmt;
+
+/// What is wrong with a line.
+#[derive(Clone, PartialEq, Eq, Debug)]
+pub enum Mistake {
+    UnknownWord(String),
+    Missing(&'static str),
+    NotANumber(&'static str, String),
+    OutOfRange(&'static str, String, u32),
+    LeftOver(String),
+    TooManyTasks,
+    TaskAfterPass,
+}
+
+/// A mistake and its line, the first line being 1.
+#[derive(Clone, PartialEq, Eq, Debug)]
+pub struct TextError {
+    pub line: usize,
+    pub mistake: Mistake,
+}
+
+impl fmt::Display for Mistake {
+    fn fmt(&self, out: &mut fmt::Formatter) -> fmt::Result {
+        match self {
+            Mistake::UnknownWord(word) => write!(
+                out,
+                "unknown word {word:?}; a line begins with task, pass or finish"
+            ),
+            Mistake::Missing(field) => write!(out, "the {field} is missing"),
+            Mistake::NotANumber(field, word) => {
+                write!(out, "the {field} {word:?} is not a decimal number")
+            }
+            Mistake::OutOfRange(field, word, bits) => write!(
+                out,
+                "the {field} {word} is out of range: its {bits} bits hold 0 to {}",
+                largest(*bits)
+            ),
+            Mistake::LeftOver(word) => write!(out, "{word:?} is one word too many"),
+            Mistake::TooManyTasks => write!(
+                out,
+                "one task too many: the {COUNT_BITS} bits of the count hold 0 to {}",
+                largest(COUNT_BITS)
+            ),
+            Mistake::TaskAfterPass => write!(out, "a task after a pass; all tasks come first"),
+        }
+    }
+}
+
+impl fmt::Display for TextError {
+    fn fmt(&self, out: &mut fmt::Formatter) -> fmt::Result {
+        write!(out, "line {}: {}", self.line, self.mistake)
+    }
+}
+
+/// Reads the text form. The first mistake ends it.
+pub fn parse(text: &str) -> Result<Script, TextError> {
+    let mut script = Script::default();
+    for (place, line) in text.lines().enumerate() {
+        enter_line(&mut script, line).map_err(|mistake| TextError {
+            line: place + 1,
+            mistake,
+        })?;
+    }
+    Ok(script)
+}
+
+/// Writes the text form: the tasks, a blank line, the passes.
+pub fn write(script: &Script) -> String {
+    let mut text = String::new();
+    for task in &script.tasks {
+        text += &format!("task {} {}\n", task.period, task.worst);
+    }
+    if !script.tasks.is_empty() && !script.passes.is_empty() {
+        text += "\n";
+    }
+    for pass in &script.passes {
+        let word = if pass.finished { "finish" } else { "pass" };
+        text += &format!("{word} {}\n", pass.d);
+    }
+    text
+}
+
+fn enter_line(script: &mut Script, line: &str) -> Result<(), Mistake> {
+    let mut words = before_comment(line).split_whitespace();
+    let Some(first) = words.next() else {
+        return Ok(());
+    };
+    match first {
+        "task" => enter_task(script, &mut words)?,
+        "pass" => enter_pass(script, &mut words, false)?,
+        "finish" => enter_pass(script, &mut words, true)?,
+        other => return Err(Mistake::UnknownWord(other.to_string())),
+    }
+    match words.next() {
+        Some(word) => Err(Mistake::LeftOver(word.to_string())),
+        None => Ok(()),
+    }
+}
+
+fn before_comment(line: &str) -> &str {
+    line.split('#').next().unwrap_or("")
+}
+
+fn enter_task<'a>(
+    script: &mut Script,
+    words: &mut impl Iterator<Item = &'a str>,
+) -> Result<(), Mistake> {
+    if !script.passes.is_empty() {
+        return Err(Mistake::TaskAfterPass);
+    }
+    if script.tasks.len() as u64 == largest(COUNT_BITS) {
+        return Err(Mistake::TooManyTasks);
+    }
+    let period = number(words, "period", PERIOD_BITS)?;
+    let worst = number(words, "worst case", WORST_BITS)?;
+    script.tasks.push(Task { period, worst });
+    Ok(())
+}
+
+fn enter_pass<'a>(
+    script: &mut Script,
+    words: &mut impl Iterator<Item = &'a str>,
+    finished: bool,
+) -> Result<(), Mistake> {
+    let d = number(words, "d", D_BITS)? as u32;
+    script.passes.push(Pass { d, finished });
+    Ok(())
+}
+
+/// The next word as a number of at most so many bits. Digits only: no sign, no separators.
+fn number<'a>(
+    words: &mut impl Iterator<Item = &'a str>,
+    field: &'static str,
+    bits: u32,
+) -> Result<u64, Mistake> {
+    let word = words.next().ok_or(Mistake::Missing(field))?;
+    if !word.bytes().all(|byte| byte.is_ascii_digit()) {
+        return Err(Mistake::NotANumber(field, word.to_string()));
+    }
+    // Digits that are too many even for the parser are out of range as well.
+    match word.parse::<u64>() {
+        Ok(number) if number <= largest(bits) => Ok(number),
+        _ => Err(Mistake::OutOfRange(field, word.to_string(), bits)),
+    }
+}

@@ -1,0 +1,90 @@
+//! The turns of the canonical schedule, against the simulator's own book of it.
+
+use crate::common::tasks;
+use sim::plan::{judge_list, Task};
+use sim::random::plans::{full_plan, plan_at_level_within, SMALL_BASES};
+use sim::random::Random;
+use sim::{Order, PlainBook};
+use tools::canonical::{turns_within, Turn};
+use tools::run::Span;
+
+/// Which job gets each tick, told by the book fed one tick at a time: the one with a tick less
+/// left afterwards.
+fn by_the_book(plan: &[Task], ticks: u64) -> Vec<Option<(usize, u64)>> {
+    let mut book = PlainBook::new(plan);
+    let mut got = Vec::new();
+    for _ in 0..ticks {
+        let before = book.open_jobs();
+        book.pass(1, Ok(Order::Idle { hold: 1 }));
+        let after = book.open_jobs();
+        let served = before.iter().find(|job| !after.contains(job));
+        got.push(served.map(|job| (job.task, job.arrival)));
+        book.forget_closed();
+    }
+    got
+}
+
+fn by_the_turns(turns: &[Turn], window: Span) -> Vec<Option<(usize, u64)>> {
+    let mut got = vec![None; window.ticks() as usize];
+    for turn in turns {
+        for tick in turn.span.from..turn.span.to {
+            let place = &mut got[(tick - window.from) as usize];
+            assert_eq!(*place, None, "one tick given twice");
+            *place = Some((turn.task, turn.arrival));
+        }
+    }
+    got
+}
+
+#[track_caller]
+fn agrees(plan: &[Task], from: u64, to: u64) {
+    let window = Span { from, to };
+    let turns = turns_within(plan, judge_list(plan).unwrap(), window);
+    let expected = by_the_book(plan, to);
+    assert_eq!(by_the_turns(&turns, window), expected[from as usize..]);
+    for pair in turns.windows(2) {
+        let joined = pair[0].span.to == pair[1].span.from;
+        let same = (pair[0].task, pair[0].arrival) == (pair[1].task, pair[1].arrival);
+        assert!(!(joined && same), "one turn in two pieces: {pair:?}");
+    }
+}
+
+#[test]
+fn windows_of_random_plans() {
+    let mut random = Random::new(21);
+    for round in 0..200 {
+        let level = random.place(8);
+        let base = random.pick(&SMALL_BASES);
+        let plan = match round % 2 {
+            0 => plan_at_level_within(&mut random, level, base),
+            _ => full_plan(&mut random, level),
+        };
+        let hyperperiod = judge_list(&plan).unwrap().hyperperiod;
+        // Up to three hyperperiods, within bounds; the book is slow.
+        let to = random.between(1, (3 * hyperperiod).min(1_500));
+        let from = random.below(to);
+        agrees(&plan, from, to);
+    }
+}
+
+#[test]
+fn the_example() {
+    let plan = tasks(&[(10, 400), (10, 400), (30, 600)]);
+    agrees(&plan, 0, 90);
+    let turns = turns_within(&plan, judge_list(&plan).unwrap(), Span { from: 0, to: 30 });
+    let spans: Vec<(usize, u64, u64)> = turns
+        .iter()
+        .map(|turn| (turn.task, turn.span.from, turn.span.to))
+        .collect();
+    let expected = [
+        (0, 0, 4),
+        (1, 4, 8),
+        (2, 8, 10),
+        (0, 10, 14),
+        (1, 14, 18),
+        (2, 18, 22),
+        (0, 22, 26),
+        (1, 26, 30),
+    ];
+    assert_eq!(spans, expected);
+}

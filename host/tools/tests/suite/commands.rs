@@ -1,0 +1,162 @@
+//! The two commands as a technician calls them.
+
+use crate::common::{EXAMPLE, EXAMPLE_TEXT};
+use crate::pictures::picture;
+use std::io::Write;
+use std::process::{Command, Stdio};
+
+struct Ended {
+    status: Option<i32>,
+    out: Vec<u8>,
+    said: String,
+}
+
+fn call(program: &str, arguments: &[&str], input: &[u8]) -> Ended {
+    let mut child = Command::new(program)
+        .args(arguments)
+        .stdin(Stdio::piped())
+        .stdout(Stdio::piped())
+        .stderr(Stdio::piped())
+        .spawn()
+        .unwrap();
+    // A command that wants no input may have ended already.
+    let _ = child.stdin.take().unwrap().write_all(input);
+    let output = child.wait_with_output().unwrap();
+    Ended {
+        status: output.status.code(),
+        out: output.stdout,
+        said: String::from_utf8(output.stderr).unwrap(),
+    }
+}
+
+fn pack(arguments: &[&str], input: &[u8]) -> Ended {
+    call(env!("CARGO_BIN_EXE_pack"), arguments, input)
+}
+
+fn timeline(arguments: &[&str], input: &[u8]) -> Ended {
+    call(env!("CARGO_BIN_EXE_timeline"), arguments, input)
+}
+
+/// A command that did its work and said nothing.
+#[track_caller]
+fn gives(ended: Ended, expected: &[u8]) {
+    assert_eq!((ended.status, ended.said.as_str()), (Some(0), ""));
+    assert_eq!(ended.out, expected);
+}
+
+/// A command that wrote nothing and said this.
+#[track_caller]
+fn stops(ended: Ended, status: i32, said: &str) {
+    assert_eq!((ended.status, ended.said.trim_end()), (Some(status), said));
+    assert_eq!(ended.out, b"");
+}
+
+#[test]
+fn pack_there_and_back() {
+    gives(pack(&["to-bytes"], EXAMPLE_TEXT.as_bytes()), &EXAMPLE);
+    gives(pack(&["to-text"], &EXAMPLE), EXAMPLE_TEXT.as_bytes());
+    gives(pack(&["to-bytes", "-"], EXAMPLE_TEXT.as_bytes()), &EXAMPLE);
+    let file = concat!(env!("CARGO_MANIFEST_DIR"), "/example.txt");
+    gives(pack(&["to-bytes", file], b""), &EXAMPLE);
+}
+
+#[test]
+fn pack_names_the_line_or_the_byte() {
+    let line = "pack: standard input: line 2: the worst case is missing";
+    stops(pack(&["to-bytes"], b"\ntask 1"), 1, line);
+    let byte = "pack: standard input: byte 27: an odd byte is left; a pass has two";
+    stops(pack(&["to-text"], &[&EXAMPLE[..], &[0]].concat()), 1, byte);
+}
+
+#[test]
+fn pack_takes_any_bytes_in_a_comment() {
+    let text = b"task 40 300 # \xff\xfe\n";
+    gives(
+        pack(&["to-bytes"], text),
+        &[0x10, 0x80, 0x14, 0x00, 0x09, 0x60],
+    );
+    assert_eq!(pack(&["to-bytes"], b"t\xffsk 1 1").status, Some(1));
+}
+
+#[test]
+fn pack_warns_of_a_plan_that_is_refused() {
+    let warning = "pack: warning: the bench program refuses this with 6: a period or a worst case \
+                   is out of range\n";
+    let ended = pack(&["to-bytes"], b"task 0 300\n");
+    assert_eq!((ended.status, ended.said.as_str()), (Some(0), warning));
+    assert_eq!(ended.out, [0x10, 0x80, 0x00, 0x00, 0x09, 0x60]);
+    let back = pack(&["to-text"], &ended.out);
+    assert_eq!((back.status, back.said.as_str()), (Some(0), warning));
+    assert_eq!(back.out, b"task 0 300\n");
+}
+
+#[test]
+fn timeline_draws_the_picture() {
+    let expected = picture(&EXAMPLE, None, None);
+    gives(timeline(&[], &EXAMPLE), expected.as_bytes());
+    let cut = picture(&EXAMPLE, Some(4), Some(12));
+    gives(
+        timeline(&["--to", "12", "-", "--from", "4"], &EXAMPLE),
+        cut.as_bytes(),
+    );
+}
+
+#[test]
+fn timeline_stops_where_the_bench_program_does() {
+    let refused =
+        "timeline: the input is refused with 4: the plan block's length is not the count's";
+    stops(timeline(&[], &EXAMPLE[..14]), 1, refused);
+    let nothing = "timeline: nothing to draw from tick 25 to tick 25";
+    stops(timeline(&["--from", "25"], &EXAMPLE), 1, nothing);
+}
+
+#[test]
+fn wrong_command_lines() {
+    for arguments in [&[][..], &["to-hex"], &["to-bytes", "a", "b"]] {
+        let ended = pack(arguments, b"");
+        assert_eq!(ended.status, Some(2));
+        assert!(ended.said.contains("usage: pack"));
+        assert_eq!(ended.out, b"");
+    }
+    for arguments in [
+        &["--from"][..],
+        &["--to", "x"],
+        &["--form", "1"],
+        &["a", "b"],
+    ] {
+        let ended = timeline(arguments, b"");
+        assert_eq!(ended.status, Some(2));
+        assert!(ended.said.contains("usage: timeline"));
+        assert_eq!(ended.out, b"");
+    }
+}
+
+#[test]
+fn files_that_are_not_there() {
+    for ended in [
+        pack(&["to-text", "no/such"], b""),
+        timeline(&["no/such"], b""),
+    ] {
+        assert_eq!((ended.status, ended.out), (Some(1), Vec::new()));
+        assert!(ended.said.contains("no/such: "), "{}", ended.said);
+    }
+}
+
+#[test]
+fn help_says_the_text_form_and_the_options() {
+    let help = String::from_utf8(pack(&["--help"], b"").out).unwrap();
+    for part in [
+        "to-bytes",
+        "to-text",
+        "task PERIOD WORST",
+        "pass D",
+        "finish D",
+        "# ...",
+    ] {
+        assert!(help.contains(part), "{part}");
+    }
+    let help = String::from_utf8(timeline(&["--help"], b"").out).unwrap();
+    for part in ["--from T", "--to T", "FILE"] {
+        assert!(help.contains(part), "{part}");
+    }
+}

@@ -1,0 +1,68 @@
+//! What several tests need.
+
+use sim::plan::Task;
+use sim::random::blocks::bench_input;
+use sim::random::plans::{plan_at_level_within, SMALL_BASES};
+use sim::random::Random;
+use tools::script::{largest, Pass, Script};
+
+/// Document 01's example: the block, then 8001 8007 8002 8004 8004 0002.
+pub const EXAMPLE: [u8; 27] = [
+    0x11, 0x80, 0x05, 0x00, 0x0c, 0x80, 0x00, 0x50, 0x00, 0xc8, 0x00, 0x0f, 0x00, 0x12, 0xc0, 0x80,
+    0x01, 0x80, 0x07, 0x80, 0x02, 0x80, 0x04, 0x80, 0x04, 0x00, 0x02,
+];
+
+pub const EXAMPLE_BLOCK: usize = 15;
+
+pub const EXAMPLE_TEXT: &str = "\
+task 10 400
+task 10 400
+task 30 600
+
+finish 1
+finish 7
+finish 2
+finish 4
+finish 4
+pass 2
+";
+
+pub fn tasks(pairs: &[(u64, u64)]) -> Vec<Task> {
+    let task = |(period, worst): &(u64, u64)| Task {
+        period: *period,
+        worst: *worst,
+    };
+    pairs.iter().map(task).collect()
+}
+
+/// Any script that fits its fields: most plans in it are refused.
+pub fn any_script(random: &mut Random) -> Script {
+    let field = |random: &mut Random, bits: u32| match random.below(4) {
+        0 => 0,
+        1 => largest(bits),
+        _ => random.between(0, largest(bits)),
+    };
+    let mut script = Script::default();
+    for _ in 0..random.below(32) {
+        script.tasks.push(Task {
+            period: field(random, 16),
+            worst: field(random, 20),
+        });
+    }
+    for _ in 0..random.below(40) {
+        script.passes.push(Pass {
+            d: field(random, 15) as u32,
+            finished: random.one_in(2),
+        });
+    }
+    script
+}
+
+/// A bench input with an accepted plan of short periods; most of its passes are accepted, some are
+/// refused, and now and then an odd byte is left.
+pub fn any_run(random: &mut Random, passes: usize) -> Vec<u8> {
+    let level = random.place(8);
+    let base = random.pick(&SMALL_BASES[4..]);
+    let plan = plan_at_level_within(random, level, base);
+    bench_input(random, &plan, passes)
+}

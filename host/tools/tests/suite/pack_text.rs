@@ -1,0 +1,148 @@
+//! The text form: what it says, and each mistake with its line.
+
+use crate::common::{tasks, EXAMPLE, EXAMPLE_TEXT};
+use tools::bench::{from_bytes, to_bytes};
+use tools::script::{Pass, Script};
+use tools::text::{parse, write};
+
+#[track_caller]
+fn fails(text: &str, message: &str) {
+    assert_eq!(parse(text).unwrap_err().to_string(), message);
+}
+
+#[test]
+fn the_example_both_ways() {
+    let script = parse(EXAMPLE_TEXT).unwrap();
+    assert_eq!(to_bytes(&script), EXAMPLE);
+    assert_eq!(write(&from_bytes(&EXAMPLE).unwrap()), EXAMPLE_TEXT);
+}
+
+#[test]
+fn the_example_file_is_the_example() {
+    let script = parse(include_str!("../../example.txt")).unwrap();
+    assert_eq!(to_bytes(&script), EXAMPLE);
+}
+
+#[test]
+fn the_block_that_document_01_shows() {
+    let script = parse("task 40 300").unwrap();
+    assert_eq!(to_bytes(&script), [0x10, 0x80, 0x14, 0x00, 0x09, 0x60]);
+}
+
+#[test]
+fn comments_blank_lines_and_spaces_say_nothing() {
+    let text = "# all\r\n\n  task\t40   300 # one\n#task 1 1\n   \npass 3#x\n\nfinish 007";
+    let passes = [(3, false), (7, true)].map(|(d, finished)| Pass { d, finished });
+    let expected = Script {
+        tasks: tasks(&[(40, 300)]),
+        passes: passes.to_vec(),
+    };
+    assert_eq!(parse(text), Ok(expected));
+    assert_eq!(parse(""), Ok(Script::default()));
+    assert_eq!(parse("# only\n\n"), Ok(Script::default()));
+}
+
+#[test]
+fn unknown_words() {
+    let rest = "a line begins with task, pass or finish";
+    fails("tsk 1 2", &format!("line 1: unknown word \"tsk\"; {rest}"));
+    fails(
+        "task 1 2\n\n# x\nTask 1 2",
+        &format!("line 4: unknown word \"Task\"; {rest}"),
+    );
+    fails("10 400", &format!("line 1: unknown word \"10\"; {rest}"));
+}
+
+#[test]
+fn numbers_missing() {
+    fails("task", "line 1: the period is missing");
+    fails("task 1 2\ntask 10", "line 2: the worst case is missing");
+    fails("task 10 # 400", "line 1: the worst case is missing");
+    fails("\npass", "line 2: the d is missing");
+    fails("pass 1\nfinish\n", "line 2: the d is missing");
+}
+
+#[test]
+fn not_numbers() {
+    for word in [
+        "ten", "-1", "+1", "1.5", "0x10", "1_000", "1,000", "\u{661}",
+    ] {
+        let quoted = format!("{word:?}");
+        fails(
+            &format!("task {word} 1"),
+            &format!("line 1: the period {quoted} is not a decimal number"),
+        );
+        fails(
+            &format!("\ntask 1 {word}"),
+            &format!("line 2: the worst case {quoted} is not a decimal number"),
+        );
+        fails(
+            &format!("\n\nfinish {word}"),
+            &format!("line 3: the d {quoted} is not a decimal number"),
+        );
+    }
+}
+
+#[test]
+fn numbers_out_of_range() {
+    assert!(parse("task 65535 1048575\npass 32767\nfinish 32767").is_ok());
+    assert!(parse("task 0 0\npass 0\nfinish 0").is_ok());
+    let period = "is out of range: its 16 bits hold 0 to 65535";
+    fails(
+        "task 65536 1",
+        &format!("line 1: the period 65536 {period}"),
+    );
+    let worst = "is out of range: its 20 bits hold 0 to 1048575";
+    fails(
+        "\ntask 1 1048576",
+        &format!("line 2: the worst case 1048576 {worst}"),
+    );
+    let d = "is out of range: its 15 bits hold 0 to 32767";
+    fails("pass 32768", &format!("line 1: the d 32768 {d}"));
+    fails("finish 32768", &format!("line 1: the d 32768 {d}"));
+    // Too many digits for any machine word.
+    let long = "9".repeat(30);
+    fails(
+        &format!("pass {long}"),
+        &format!("line 1: the d {long} {d}"),
+    );
+}
+
+#[test]
+fn words_left_over() {
+    fails("task 1 2 3", "line 1: \"3\" is one word too many");
+    fails(
+        "pass 1\npass 1 finish",
+        "line 2: \"finish\" is one word too many",
+    );
+}
+
+#[test]
+fn tasks_past_the_count() {
+    let most = "task 1 1\n".repeat(31);
+    assert_eq!(parse(&most).unwrap().tasks.len(), 31);
+    fails(
+        &format!("# plan\n{most}task 1 1\n"),
+        "line 33: one task too many: the 5 bits of the count hold 0 to 31",
+    );
+}
+
+#[test]
+fn a_task_after_a_pass() {
+    fails(
+        "task 1 1\npass 1\n\ntask 1 1",
+        "line 4: a task after a pass; all tasks come first",
+    );
+    fails(
+        "finish 1\ntask 1 1",
+        "line 2: a task after a pass; all tasks come first",
+    );
+}
+
+#[test]
+fn the_first_mistake_is_the_one_named() {
+    fails(
+        "pass x\npass",
+        "line 1: the d \"x\" is not a decimal number",
+    );
+}

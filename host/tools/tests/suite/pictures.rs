@@ -1,0 +1,332 @@
+//! The picture, read back from its SVG: bars, idle time, canonical strips, marks.
+
+use crate::common::{any_run, EXAMPLE};
+use crate::told::{told, Ran};
+use crate::xml::{read, Node};
+use sim::plan::SPEEDS;
+use sim::random::Random;
+use sim::{Order, PlainBook};
+use tools::picture::{draw, window};
+use tools::run::{follow, Span};
+
+/// A picture read back, with the scale found from the numbers of its axis.
+pub struct Seen {
+    pub nodes: Vec<Node>,
+    first: (f64, f64),
+    per_tick: f64,
+}
+
+impl Seen {
+    pub fn new(svg: &str) -> Seen {
+        let nodes = read(svg).expect("the picture is well-formed");
+        let numbers: Vec<(f64, f64)> = nodes
+            .iter()
+            .filter(|node| node.is("number"))
+            .map(|node| (node.text.parse().unwrap(), node.number("x")))
+            .collect();
+        let (first, last) = (numbers[0], numbers[numbers.len() - 1]);
+        assert!(last.0 > first.0, "the axis has two numbers at least");
+        Seen {
+            first,
+            per_tick: (last.1 - first.1) / (last.0 - first.0),
+            nodes,
+        }
+    }
+
+    /// The tick at a place, which must be a whole one.
+    #[track_caller]
+    pub fn tick(&self, x: f64) -> u64 {
+        let tick = self.first.0 + (x - self.first.1) / self.per_tick;
+        assert!((tick - tick.round()).abs() < 0.02, "{x} is no whole tick");
+        tick.round() as u64
+    }
+
+    /// The elements of the plot with this class, in the part with that one.
+    pub fn all<'a>(&'a self, class: &'a str, part: &'a str) -> impl Iterator<Item = &'a Node> {
+        self.nodes
+            .iter()
+            .filter(move |node| node.is(class) && node.is_inside(part))
+    }
+
+    fn span(&self, node: &Node) -> (u64, u64) {
+        let x = node.number("x");
+        (self.tick(x), self.tick(x + node.number("width")))
+    }
+
+    fn spans(&self, class: &str, part: &str) -> Vec<(u64, u64)> {
+        self.all(class, part).map(|node| self.span(node)).collect()
+    }
+
+    /// All bars, in the order of time: task, level, from, to.
+    fn bars(&self, tasks: usize) -> Vec<(usize, usize, u64, u64)> {
+        let mut bars = Vec::new();
+        for task in 0..tasks {
+            for node in self.all("bar", &format!("task-{task}")) {
+                let level = (0..8).find(|level| node.is(&format!("level-{level}")));
+                let (from, to) = self.span(node);
+                bars.push((task, level.expect("a bar has a level"), from, to));
+            }
+        }
+        bars.sort_by_key(|bar| bar.2);
+        bars
+    }
+}
+
+pub fn picture(input: &[u8], from: Option<u64>, to: Option<u64>) -> String {
+    let run = follow(input).unwrap();
+    draw(&run, window(&run, from, to).unwrap(), None)
+}
+
+fn count(input: &[u8]) -> usize {
+    follow(input).unwrap().tasks.len()
+}
+
+fn bar_of(ran: &Ran) -> (usize, usize, u64, u64) {
+    (ran.task, ran.level, ran.from, ran.to)
+}
+
+#[test]
+fn a_bar_for_each_stretch_that_ran() {
+    let mut random = Random::new(31);
+    for _ in 0..60 {
+        let input = any_run(&mut random, 40);
+        let seen = Seen::new(&picture(&input, None, None));
+        let told = told(&input);
+        let expected: Vec<_> = told.ran.iter().map(bar_of).collect();
+        assert_eq!(seen.bars(count(&input)), expected);
+        assert_eq!(seen.spans("idle", "idle-row"), told.idle);
+    }
+}
+
+#[test]
+fn the_bars_have_the_ticks_that_the_listing_says_were_run() {
+    let mut random = Random::new(32);
+    let mut all = 0;
+    for _ in 0..60 {
+        let input = any_run(&mut random, 40);
+        let seen = Seen::new(&picture(&input, None, None));
+        let mut wide = 0.0;
+        for node in seen.nodes.iter().filter(|node| node.is("bar")) {
+            if !node.is_inside("legend") {
+                wide += node.number("width");
+            }
+        }
+        let told = told(&input);
+        let ticks: u64 = told.ran.iter().map(|ran| ran.to - ran.from).sum();
+        assert!((wide / seen.per_tick - ticks as f64).abs() < 0.1);
+        let idle: u64 = told.idle.iter().map(|(from, to)| to - from).sum();
+        assert_eq!(ticks + idle, told.clock);
+        all += ticks;
+    }
+    assert!(all > 1_000);
+}
+
+#[test]
+fn a_bar_is_as_high_as_its_level_is_fast() {
+    let mut random = Random::new(33);
+    let mut levels_seen = [false; 8];
+    for _ in 0..60 {
+        let seen = Seen::new(&picture(&any_run(&mut random, 40), None, None));
+        for level in 0..8 {
+            let class = format!("level-{level}");
+            for node in seen.nodes.iter().filter(|node| node.is(&class)) {
+                if !node.is_inside("legend") {
+                    let expected = 48.0 * SPEEDS[level] as f64 / 100.0;
+                    assert!((node.number("height") - expected).abs() < 0.01);
+                    levels_seen[level] = true;
+                }
+            }
+        }
+    }
+    assert_eq!(levels_seen, [true; 8]);
+}
+
+#[test]
+fn the_canonical_strip_is_the_plain_schedule() {
+    let mut random = Random::new(34);
+    for _ in 0..50 {
+        let input = any_run(&mut random, 20);
+        let run = follow(&input).unwrap();
+        let end = run.end_of_order();
+        let seen = Seen::new(&picture(&input, None, None));
+        let mut served = vec![Vec::new(); run.tasks.len()];
+        let mut book = PlainBook::new(&run.tasks);
+        for tick in 0..end {
+            if let Some(job) = book.open_jobs().first() {
+                served[job.task].push(tick);
+            }
+            book.pass(1, Ok(Order::Idle { hold: 1 }));
+            book.forget_closed();
+        }
+        for (task, ticks) in served.iter().enumerate() {
+            let spans = seen.spans("canonical", &format!("task-{task}"));
+            let drawn: Vec<u64> = spans.iter().flat_map(|(from, to)| *from..*to).collect();
+            assert_eq!(&drawn, ticks);
+        }
+    }
+}
+
+/// The tick of a triangle, from the first point of its path.
+fn mark_tick(seen: &Seen, node: &Node) -> u64 {
+    let path = node.get("d").unwrap().trim_start_matches('M');
+    seen.tick(path.split(' ').next().unwrap().parse().unwrap())
+}
+
+#[test]
+fn arrivals_and_deadlines_are_marked() {
+    let seen = Seen::new(&picture(&EXAMPLE, None, Some(30)));
+    let marks = |class, part| -> Vec<u64> {
+        let all = seen.all(class, part);
+        all.map(|node| mark_tick(&seen, node)).collect()
+    };
+    for part in ["task-0", "task-1"] {
+        assert_eq!(marks("arrival", part), [0, 10, 20]);
+        assert_eq!(marks("deadline", part), [10, 20, 30]);
+    }
+    assert_eq!(marks("arrival", "task-2"), [0]);
+    assert_eq!(marks("deadline", "task-2"), [30]);
+}
+
+#[test]
+fn the_example_has_its_early_ends_and_its_last_order() {
+    let seen = Seen::new(&picture(&EXAMPLE, None, Some(30)));
+    assert_eq!(seen.spans("early", "task-0"), [(1, 4)]);
+    assert_eq!(seen.spans("early", "task-1"), []);
+    assert_eq!(seen.spans("early", "task-2"), [(10, 14)]);
+    assert_eq!(seen.spans("ordered", "task-0"), [(20, 25)]);
+    assert_eq!(seen.spans("ordered", "task-1"), []);
+    assert_eq!(seen.all("finish", "task-0").count(), 2);
+    assert_eq!(seen.all("finish", "task-1").count(), 2);
+    assert_eq!(seen.all("finish", "task-2").count(), 1);
+    let shown: Vec<&str> = seen.nodes.iter().map(|node| node.text.as_str()).collect();
+    let title = "Plan (10, 400), (10, 400), (30, 600); nominal level 7";
+    for text in [title, "3 early", "4 early", "L5", "L6 ordered"] {
+        assert!(shown.contains(&text), "{text}");
+    }
+}
+
+#[test]
+fn an_idle_order_stands_in_the_idle_row() {
+    // The example without its last pass.
+    let seen = Seen::new(&picture(&EXAMPLE[..25], None, None));
+    assert_eq!(seen.spans("ordered", "idle-row"), [(18, 20)]);
+    assert_eq!(seen.spans("idle", "idle-row"), []);
+}
+
+/// Left, right, top and bottom of a label; its letters are 10 pixels high and at most 6.4 wide.
+fn label_box(label: &Node) -> (f64, f64, f64, f64) {
+    let half = 3.2 * label.text.chars().count() as f64;
+    let (x, y) = (label.number("x"), label.number("y"));
+    (x - half, x + half, y - 8.0, y + 2.0)
+}
+
+#[test]
+fn labels_lie_neither_on_each_other_nor_on_lines() {
+    let mut random = Random::new(37);
+    let mut all = 0;
+    for _ in 0..60 {
+        let input = any_run(&mut random, 20);
+        let seen = Seen::new(&picture(&input, None, None));
+        for task in 0..count(&input) {
+            let part = format!("task-{task}");
+            let nominal = seen.all("nominal", &part).next().unwrap().number("y1");
+            let mut boxes: Vec<_> = seen.all("label", &part).map(label_box).collect();
+            boxes.sort_by(|a, b| a.0.total_cmp(&b.0));
+            assert!(boxes.windows(2).all(|pair| pair[0].1 < pair[1].0));
+            for (left, right, top, bottom) in &boxes {
+                assert!(nominal < *top || *bottom < nominal);
+                for mark in seen.all("finish", &part) {
+                    let x = mark.number("cx");
+                    assert!(x + 4.0 < *left || *right < x - 4.0);
+                }
+            }
+            all += boxes.len();
+        }
+    }
+    assert!(all > 300);
+}
+
+#[test]
+fn windows_cut_the_picture() {
+    let mut random = Random::new(35);
+    for _ in 0..60 {
+        let input = any_run(&mut random, 40);
+        let end = follow(&input).unwrap().end_of_order();
+        let to = random.between(1, end);
+        let from = random.below(to);
+        let seen = Seen::new(&picture(&input, Some(from), Some(to)));
+        let cut = |ran: &Ran| (ran.task, ran.level, ran.from.max(from), ran.to.min(to));
+        let told = told(&input);
+        let bars = told.ran.iter().map(cut).filter(|bar| bar.2 < bar.3);
+        assert_eq!(seen.bars(count(&input)), bars.collect::<Vec<_>>());
+    }
+}
+
+#[test]
+fn windows_that_cannot_be_drawn() {
+    let run = follow(&EXAMPLE).unwrap();
+    assert_eq!(window(&run, None, None), Ok(Span { from: 0, to: 25 }));
+    assert_eq!(
+        window(&run, Some(3), Some(55)),
+        Ok(Span { from: 3, to: 55 })
+    );
+    let beyond = window(&run, None, Some(56)).unwrap_err();
+    assert!(beyond.contains("25") && beyond.contains("55"), "{beyond}");
+    for (from, to) in [(Some(25), None), (Some(4), Some(4)), (None, Some(0))] {
+        assert!(window(&run, from, to)
+            .unwrap_err()
+            .starts_with("nothing to draw"));
+    }
+}
+
+#[test]
+fn wide_runs_are_scaled_down() {
+    let mut random = Random::new(36);
+    for passes in [0, 1, 10, 100, 1_000] {
+        let svg = picture(&any_run(&mut random, passes), None, None);
+        let root = &read(&svg).unwrap()[0];
+        assert!(root.number("width") < 1_600.0, "{}", root.number("width"));
+    }
+}
+
+#[test]
+fn the_page_is_plain_svg_with_a_background() {
+    let svg = picture(&EXAMPLE, None, None);
+    let nodes = read(&svg).unwrap();
+    assert_eq!(nodes[0].tag, "svg");
+    assert_eq!(nodes[0].get("version"), Some("1.1"));
+    assert_eq!(nodes[0].get("xmlns"), Some("http://www.w3.org/2000/svg"));
+    let background = nodes
+        .iter()
+        .find(|node| node.tag == "rect" && node.inside == ["svg"]);
+    let background = background.expect("the page has a background");
+    for side in ["width", "height"] {
+        assert_eq!(background.number(side), nodes[0].number(side));
+    }
+    let plain = [
+        "svg", "defs", "pattern", "g", "rect", "line", "path", "circle", "text", "title",
+    ];
+    for node in &nodes {
+        assert!(plain.contains(&node.tag.as_str()), "{}", node.tag);
+        assert!(!node
+            .attributes
+            .iter()
+            .any(|(name, _)| name.starts_with("on")));
+    }
+}
+
+#[test]
+fn the_name_is_escaped() {
+    let run = follow(&EXAMPLE).unwrap();
+    let window = window(&run, None, None).unwrap();
+    let svg = draw(&run, window, Some("<b> & \"c\" 'd'\u{7}"));
+    let nodes = read(&svg).unwrap();
+    let start = "<b> & \"c\" 'd'\u{fffd}: hyperperiod 30;";
+    assert!(nodes.iter().any(|node| node.text.starts_with(start)));
+}
+
+#[test]
+fn the_picture_in_the_docs_is_the_one_drawn_now() {
+    let kept = include_str!("../../../../docs/example.svg");
+    assert_eq!(kept, picture(&EXAMPLE, None, Some(30)));
+}

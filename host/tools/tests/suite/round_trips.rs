@@ -1,0 +1,113 @@
+//! There and back, on random scripts, random runs and damaged inputs.
+
+use crate::common::{any_run, any_script};
+use sim::listing;
+use sim::random::blocks::{bench_input, block_of, damaged_block};
+use sim::random::plans::{edge_list, plan_at_level};
+use sim::random::Random;
+use tools::bench::{from_bytes, refusal, to_bytes};
+use tools::text::{parse, write};
+
+#[test]
+fn scripts_to_bytes_and_to_text_and_back() {
+    let mut random = Random::new(1);
+    for _ in 0..4_000 {
+        let script = any_script(&mut random);
+        let bytes = to_bytes(&script);
+        assert_eq!(from_bytes(&bytes), Ok(script.clone()));
+        let text = write(&script);
+        assert_eq!(parse(&text), Ok(script));
+    }
+}
+
+#[test]
+fn runs_to_text_and_back() {
+    let mut random = Random::new(2);
+    let mut odd = 0;
+    for _ in 0..2_000 {
+        let mut input = any_run(&mut random, 30);
+        if let Err(error) = from_bytes(&input) {
+            // The only fault that these can have is their odd byte.
+            assert_eq!(error.byte, input.len() - 1);
+            input.pop();
+            odd += 1;
+        }
+        let text = write(&from_bytes(&input).unwrap());
+        assert_eq!(to_bytes(&parse(&text).unwrap()), input);
+    }
+    assert!(odd > 100);
+}
+
+/// What can't be said in text, found without taking the block apart: the place of the fault.
+fn fault(input: &[u8]) -> Option<usize> {
+    if input.len() < 2 {
+        return Some(input.len());
+    }
+    if input[0] >> 4 != 1 {
+        return Some(0);
+    }
+    let count = usize::from(input[0] & 0x0f) * 2 + usize::from(input[1] >> 7);
+    let needed = (9 + 36 * count).div_ceil(8);
+    if input.len() < needed {
+        return Some(input.len());
+    }
+    let closing = if count % 2 == 0 { 0x7f } else { 0x07 };
+    if input[needed - 1] & closing != 0 {
+        return Some(needed - 1);
+    }
+    ((input.len() - needed) % 2 == 1).then_some(input.len() - 1)
+}
+
+#[test]
+fn damaged_inputs_fail_at_their_byte_or_come_back() {
+    let mut random = Random::new(3);
+    let (mut failed, mut came_back) = (0, 0);
+    for _ in 0..4_000 {
+        let level = random.place(8);
+        let plan = plan_at_level(&mut random, level);
+        let mut input = damaged_block(&mut random, &block_of(&plan));
+        for _ in 0..random.below(9) {
+            input.push(random.number() as u8);
+        }
+        match from_bytes(&input) {
+            Err(error) => {
+                assert_eq!(fault(&input), Some(error.byte), "{input:02x?}");
+                failed += 1;
+            }
+            Ok(script) => {
+                assert_eq!(fault(&input), None, "{input:02x?}");
+                assert_eq!(to_bytes(&script), input);
+                assert_eq!(parse(&write(&script)), Ok(script));
+                came_back += 1;
+            }
+        }
+    }
+    assert!(failed > 500 && came_back > 500);
+}
+
+#[test]
+fn the_refusal_is_the_one_that_the_bench_program_prints() {
+    let mut random = Random::new(4);
+    let mut refused = 0;
+    for _ in 0..1_500 {
+        let mut plan = edge_list(&mut random);
+        for task in &mut plan {
+            task.period &= 0xffff;
+            task.worst &= 0xf_ffff;
+        }
+        let mut input = bench_input(&mut random, &plan, 3);
+        let script = from_bytes(&input).unwrap_or_else(|_| {
+            input.pop();
+            from_bytes(&input).unwrap()
+        });
+        let printed = String::from_utf8(listing(&input)).unwrap();
+        match refusal(&script) {
+            Some(number) => {
+                assert_eq!(printed, format!("refused {number}\n"));
+                refused += 1;
+            }
+            None => assert!(printed.starts_with("plan ")),
+        }
+    }
+    assert!(refused > 150);
+}

@@ -1,0 +1,113 @@
+//! A run as the picture sees it, against what the listing tells.
+
+use crate::common::{any_run, EXAMPLE};
+use crate::told::{told, Ran};
+use sim::random::Random;
+use sim::{start, Order};
+use tools::run::{follow, Refusal, Run, Span, Stretch};
+
+fn ran(stretch: &Stretch) -> Ran {
+    Ran {
+        task: stretch.task,
+        level: stretch.level,
+        from: stretch.span.from,
+        to: stretch.span.to,
+        finished: stretch.early.is_some(),
+    }
+}
+
+#[track_caller]
+fn agrees(run: &Run, input: &[u8]) {
+    let told = told(input);
+    assert_eq!(run.stretches.iter().map(ran).collect::<Vec<_>>(), told.ran);
+    let idle: Vec<(u64, u64)> = run.idle.iter().map(|span| (span.from, span.to)).collect();
+    assert_eq!(idle, told.idle);
+    let refused = |refusal: &Refusal| (refusal.tick, refusal.number);
+    let refused: Vec<(u64, u32)> = run.refusals.iter().map(refused).collect();
+    assert_eq!(refused, told.refused);
+    assert_eq!(run.clock, told.clock);
+}
+
+#[test]
+fn random_runs_are_as_the_listing_tells() {
+    let mut random = Random::new(11);
+    let (mut stretches, mut refusals, mut idle) = (0, 0, 0);
+    for _ in 0..1_000 {
+        let input = any_run(&mut random, 60);
+        let run = follow(&input).unwrap();
+        agrees(&run, &input);
+        stretches += run.stretches.len();
+        refusals += run.refusals.len();
+        idle += run.idle.len();
+    }
+    assert!(stretches > 10_000 && refusals > 3_000 && idle > 1_000);
+}
+
+#[test]
+fn the_example() {
+    let run = follow(&EXAMPLE).unwrap();
+    agrees(&run, &EXAMPLE);
+    let early: Vec<Option<u64>> = run.stretches.iter().map(|stretch| stretch.early).collect();
+    assert_eq!(early, [Some(3), Some(0), Some(4), Some(0), Some(0)]);
+    assert_eq!(run.idle, [Span { from: 18, to: 20 }]);
+    assert_eq!((run.clock, run.end_of_order(), run.accepted), (20, 25, 6));
+    let order = Order::Run {
+        task: 0,
+        level: 6,
+        hold: 5,
+    };
+    assert_eq!(run.order, order);
+}
+
+#[test]
+fn jobs_are_named_by_their_arrival() {
+    let run = follow(&EXAMPLE).unwrap();
+    let jobs: Vec<(usize, u64)> = run.stretches.iter().map(|s| (s.task, s.arrival)).collect();
+    assert_eq!(jobs, [(0, 0), (1, 0), (2, 0), (0, 10), (1, 10)]);
+}
+
+/// An early end never reaches past the deadline, so the picture's boxes can't overlap.
+#[test]
+fn unused_time_ends_by_the_deadline() {
+    let mut random = Random::new(12);
+    let mut some = 0;
+    for _ in 0..500 {
+        let run = follow(&any_run(&mut random, 60)).unwrap();
+        for stretch in &run.stretches {
+            let early = stretch.early.unwrap_or(0);
+            let deadline = stretch.arrival + run.tasks[stretch.task].period;
+            assert!(stretch.span.to + early <= deadline);
+            some += usize::from(early > 0);
+        }
+    }
+    assert!(some > 1_000);
+}
+
+#[test]
+fn passes_that_change_nothing_make_one_stretch() {
+    // Three ticks of task 0, told one by one.
+    let input = [&EXAMPLE[..15], &[0, 1, 0, 1, 0, 1]].concat();
+    let run = follow(&input).unwrap();
+    assert_eq!(run.stretches.len(), 1);
+    assert_eq!(run.stretches[0].span, Span { from: 0, to: 3 });
+    assert_eq!((run.stretches[0].early, run.accepted), (None, 3));
+}
+
+#[test]
+fn whole_inputs_refused() {
+    assert_eq!(follow(&[]).unwrap_err(), 1);
+    assert_eq!(follow(&[0x20, 0x80]).unwrap_err(), 2);
+    assert_eq!(follow(&[0x18, 0x80, 0x00]).unwrap_err(), 3);
+    assert_eq!(follow(&EXAMPLE[..14]).unwrap_err(), 4);
+    assert_eq!(follow(&[0x10, 0x80, 0, 0, 0, 0x20]).unwrap_err(), 6);
+    let long = [&EXAMPLE[..15], &vec![0; 65_536 - 14]].concat();
+    assert_eq!(follow(&long).unwrap_err(), 17);
+    assert_eq!(follow(&long[..65_536]).unwrap().refusals.len(), 32_761);
+}
+
+#[test]
+fn without_passes_there_is_the_first_order() {
+    let run = follow(&EXAMPLE[..15]).unwrap();
+    assert_eq!(Ok(run.order), start(&EXAMPLE[..15], &mut [0; 200]));
+    assert_eq!((run.clock, run.end_of_order()), (0, 4));
+}
