@@ -50,7 +50,7 @@ loop-again : tie.Need-loop-again Inv-loop μ-loop
 loop-again c = (
   omega arith,
   c .before .before .before .loop .inv .1,
-  task-put (c .before .before .before .before .before .before .args .numbers .now) (c .before .before .before .loop .p .tasks) (c .before .before .before .loop .i) (c .before .number-at .result) (c .number-at2 .result) (c .before .before .loop-test .taken) (c .before .before .before .loop .inv .2) (c .before .number-at .ensures) (c .number-at2 .ensures),
+  task-put (c .before .before .before .before .before .before .args .numbers .now) (c .before .before .before .loop .p .tasks) (c .before .before .before .loop .i) (c .before .number-at .result) (c .number-at2 .result) (omega arith) (c .before .before .before .loop .inv .2) (c .before .number-at .ensures) (c .number-at2 .ensures),
 )
 
 returns : tie.Need-returns Inv-loop μ-loop

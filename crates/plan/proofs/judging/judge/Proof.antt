@@ -27,7 +27,7 @@ refused-requires-2 c κs = search needs
 
 -- src/judging.rt:200:9
 returns-2 : tie.Need-returns-2
-returns-2 c = c .refused2 .ensures ∙ sym (ap (λ (n : ℕ). judgedBy n baseSpeeds (tasksOf (c .before .before .before .args .p))) (count-high baseSpeeds (tasksOf (c .before .before .before .args .p)) (c .before .before .before .args .p .count) (c .before .if2 .taken)))
+returns-2 c = c .refused2 .ensures ∙ sym (ap (λ (n : ℕ). judgedBy n baseSpeeds (tasksOf (c .before .before .before .args .p))) (count-high baseSpeeds (tasksOf (c .before .before .before .args .p)) (c .before .before .before .args .p .count) (omega arith)))
 
 -- src/judging.rt:202:5
 judged-with-requires : tie.Need-judged-with-requires

@@ -12,7 +12,7 @@ returns c = period-low (c .before .before .args .t) (c .if1 .taken)
 
 -- src/judging.rt:33:9
 returns-2 : tie.Need-returns-2
-returns-2 c = period-high (c .before .before .before .before .args .t) (c .if2 .taken)
+returns-2 c = period-high (c .before .before .before .before .args .t) (omega arith)
 
 -- src/judging.rt:36:9
 returns-3 : tie.Need-returns-3
