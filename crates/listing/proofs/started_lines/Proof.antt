@@ -1,0 +1,42 @@
+use native.Mathlib.Omega.{arith}
+use Rattle.listing.proofs.Puts.{then, as-text}
+use Rattle.listing.proofs.Whole.{started-is}
+use borrow.Author.Needs.{needs}
+use Rattle.listing.proofs.started_lines.Statement.{statement}
+use Rattle.listing.proofs.started_lines.Tie as tie
+
+slice-aggregate-start : tie.Need-slice-aggregate-start
+slice-aggregate-start c = search needs
+
+start-requires : tie.Need-start-requires
+start-requires c κs = search needs
+
+reply-line-requires : tie.Need-reply-line-requires
+reply-line-requires c κs = search needs
+
+slice-aggregate-pass-lines : tie.Need-slice-aggregate-pass-lines
+slice-aggregate-pass-lines c = search needs
+
+pass-lines-requires : tie.Need-pass-lines-requires
+pass-lines-requires c κs = search needs
+
+same-length : tie.Need-same-length
+same-length c = search needs
+
+returns : tie.Need-returns
+returns c =
+    as-text (then (c .before .before .before .before .before .before .before .before .reply-line .ensures) (c .before .before .before .pass-lines .ensures .0))
+    (started-is (c .before .before .before .before .before .before .before .before .before .before .before .before .before .before .before .before .args .block .now) (c .before .before .before .before .before .before .before .before .before .before .before .before .before .before .before .before .args .passes .now) (c .before .before .before .before .before .before .before .before .before .before .before .start .result) (c .before .before .before .before .before .before .before .before .before .before .before .start .last .1 .0) (c .before .before .before .before .before .before .before .before .before .before .before .start .ensures .0) (c .before .before .before .before .before .before .before .before .before .before .before .start .ensures .1))
+    (omega arith)
+
+pub started-lines-spec : {M : Type 1} → statement M
+started-lines-spec =
+    tie.close
+    (tie.spec
+    slice-aggregate-start
+    start-requires
+    reply-line-requires
+    slice-aggregate-pass-lines
+    pass-lines-requires
+    same-length
+    returns)

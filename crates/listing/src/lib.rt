@@ -1,0 +1,87 @@
+// The bench program's library: the listing of an input.
+pub mod passes;
+pub mod text;
+
+use crate::passes::pass_lines;
+use crate::text::plan_line;
+use crate::text::refused_line;
+use crate::text::reply_line;
+use dispatcher::start::start;
+use plan::Verdict;
+ghost use mathlib.Core.Path.{_≡_};
+ghost use mathlib.Core.List.{_++_};
+ghost use Prim.Native.Nat.{_+_, _≤_};
+ghost use lib.ListN.{length, take, drop};
+ghost use Rattle.plan.specs.Levels.{baseSpeeds};
+ghost use Rattle.plan.specs.Answers.{refusalOf};
+ghost use Rattle.listing.specs.Listing.{planCut, startedLines, listing};
+ghost use Rattle.listing.specs.Stores.{Put};
+
+// How many bytes of the input the reader is given: as many as the count needs, or all there are if fewer, or if the count is bad.
+pub fn plan_cut(input: &[u8]) -> usize
+    ensures { λ r. ⌜ r ≡ planCut (now (input .entry)) ⌝ }
+    ensures { λ r. ⌜ r ≤ length (now (input .entry)) ⌝ }
+{
+    let n = input.len();
+    if n < 2 {
+        return n;
+    }
+    let count = arith::bits_at(input, 4, 5) as usize;
+    if count < 1 {
+        return n;
+    }
+    if count > 16 {
+        return n;
+    }
+    let wanted = plan::block::block_length(count);
+    if wanted < n {
+        return wanted;
+    }
+    n
+}
+
+// The number of a refusal, 0 where there is none.
+fn refusal_of(v: Verdict) -> u32
+    ensures { λ r. ⌜ r ≡ refusalOf v ⌝ }
+{
+    match v {
+        Verdict::Refused(n) => n,
+        Verdict::Admitted { .. } => 0,
+    }
+}
+
+// Stores the lines from the start on, over a fresh state.
+fn started_lines(block: &[u8], passes: &[u8], out: &mut [u8], from: usize) -> usize
+    requires { ⌜ (length (now passes) ≤ 65536) × (from + 1900000 ≤ length (now out)) ⌝ }
+    ensures { λ r. ⌜ Put 1900000 (now (out .entry)) from (startedLines baseSpeeds (now (block .entry)) (now (passes .entry))) r (now (out .exit)) ⌝ }
+{
+    let mut state = [0u8; 200];
+    let reply = start(block, &mut state);
+    let at = reply_line(out, from, 0, reply);
+    pass_lines(passes, &mut state, out, at)
+}
+
+// Stores the listing of an input at the front of a buffer, and returns its length.
+pub fn list_into(input: &[u8], out: &mut [u8]) -> usize
+    requires { ⌜ (length (now input) ≤ 65537) × (2000000 ≤ length (now out)) ⌝ }
+    ensures { λ r. ⌜ r ≡ length (listing baseSpeeds (now (input .entry))) ⌝ }
+    ensures { λ _. ⌜ now (out .exit) ≡ listing baseSpeeds (now (input .entry)) ++ drop (length (listing baseSpeeds (now (input .entry)))) (now (out .entry)) ⌝ }
+    ensures { λ r. ⌜ (r ≤ length (now (out .exit))) × (r ≡ length (take r (now (out .exit)))) ⌝ }
+{
+    if input.len() > 65536 {
+        return refused_line(out, 0, 17);
+    }
+    let cut = plan_cut(input);
+    let judged = plan::block::read(&input[..cut]);
+    let verdict = judged.verdict;
+    let Verdict::Admitted {
+        nominal,
+        hyperperiod,
+    } = verdict
+    else {
+        return refused_line(out, 0, refusal_of(verdict));
+    };
+    let p = judged.plan;
+    let at = plan_line(out, 0, p.count, nominal, hyperperiod);
+    started_lines(&input[..cut], &input[cut..], out, at)
+}

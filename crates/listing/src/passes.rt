@@ -1,0 +1,48 @@
+// The passes of an input, two bytes each: each is put to the dispatcher, and its line stored.
+use crate::text::refused_line;
+use crate::text::reply_line;
+use dispatcher::Reply;
+use dispatcher::pass::pass;
+ghost use mathlib.Core.Path.{_≡_};
+ghost use Prim.Native.Nat.{_+_, _^_, _<_, _≤_};
+ghost use lib.ListN.{length};
+ghost use Rattle.plan.specs.Levels.{baseSpeeds};
+ghost use Rattle.listing.specs.Listing.{clockAfter, passLines, passStates};
+ghost use Rattle.listing.specs.Stores.{Put};
+
+// The clock after a reply: it rises by d where the pass was accepted.
+fn clock_after(clock: u32, d: u32, r: Reply) -> u32
+    requires { ⌜ clock + d < 2 ^ 32 ⌝ }
+    ensures { λ q. ⌜ q ≡ clockAfter clock d r ⌝ }
+    ensures { λ q. ⌜ q ≤ clock + d ⌝ }
+{
+    match r {
+        Reply::Run { .. } => clock + d,
+        Reply::Idle { .. } => clock + d,
+        Reply::Refused(_) => clock,
+    }
+}
+
+// Stores the lines of all passes from a state on.
+pub fn pass_lines(passes: &[u8], state: &mut [u8], out: &mut [u8], from: usize) -> usize
+    requires { ⌜ (length (now passes) ≤ 65536) × (from + 1800000 ≤ length (now out)) ⌝ }
+    ensures { λ r. ⌜ Put 1800000 (now (out .entry)) from (passLines baseSpeeds (now (state .entry)) 0 (now (passes .entry))) r (now (out .exit)) ⌝ }
+    ensures { λ _. ⌜ now (state .exit) ≡ passStates baseSpeeds (now (state .entry)) (now (passes .entry)) ⌝ }
+{
+    let mut at = from;
+    let mut clock: u32 = 0;
+    let mut i: usize = 0;
+    while i + 1 < passes.len() {
+        let high = arith::wide(passes[i]);
+        let d = high % 128 * 256 + arith::wide(passes[i + 1]);
+        let reply = pass(state, d, 128 <= high);
+        let after = clock_after(clock, d, reply);
+        at = reply_line(out, at, after, reply);
+        clock = after;
+        i += 2;
+    }
+    if i < passes.len() {
+        return refused_line(out, at, 16);
+    }
+    at
+}
