@@ -1,12 +1,16 @@
 # make test    the gate: proves every crate, then runs the host tests
 # make prove   the proofs alone
-# make host    the host tests alone, over archives made where they are missing or older than the code
+# make host    the host tests alone, over what of the proved code is missing or older than its source
+# make run     the bench program on 01's example
+# make install PREFIX=..   the header, the archive and the pkg-config file
 # make clean   removes all that was made
 
-ARCHIVES := target/staticlib/libplan.a
+ARCHIVES := target/staticlib/libplan.a target/staticlib/libdispatcher.a
+PROGRAMS := target/bin/bench
 CODE := crates.txt $(shell find crates -name '*.rt')
+PREFIX ?= /usr/local
 
-.PHONY: test prove host archives clean
+.PHONY: test prove host archives programs run install clean
 .NOTPARALLEL:
 
 test:
@@ -15,13 +19,38 @@ test:
 prove:
 	rt ci
 
-host: archives
+host: archives programs
 	cd host && cargo test --release --offline
+	host/c/test.sh
 
 archives: $(ARCHIVES)
 
+programs: $(PROGRAMS)
+
+run: target/bin/bench
+	@echo 'target/bin/bench < examples/bench.in'
+	@target/bin/bench < examples/bench.in
+
+install: target/staticlib/libkilmstra.a
+	mkdir -p "$(PREFIX)/include" "$(PREFIX)/lib/pkgconfig"
+	install -m 644 host/c/kilmstra.h "$(PREFIX)/include"
+	install -m 644 target/staticlib/libkilmstra.a "$(PREFIX)/lib"
+	install -m 644 host/c/kilmstra.pc "$(PREFIX)/lib/pkgconfig"
+
+# What a firmware links: the objects of all archives in one.
+target/staticlib/libkilmstra.a: $(ARCHIVES)
+	rm -rf target/joined $@
+	mkdir target/joined
+	cd target/joined && for archive in $(ARCHIVES); do ar x ../../$$archive || exit; done
+	ar rcs $@ target/joined/*.o
+
 target/staticlib/lib%.a: $(CODE)
 	rt staticlib $*
+
+# rt leaves the program as it is if only its source's times have changed.
+target/bin/%: $(CODE)
+	rt check $*
+	@touch $@
 
 clean:
 	rm -rf target host/target

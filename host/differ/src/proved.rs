@@ -1,4 +1,4 @@
-//! The calls that the proved library has for C, with slices in and results out.
+//! The calls on plans that the proved library has for C, with slices in and results out.
 //!
 //! In C a slice is a pointer, then a length in elements.
 
@@ -85,7 +85,7 @@ fn judged(answer: u64) -> Result<Judged, u32> {
 }
 
 /// A refusal has its number in the lowest byte and nothing else; any other answer has 0 there.
-fn unpacked(answer: u64) -> Result<u64, u32> {
+pub(crate) fn unpacked(answer: u64) -> Result<u64, u32> {
     match answer % 256 {
         0 => Ok(answer / 256),
         _ => Err(u32::try_from(answer).expect("a refusal is its number alone")),

@@ -13,10 +13,10 @@ pub const PLACES: usize = 16;
 pub const ACCEPTED: u32 = 0;
 
 /// Bytes on each side of a lent buffer that no call may reach.
-const MARGIN: usize = 16;
+pub const MARGIN: usize = 16;
 
 /// Every bit of a buffer is marked once as set and once as clear, so no store can pass unseen.
-const MARKS: [u8; 2] = [0xa5, 0x5a];
+pub const MARKS: [u8; 2] = [0xa5, 0x5a];
 
 #[derive(Clone, Copy, PartialEq, Eq, PartialOrd, Ord, Debug)]
 pub enum Call {
@@ -24,6 +24,9 @@ pub enum Call {
     Read,
     Write,
     Copy,
+    Start,
+    Pass,
+    Show,
 }
 
 /// Puts calls to both sides, and counts the answers on which they agreed.
@@ -91,7 +94,7 @@ impl Both {
         answer
     }
 
-    fn count<T>(&mut self, call: Call, answer: &Result<T, u32>) {
+    pub fn count<T>(&mut self, call: Call, answer: &Result<T, u32>) {
         let number = answer.as_ref().err().copied().unwrap_or(ACCEPTED);
         *self.seen.entry((call, number)).or_default() += 1;
     }
@@ -106,19 +109,37 @@ impl Both {
     /// Wants that this many plans and blocks were put to both sides, and prints what came of them.
     #[track_caller]
     pub fn saw(&self, what: &str, least: u64) {
-        let of = |call| {
-            let answers = self.seen.iter().filter(|((made, _), _)| *made == call);
-            answers.map(|(_, times)| times).sum::<u64>()
-        };
-        let (plans, blocks) = (of(Call::Judge), of(Call::Read));
+        let (plans, blocks) = (self.times(Call::Judge), self.times(Call::Read));
         println!("{what}: {plans} plans, {blocks} blocks");
-        for ((call, number), times) in &self.seen {
-            println!("    {call:?} {number}: {times}");
-        }
+        self.print_answers();
         assert!(
             plans + blocks >= least,
             "only {plans} plans, {blocks} blocks"
         );
+    }
+
+    /// Wants that this many calls of the dispatcher were put to both sides, and prints what came of
+    /// them.
+    #[track_caller]
+    pub fn dispatched(&self, what: &str, least: u64) {
+        let calls = [Call::Start, Call::Pass, Call::Show].map(|call| self.times(call));
+        let [starts, passes, shows] = calls;
+        println!("{what}: {starts} starts, {passes} passes, {shows} queues");
+        self.print_answers();
+        let all: u64 = calls.iter().sum();
+        assert!(all >= least, "only {all} calls");
+    }
+
+    /// How many calls there are behind the answers counted.
+    pub fn times(&self, call: Call) -> u64 {
+        let answers = self.seen.iter().filter(|((made, _), _)| *made == call);
+        answers.map(|(_, times)| times).sum()
+    }
+
+    fn print_answers(&self) {
+        for ((call, number), times) in &self.seen {
+            println!("    {call:?} {number}: {times}");
+        }
     }
 }
 

@@ -1,0 +1,133 @@
+/* A firmware's main loop over the dispatcher, with the hardware played by a few functions: a timer,
+ * a processor with eight levels, and jobs that mostly end before their worst case.
+ *
+ * It packs the bench plan, starts it, does what the orders say through two hyperperiods, and prints a
+ * listing like the bench program's, with the queue at the end. */
+
+#include "kilmstra.h"
+
+#include <stdio.h>
+#include <stdlib.h>
+
+enum { TASKS = 3, UNTIL = 60 };
+
+/* The plan: a period and a worst case for each task. */
+static const uint32_t plan[2 * TASKS] = {10, 400, 10, 400, 30, 600};
+
+/* What the dispatcher keeps lives here, with the firmware. */
+static uint8_t state[KILMSTRA_STATE_BYTES];
+
+/* The hardware. */
+
+static const uint32_t speeds[KILMSTRA_LEVELS] = {10, 20, 30, 40, 50, 60, 80, 100};
+
+static uint32_t now;
+
+/* The work that each job will really take, which nobody knows beforehand. */
+static uint32_t work[TASKS];
+
+/* A small generator: the same numbers in every run. */
+static uint32_t random_below(uint32_t limit)
+{
+    static uint32_t seed = 2001;
+    seed = (seed * 1103515245u + 12345u) & 0x7fffffffu;
+    return (seed >> 8) % limit;
+}
+
+/* One job in four takes its worst case, the others anything up to it. */
+static void let_jobs_arrive(void)
+{
+    for (int task = 0; task < TASKS; task++) {
+        uint32_t worst = plan[2 * task + 1];
+        if (now % plan[2 * task] == 0) {
+            work[task] = random_below(4) == 0 ? worst : 1 + random_below(worst);
+        }
+    }
+}
+
+/* Runs the job until it ends or the timer rings. Says how many ticks went by. */
+static uint32_t run_job(unsigned task, unsigned level, uint32_t hold, bool *finished)
+{
+    uint32_t speed = speeds[level];
+    uint32_t needed = (work[task] + speed - 1) / speed;
+    *finished = needed <= hold;
+    if (*finished) {
+        work[task] = 0;
+        return needed;
+    }
+    work[task] -= hold * speed;
+    return hold;
+}
+
+/* The loop. */
+
+/* A refusal here is a mistake in the firmware: the loop below tells no pass that can be refused. */
+static uint64_t accepted(uint64_t reply)
+{
+    if (kilmstra_is_refused(reply)) {
+        printf("refused %u\n", kilmstra_refusal_number(reply));
+        exit(1);
+    }
+    return reply;
+}
+
+static void print_order(uint64_t order)
+{
+    unsigned long clock = now;
+    unsigned long hold = kilmstra_order_hold(order);
+    if (kilmstra_is_idle(order)) {
+        printf("%lu idle %lu\n", clock, hold);
+    } else {
+        printf("%lu run %u %u %lu\n", clock, kilmstra_order_task(order),
+               kilmstra_order_level(order), hold);
+    }
+}
+
+static uint64_t start(void)
+{
+    uint8_t block[KILMSTRA_BLOCK_BYTES];
+    uint64_t written = accepted(kilmstra_plan_write(TASKS, plan, 2 * TASKS, block, sizeof block));
+    size_t length = kilmstra_byte_count(written);
+    uint64_t judged = accepted(kilmstra_plan_read(block, length));
+    printf("plan %d %u %lu\n", TASKS, kilmstra_nominal_level(judged),
+           (unsigned long)kilmstra_hyperperiod(judged));
+    return accepted(kilmstra_start(block, length, state, sizeof state));
+}
+
+/* Does what the order says, and tells the dispatcher what came of it. */
+static uint64_t follow(uint64_t order)
+{
+    uint32_t ticks = kilmstra_order_hold(order);
+    bool finished = false;
+    if (kilmstra_is_run(order)) {
+        ticks = run_job(kilmstra_order_task(order), kilmstra_order_level(order), ticks, &finished);
+    }
+    now += ticks;
+    let_jobs_arrive();
+    return accepted(kilmstra_pass(state, sizeof state, ticks, finished));
+}
+
+static void print_queue(void)
+{
+    uint8_t queue[KILMSTRA_QUEUE_BYTES];
+    size_t length = kilmstra_byte_count(
+        accepted(kilmstra_show(state, sizeof state, queue, sizeof queue)));
+    printf("queue");
+    for (size_t at = 0; at < length; at += 3) {
+        printf(" (%u, %u)", queue[at], 256u * queue[at + 1] + queue[at + 2]);
+    }
+    printf("\n");
+}
+
+int main(void)
+{
+    let_jobs_arrive();
+    uint64_t order = start();
+    print_order(order);
+    while (now < UNTIL) {
+        order = follow(order);
+        print_order(order);
+    }
+    print_queue();
+    return 0;
+}

@@ -1,0 +1,183 @@
+/* Kilmstra: a dispatcher for periodic jobs, proved to meet its contracts. For C99 and C++.
+ *
+ * The firmware packs a plan, starts it, and does what the order says: it runs the named task's job
+ * at the named level, or stays idle, for the hold at most. When the job ends or the hold is over it
+ * tells the dispatcher by a pass, and gets the next order.
+ *
+ * What holds for every call:
+ * - It answers with one number, a reply. The functions at the end of this file take it apart.
+ * - A reply is a refusal, with a number of enum kilmstra_refusal, or else what the call says below.
+ *   A refused call leaves every byte that it was lent as it was.
+ * - It keeps nothing between calls, takes no memory but the stack, and always ends. Calls that are
+ *   lent different memory may run at the same time.
+ * - A pointer is not null, even where its length is 0, and what one pointer lends does not overlap
+ *   what another lends to the same call. Nothing else is asked of the caller: every length and
+ *   every content gets an answer.
+ *
+ * The archive is for x86-64. All that it may want of a C library is memcpy, memmove, memset and
+ * memcmp. */
+
+#ifndef KILMSTRA_H
+#define KILMSTRA_H
+
+#include <stddef.h>
+#include <stdint.h>
+#ifndef __cplusplus
+#include <stdbool.h>
+#endif
+
+#ifdef __cplusplus
+extern "C" {
+#endif
+
+enum {
+    KILMSTRA_TASKS = 16,        /* a plan has at most so many */
+    KILMSTRA_LEVELS = 8,        /* 0 to 7 */
+    KILMSTRA_STATE_BYTES = 200, /* a state has exactly so many */
+    KILMSTRA_BLOCK_BYTES = 74,  /* enough for every plan block */
+    KILMSTRA_QUEUE_BYTES = 48   /* enough for every queue */
+};
+
+/* Why a call was refused. Where there are several reasons, the one that stands first here is told;
+ * only 10 comes before 9. */
+enum kilmstra_refusal {
+    KILMSTRA_ACCEPTED = 0,            /* it was not */
+    KILMSTRA_SHORT_BLOCK = 1,         /* the plan block has fewer than 2 bytes */
+    KILMSTRA_WRONG_EDITION = 2,       /* the edition is not 1 */
+    KILMSTRA_WRONG_COUNT = 3,         /* there are not 1 to 16 tasks */
+    KILMSTRA_WRONG_LENGTH = 4,        /* the plan block's length is not its count's */
+    KILMSTRA_CLOSING_BITS = 5,        /* bits after the last task are set */
+    KILMSTRA_OUT_OF_RANGE = 6,        /* a period not 1 to 65,535, a worst case not 1 to 1,048,575 */
+    KILMSTRA_LONG_HYPERPERIOD = 7,    /* the least common multiple of all periods is over 1,000,000 */
+    KILMSTRA_OVERLOAD = 8,            /* the plan is too much for the highest level */
+    KILMSTRA_SHORT_BUFFER = 9,        /* what is to be written does not fit the lent buffer */
+    KILMSTRA_UNSOUND_STATE = 10,      /* not exactly 200 bytes, or they do not agree with each other */
+    KILMSTRA_NO_TICK = 11,            /* d is 0 */
+    KILMSTRA_PAST_ARRIVAL = 12,       /* d goes past the next arrival */
+    KILMSTRA_NOTHING_RUNS = 13,       /* finished, though the order is to stay idle */
+    KILMSTRA_PAST_WORST_CASE = 14,    /* the running job would have used up more than its worst case */
+    KILMSTRA_PAST_LARGEST_CLOCK = 15, /* the clock would go past 4,000,000,000 */
+    KILMSTRA_ODD_BYTE = 16,           /* the bench program alone: a byte is left at the end */
+    KILMSTRA_LONG_INPUT = 17          /* the bench program alone: more than 65,536 bytes */
+};
+
+/* A task in a list: its period in ticks and its worst case in units of work. */
+struct kilmstra_task {
+    uint32_t period;
+    uint32_t worst;
+};
+
+/* Starts a plan at tick 0, where a job of every task arrives, and answers with the first order.
+ * Writes the first 200 bytes of state; bytes past them stay as they were.
+ * Refuses with 1 to 8, as reading the block does, then with 9 if state has fewer than 200 bytes. */
+uint64_t kilmstra_start(const uint8_t *block, size_t block_len, uint8_t *state, size_t state_len);
+
+/* Says that d ticks went by, and whether the running job finished at their end (0 for no, anything
+ * else for yes). Brings the state up to date and answers with the order that stands from then on: a
+ * new one if a job finished or arrived, else the old one with what is left of its hold.
+ * Writes within the 200 bytes of state.
+ * Refuses with 10 if the state is not sound, then with 11 to 15. */
+uint64_t kilmstra_pass(uint8_t *state, size_t state_len, uint32_t d, uint8_t finished);
+
+/* Shows the queue and answers with the count of bytes. For each job with ticks left in the plain
+ * schedule, the most urgent first, these are its task (1 byte) and those ticks (2 bytes, the higher
+ * one first).
+ * Leaves the state, and the bytes of buffer past those written, as they were.
+ * Refuses with 10 if the state is not sound, then with 9 if the queue does not fit. */
+uint64_t kilmstra_show(const uint8_t *state, size_t state_len, uint8_t *buffer, size_t buffer_len);
+
+/* Judges a list of tasks and answers with the nominal level and the hyperperiod. Writes nothing.
+ * Refuses with 3, 6, 7, 8. */
+uint64_t kilmstra_judge_list(const struct kilmstra_task *tasks, size_t count);
+
+/* Judges a plan of so many tasks and answers with the nominal level and the hyperperiod. The
+ * numbers are a period and a worst case for each task in turn; one that is not there is 0, and one
+ * past the count is not looked at. Writes nothing.
+ * Refuses with 3, 6, 7, 8. */
+uint64_t kilmstra_plan_judge(size_t count, const uint32_t *numbers, size_t numbers_len);
+
+/* Reads a plan block and answers with the nominal level and the hyperperiod. Writes nothing.
+ * Refuses with 1 to 8. */
+uint64_t kilmstra_plan_read(const uint8_t *block, size_t block_len);
+
+/* Writes the block of a plan, which is given as for judging, and answers with the count of bytes:
+ * 6 for one task, 74 for sixteen.
+ * Leaves the bytes of buffer past those written as they were.
+ * Refuses with 3, 6, 7, 8, then with 9 if the block does not fit. */
+uint64_t kilmstra_plan_write(size_t count, const uint32_t *numbers, size_t numbers_len,
+                             uint8_t *buffer, size_t buffer_len);
+
+/* Reads a plan block, writes its plan again, which gives the same bytes, and answers with their
+ * count.
+ * Leaves the bytes of buffer past those written as they were.
+ * Refuses with 1 to 8, then with 9 if the block does not fit. */
+uint64_t kilmstra_plan_copy(const uint8_t *block, size_t block_len,
+                            uint8_t *buffer, size_t buffer_len);
+
+/* Any reply. */
+
+static inline bool kilmstra_is_refused(uint64_t reply)
+{
+    return (reply & 0xff) != 0;
+}
+
+/* The refusal's number, as in enum kilmstra_refusal; 0 if there is none. */
+static inline unsigned kilmstra_refusal_number(uint64_t reply)
+{
+    return (unsigned)(reply & 0xff);
+}
+
+/* An order: a reply of starting or passing that is no refusal. */
+
+static inline bool kilmstra_is_run(uint64_t reply)
+{
+    return (reply & 0xffff) == 0x0100;
+}
+
+static inline bool kilmstra_is_idle(uint64_t reply)
+{
+    return (reply & 0xffff) == 0x0200;
+}
+
+/* The task to run; 0 if idle. */
+static inline uint8_t kilmstra_order_task(uint64_t reply)
+{
+    return (uint8_t)(reply >> 16);
+}
+
+/* The level to run it at; 0 if idle. */
+static inline uint8_t kilmstra_order_level(uint64_t reply)
+{
+    return (uint8_t)(reply >> 24);
+}
+
+/* The ticks after which a pass is due at the latest. */
+static inline uint32_t kilmstra_order_hold(uint64_t reply)
+{
+    return (uint32_t)(reply >> 32);
+}
+
+/* A reply of showing, writing or copying that is no refusal. */
+
+static inline size_t kilmstra_byte_count(uint64_t reply)
+{
+    return (size_t)(reply >> 8);
+}
+
+/* A reply of judging or reading that is no refusal. */
+
+static inline uint8_t kilmstra_nominal_level(uint64_t reply)
+{
+    return (uint8_t)(reply >> 8);
+}
+
+static inline uint32_t kilmstra_hyperperiod(uint64_t reply)
+{
+    return (uint32_t)(reply >> 16);
+}
+
+#ifdef __cplusplus
+}
+#endif
+
+#endif

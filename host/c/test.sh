@@ -1,0 +1,102 @@
+#!/usr/bin/env bash
+# Builds the C programs of this folder over the proved library, as C99 and as C++, plain and with the
+# compiler's checks at run time, then over an installed copy. What a program prints must be what its
+# file .out has. Tries 'make run' too. The very last line is 'N passed, M failed'.
+set -u -o pipefail
+cd "$(dirname "${BASH_SOURCE[0]}")" || exit 2
+top=../..
+
+work=$(mktemp -d) || exit 2
+trap 'rm -rf "$work"' EXIT
+
+library=(-L "$top/target/staticlib" -ldispatcher -lplan)
+warnings=(-Wall -Wextra -Werror)
+checks=(-g "-fsanitize=address,undefined" -fno-sanitize-recover=all)
+passed=0
+failed=0
+
+# Runs a test, which is a command, and shows what it wrote only if it failed.
+try() { # NAME COMMAND..
+    local name=$1
+    shift
+    if "$@" >"$work/log" 2>&1; then
+        echo "ok: $name"
+        passed=$((passed + 1))
+    else
+        echo "FAILED: $name"
+        cat "$work/log"
+        failed=$((failed + 1))
+    fi
+}
+
+# The programs allocate nothing, so the search for leaks, which fails where ptrace is shut, is off.
+prints() { # EXPECTED COMMAND..
+    local expected=$1
+    shift
+    ASAN_OPTIONS=detect_leaks=0 "$@" >"$work/printed" && diff "$expected" "$work/printed"
+}
+
+as_c() { # PROGRAM FLAGS..
+    local program=$1
+    shift
+    gcc -std=c99 -pedantic "${warnings[@]}" "$@" "$program.c" "${library[@]}" -o "$work/program" &&
+        prints "$program.out" "$work/program"
+}
+
+as_cpp() { # PROGRAM FLAGS..
+    local program=$1
+    shift
+    g++ -pedantic "${warnings[@]}" "$@" -x c++ "$program.c" -x none "${library[@]}" -o "$work/program" &&
+        prints "$program.out" "$work/program"
+}
+
+# The header alone must do, first in a file and more than once.
+header_alone() { # COMPILER..
+    printf '#include "kilmstra.h"\n#include "kilmstra.h"\nint main(void) { return 0; }\n' |
+        "$@" "${warnings[@]}" -I . -fsyntax-only -
+}
+
+installs() {
+    make -C "$top" --no-print-directory install PREFIX="$work/installed" &&
+        cmp kilmstra.h "$work/installed/include/kilmstra.h"
+}
+
+# Built in another folder, so that the header can only be the installed one.
+over_the_installed_copy() { # PROGRAM
+    local flags
+    mkdir -p "$work/elsewhere" && cp "$1.c" "$work/elsewhere" || return
+    read -ra flags < <(PKG_CONFIG_PATH="$work/installed/lib/pkgconfig" pkg-config --cflags --libs kilmstra)
+    gcc -std=c99 "${warnings[@]}" "$work/elsewhere/$1.c" "${flags[@]}" -o "$work/program" &&
+        prints "$1.out" "$work/program"
+}
+
+# A firmware may have no C library beyond these.
+wants_no_more_than_memory_functions() {
+    local wanted
+    wanted=$(nm --undefined-only --format=posix "$work/installed/lib/libkilmstra.a") || return
+    ! awk 'NF > 1 { print $1 }' <<<"$wanted" | grep -vxE 'memcpy|memmove|memset|memcmp'
+}
+
+runs_the_bench_program() {
+    { echo 'target/bin/bench < examples/bench.in' && cat "$top/examples/bench.out"; } >"$work/wanted"
+    prints "$work/wanted" make -C "$top" --no-print-directory run
+}
+
+try 'the header alone, as C99' header_alone gcc -std=c99 -pedantic -x c
+try 'the header alone, as C++' header_alone g++ -pedantic -x c++
+for source in *.c; do
+    program=${source%.c}
+    try "$program, as C99" as_c "$program"
+    try "$program, as C99, checked" as_c "$program" "${checks[@]}"
+    try "$program, as C++" as_cpp "$program"
+    try "$program, as C++, checked" as_cpp "$program" "${checks[@]}"
+done
+try 'make install' installs
+for source in *.c; do
+    try "${source%.c}, over the installed copy" over_the_installed_copy "${source%.c}"
+done
+try 'the installed archive wants no more than memory functions' wants_no_more_than_memory_functions
+try 'make run' runs_the_bench_program
+
+echo "$passed passed, $failed failed"
+[ "$failed" -eq 0 ]

@@ -1,0 +1,234 @@
+//! Inputs of every kind.
+
+use crate::program::Both;
+use sim::plan::{block_bytes, Task, SPEEDS};
+use sim::random::blocks::{bench_input, block_of, damaged_block};
+use sim::random::plans::{
+    edge_list, full_plan, plan_above_largest_hyperperiod, plan_at_largest_hyperperiod,
+    plan_at_level, plan_at_level_within, plan_one_over, SMALL_BASES,
+};
+use sim::random::Random;
+
+/// 01's example: the bench plan and six passes.
+const EXAMPLE: [u8; 27] = [
+    0x11, 0x80, 0x05, 0x00, 0x0c, 0x80, 0x00, 0x50, 0x00, 0xc8, 0x00, 0x0f, 0x00, 0x12, 0xc0, 0x80,
+    0x01, 0x80, 0x07, 0x80, 0x02, 0x80, 0x04, 0x80, 0x04, 0x00, 0x02,
+];
+
+const LARGEST_INPUT: usize = 65_536;
+
+fn one_task(period: u64, worst: u64) -> Vec<Task> {
+    vec![Task { period, worst }]
+}
+
+/// An input with so many bytes and a run as long as fits.
+fn input_of_length(random: &mut Random, tasks: &[Task], length: usize) -> Vec<u8> {
+    let mut input = bench_input(random, tasks, length / 2);
+    input.resize(length, 0);
+    input
+}
+
+/// Would catch a wrong line, one missing or one too many, for runs with early ends and refused
+/// passes at every level; a refused pass that ends the listing or moves the clock.
+#[test]
+fn runs_at_every_level() {
+    let mut both = Both::default();
+    let mut random = Random::new(2_101);
+    for round in 0..1_200 {
+        let level = round % SPEEDS.len();
+        let plan = match round % 3 {
+            0 => plan_at_level(&mut random, level),
+            1 => full_plan(&mut random, level),
+            _ => {
+                let base = random.pick(&SMALL_BASES);
+                plan_at_level_within(&mut random, level, base)
+            }
+        };
+        let passes = random.between(0, 120) as usize;
+        let listed = both.list(&bench_input(&mut random, &plan, passes));
+        assert!(listed.lines().count() >= 2 + passes);
+    }
+    both.saw("runs at every level", 1_200);
+    both.wants("plan", 1_200);
+    both.wants("run", 30_000);
+    both.wants("idle", 3_000);
+    for number in [11, 12, 14] {
+        both.wants(&format!("refused {number}"), 500);
+    }
+    both.wants("refused 13", 50);
+    both.wants("refused 16", 100);
+}
+
+/// Would catch an input read past its end or short of it, a plan block that is given the passes too,
+/// and an odd byte that is let go.
+#[test]
+fn every_cut() {
+    let mut both = Both::default();
+    let mut random = Random::new(2_102);
+    for length in 0..=EXAMPLE.len() {
+        both.list(&EXAMPLE[..length]);
+    }
+    let mut longest = plan_at_level(&mut random, 3);
+    while longest.len() < 16 {
+        longest = plan_at_level(&mut random, 3);
+    }
+    for count in [1, 2, 9, 16] {
+        let input = bench_input(&mut random, &longest[..count], 6);
+        for length in 0..=input.len() {
+            both.list(&input[..length]);
+        }
+    }
+    both.saw("cuts", 200);
+    both.wants("refused 1", 10);
+    both.wants("refused 4", 100);
+    both.wants("refused 16", 20);
+    both.wants("plan", 50);
+}
+
+/// Would catch a bit of the input that is not looked at or is taken for another.
+#[test]
+fn every_flipped_bit() {
+    let mut both = Both::default();
+    let mut input = EXAMPLE;
+    for place in 0..8 * input.len() {
+        input[place / 8] ^= 0x80 >> (place % 8);
+        both.list(&input);
+        input[place / 8] ^= 0x80 >> (place % 8);
+    }
+    both.saw("flipped bits", 216);
+    for said in ["plan", "run", "idle"] {
+        both.wants(said, 100);
+    }
+    for number in [2, 8, 12, 13, 14] {
+        both.wants(&format!("refused {number}"), 4);
+    }
+}
+
+/// Would catch a refused plan that doesn't end the listing, or that is refused with another number.
+#[test]
+fn damaged_plans() {
+    let mut both = Both::default();
+    let mut random = Random::new(2_103);
+    for round in 0..900 {
+        let level = round % SPEEDS.len();
+        let plan = match round % 5 {
+            0 => plan_one_over(&mut random, level),
+            1 => plan_at_largest_hyperperiod(&mut random),
+            2 => plan_above_largest_hyperperiod(&mut random),
+            3 => edge_list(&mut random),
+            _ => plan_at_level(&mut random, level),
+        };
+        let mut input = block_of(&plan);
+        if round % 2 == 0 {
+            input = damaged_block(&mut random, &input);
+        }
+        for _ in 0..random.below(24) {
+            let any = random.number() as u8;
+            input.push(random.pick(&[0x00, 0x80, 0x01, 0x02, any]));
+        }
+        both.list(&input);
+    }
+    both.saw("damaged plans", 900);
+    for number in 2..=8 {
+        both.wants(&format!("refused {number}"), 25);
+    }
+    both.wants("plan", 200);
+}
+
+/// Would catch an end on some bytes, and a count or an edition let through.
+#[test]
+fn rubbish() {
+    let mut both = Both::default();
+    let mut random = Random::new(2_104);
+    for first in 0..=255 {
+        both.list(&[first]);
+    }
+    for _ in 0..400 {
+        let length = random.below(200) as usize;
+        let mut input = vec![0; length];
+        input.fill_with(|| random.number() as u8);
+        if let Some(first) = input.first_mut() {
+            // Most others are refused at once.
+            *first = 0x10 | *first & 0x0f;
+        }
+        both.list(&input);
+    }
+    both.saw("rubbish", 650);
+    both.wants("refused 1", 256);
+    both.wants("refused 3", 100);
+}
+
+/// Would catch a largest input that is off by one, an input that is cut, and 17 asked after the plan
+/// is read.
+#[test]
+fn the_largest_inputs() {
+    let mut both = Both::default();
+    let mut random = Random::new(2_105);
+    let plan_of_15 = &EXAMPLE[..15];
+    let bench: Vec<Task> = sim::read_plan(plan_of_15).unwrap().0;
+    // The bench plan's block leaves an odd byte, a single task's doesn't.
+    for plan in [bench, one_task(40, 300), one_task(12, 600)] {
+        for length in [LARGEST_INPUT - 1, LARGEST_INPUT] {
+            let odd = (length - block_bytes(plan.len() as u64)) % 2 == 1;
+            let listed = both.list(&input_of_length(&mut random, &plan, length));
+            assert_eq!(listed.ends_with("refused 16\n"), odd);
+            assert!(listed.lines().count() > 32_000);
+        }
+        for length in [LARGEST_INPUT + 1, LARGEST_INPUT + 2, 2 * LARGEST_INPUT] {
+            let listed = both.list(&input_of_length(&mut random, &plan, length));
+            assert_eq!(listed, "refused 17\n");
+        }
+    }
+    // Whatever the bytes are.
+    for byte in [0x00, 0x10, 0xff] {
+        assert_eq!(both.list(&vec![byte; LARGEST_INPUT + 1]), "refused 17\n");
+        assert_ne!(both.list(&vec![byte; LARGEST_INPUT]), "refused 17\n");
+    }
+    both.list(&vec![0x10; 1 << 20]);
+    both.saw("the largest inputs", 20);
+    both.wants("refused 17", 13);
+    both.wants("run", 60_000);
+}
+
+/// Would catch a clock or a hold that is printed wrong from some count of digits on.
+#[test]
+fn long_clocks() {
+    let mut both = Both::default();
+    // A tick of work, then idle until the next arrival: 65,535 ticks with three passes.
+    let mut input = block_of(&one_task(65_535, 10));
+    let period: [u16; 3] = [0x8001, 0x7fff, 0x7fff];
+    while input.len() + 6 <= LARGEST_INPUT {
+        for pass in period {
+            input.extend(pass.to_be_bytes());
+        }
+    }
+    let listed = both.list(&input);
+    assert!(
+        listed.ends_with("\n715707735 run 0 0 1\n"),
+        "{}",
+        &listed[listed.len() - 40..]
+    );
+    both.saw("long clocks", 1);
+    both.wants("run", 10_900);
+    both.wants("idle", 21_000);
+}
+
+/// Would catch a program that takes the first piece of its input for all of it.
+#[test]
+fn inputs_in_pieces() {
+    let mut both = Both::default();
+    let mut random = Random::new(2_106);
+    for size in 1..=EXAMPLE.len() {
+        both.list_in_pieces(&EXAMPLE, size);
+    }
+    let bench: Vec<Task> = sim::read_plan(&EXAMPLE[..15]).unwrap().0;
+    for size in [4_095, 4_096, 10_000, 65_535, 65_536] {
+        for length in [LARGEST_INPUT, LARGEST_INPUT + 1] {
+            let input = input_of_length(&mut random, &bench, length);
+            both.list_in_pieces(&input, size);
+        }
+    }
+    both.saw("inputs in pieces", 37);
+    both.wants("refused 17", 5);
+    both.wants("plan", 32);
+}

@@ -1,0 +1,241 @@
+//! A list of tasks judged without packing it, on both sides. The lists stand between entries that
+//! may not be looked at, and no entry may change.
+
+// Brings the archives in.
+use differ as _;
+use sim::plan::{judge_list, Judged, Task, LARGEST_PERIOD, LARGEST_WORST, SPEEDS};
+use sim::random::plans::{
+    edge_list, full_plan, plan_above_largest_hyperperiod, plan_at_largest_hyperperiod,
+    plan_at_level, plan_one_over, plan_one_unit_over,
+};
+use sim::random::Random;
+use std::collections::BTreeMap;
+
+/// A task as C has it.
+#[repr(C)]
+#[derive(Clone, Copy, PartialEq, Eq, Debug)]
+struct Entry {
+    period: u32,
+    worst: u32,
+}
+
+extern "C" {
+    fn kilmstra_judge_list(tasks: *const Entry, count: usize) -> u64;
+}
+
+/// Stands for "accepted" where else a refusal's number stands.
+const ACCEPTED: u32 = 0;
+
+/// What stands around a list: with one of these looked at, most answers would be others.
+const AROUND: [Entry; 3] = [
+    entry(0, 0),
+    entry(u32::MAX, u32::MAX),
+    // All of a plan's ticks at the highest level.
+    entry(1, 100),
+];
+
+const fn entry(period: u32, worst: u32) -> Entry {
+    Entry { period, worst }
+}
+
+/// Puts lists to both sides, and counts the answers on which they agreed.
+#[derive(Default)]
+struct Both {
+    seen: BTreeMap<u32, u64>,
+}
+
+impl Both {
+    #[track_caller]
+    fn judge(&mut self, list: &[Entry]) -> Result<Judged, u32> {
+        let wanted = judge_list(&as_tasks(list));
+        let lists: u64 = self.seen.values().sum();
+        let around = AROUND[(lists % 3) as usize];
+        let mut lent = vec![around; list.len() + 4];
+        let from = 2;
+        let end = from + list.len();
+        lent[from..end].copy_from_slice(list);
+        let before = lent.clone();
+        // SAFETY: pointer and length are those of a slice, which the call only reads.
+        let answer = unsafe { kilmstra_judge_list(lent[from..end].as_ptr(), list.len()) };
+        assert_eq!(answer, as_answer(wanted), "{} of {list:?}", list.len());
+        assert_eq!(lent, before, "an entry has changed");
+        *self
+            .seen
+            .entry(wanted.err().unwrap_or(ACCEPTED))
+            .or_default() += 1;
+        wanted
+    }
+
+    /// Wants this answer at least so often.
+    #[track_caller]
+    fn wants(&self, number: u32, least: u64) {
+        let times = self.seen.get(&number).copied().unwrap_or(0);
+        assert!(times >= least, "{number} only {times} times");
+    }
+
+    /// Prints what came of the lists.
+    fn saw(&self, what: &str) {
+        println!("{what}: {:?}", self.seen);
+    }
+}
+
+/// A refusal's number; else the level from bit 8 on and the hyperperiod from bit 16 on.
+fn as_answer(judged: Result<Judged, u32>) -> u64 {
+    match judged {
+        Ok(judged) => 256 * judged.nominal as u64 + 65_536 * judged.hyperperiod,
+        Err(number) => u64::from(number),
+    }
+}
+
+fn as_tasks(list: &[Entry]) -> Vec<Task> {
+    let task = |entry: &Entry| Task {
+        period: u64::from(entry.period),
+        worst: u64::from(entry.worst),
+    };
+    list.iter().map(task).collect()
+}
+
+/// What 32 bits don't hold becomes the largest that they do, which is as far out of range.
+fn as_entries(tasks: &[Task]) -> Vec<Entry> {
+    let narrow = |number: u64| u32::try_from(number).unwrap_or(u32::MAX);
+    let entry = |task: &Task| entry(narrow(task.period), narrow(task.worst));
+    tasks.iter().map(entry).collect()
+}
+
+/// Would catch a list that is not asked for its length, one of 17 or more judged by its first
+/// entries, one whose length is cut to fewer bits, and fields asked about before the count.
+#[test]
+fn lists_of_every_length() {
+    let mut both = Both::default();
+    let mut lengths: Vec<usize> = (0..=40).collect();
+    lengths.extend([255, 256, 257, 272, 999, 1_000, 1_001]);
+    lengths.extend([65_535, 65_536, 65_537, 65_552, 1 << 18]);
+    for length in lengths {
+        // Good ones, ones out of range, and ones too much for every level.
+        for (period, worst) in [(60_000, 37), (60_000, 600), (0, 0), (1, 101)] {
+            let judged = both.judge(&vec![entry(period, worst); length]);
+            let wanted = match (length, period) {
+                (0, _) | (17.., _) => Some(3),
+                (_, 0) => Some(6),
+                (_, 1) => Some(8),
+                _ => None,
+            };
+            assert_eq!(judged.err(), wanted, "{length}");
+        }
+    }
+    both.saw("lists of every length");
+    both.wants(ACCEPTED, 32);
+    both.wants(3, 100);
+    both.wants(6, 16);
+    both.wants(8, 16);
+}
+
+/// Would catch a place that is not looked at, and a range that is off by one at either end or is
+/// asked about after a field was cut to fewer bits.
+#[test]
+fn fields_at_and_past_their_ranges() {
+    let mut both = Both::default();
+    let periods = edges(LARGEST_PERIOD as u32, 16);
+    let worsts = edges(LARGEST_WORST as u32, 20);
+    for length in [1, 2, 15, 16, 17, 1_000] {
+        let places = if length > 20 {
+            vec![0, 15, 16, 999]
+        } else {
+            (0..length).collect()
+        };
+        for place in places {
+            let mut list = vec![entry(65_535, 1); length];
+            for period in &periods {
+                list[place] = entry(*period, 1);
+                let judged = both.judge(&list);
+                let is_out = *period < 1 || u64::from(*period) > LARGEST_PERIOD;
+                assert_eq!(judged == Err(6), is_out && length <= 16);
+            }
+            for worst in &worsts {
+                list[place] = entry(65_535, *worst);
+                let judged = both.judge(&list);
+                let is_out = *worst < 1 || u64::from(*worst) > LARGEST_WORST;
+                assert_eq!(judged == Err(6), is_out && length <= 16);
+            }
+        }
+    }
+    both.saw("fields at and past their ranges");
+    both.wants(ACCEPTED, 100);
+    both.wants(3, 500);
+    both.wants(6, 1_000);
+}
+
+/// Values at the ends of a range of so many bits, and values that would be 10 with one high bit left
+/// out.
+fn edges(largest: u32, bits: u32) -> Vec<u32> {
+    let mut values = vec![0, 1, 2, largest - 1, largest, largest + 1, u32::MAX];
+    values.extend((bits..32).map(|bit| (1 << bit) + 10));
+    values
+}
+
+/// Would catch a level or a hyperperiod that is wrong for some list, fields that are swapped, a last
+/// entry left out, and one looked at past the end.
+#[test]
+fn lists_of_every_kind() {
+    let mut both = Both::default();
+    let mut random = Random::new(1_001);
+    let mut levels = [0; 8];
+    for round in 0..2_000 {
+        let level = round % SPEEDS.len();
+        let lists = [
+            plan_at_level(&mut random, level),
+            full_plan(&mut random, level),
+            plan_one_over(&mut random, level),
+            plan_one_unit_over(&mut random, level),
+            plan_at_largest_hyperperiod(&mut random),
+            plan_above_largest_hyperperiod(&mut random),
+            edge_list(&mut random),
+        ];
+        for tasks in lists {
+            let mut list = as_entries(&tasks);
+            if let Ok(judged) = both.judge(&list) {
+                levels[judged.nominal] += 1;
+            }
+            // One field a little off.
+            if let Some(last) = list.last_mut() {
+                last.worst = last.worst.wrapping_add(1);
+                let _ = both.judge(&list);
+            }
+        }
+    }
+    both.saw("lists of every kind");
+    println!("levels {levels:?}");
+    both.wants(ACCEPTED, 12_000);
+    both.wants(3, 30);
+    both.wants(6, 500);
+    both.wants(7, 3_000);
+    both.wants(8, 1_000);
+    assert!(levels.iter().all(|times| *times > 300), "{levels:?}");
+}
+
+/// Would catch a question asked before its turn: each list is refused for two reasons.
+#[test]
+fn the_first_no_decides() {
+    let mut both = Both::default();
+    let cases = [
+        (vec![entry(0, 0); 17], 3),
+        (vec![entry(1_000, 1); 17], 3),
+        (vec![entry(1_000, 1), entry(1_001, 1), entry(0, 1)], 6),
+        (vec![entry(1, 101), entry(5, 0)], 6),
+        (vec![entry(1_000, 900_000), entry(1_001, 900_000)], 7),
+        (vec![entry(1, 1), entry(1, 1)], 8),
+    ];
+    for (list, number) in cases {
+        assert_eq!(both.judge(&list), Err(number), "{list:?}");
+    }
+    let bench = [entry(10, 400), entry(10, 400), entry(30, 600)];
+    let wanted = Judged {
+        nominal: 7,
+        hyperperiod: 30,
+    };
+    assert_eq!(both.judge(&bench), Ok(wanted));
+    both.wants(ACCEPTED, 1);
+    for number in [3, 6, 7, 8] {
+        both.wants(number, 1);
+    }
+}

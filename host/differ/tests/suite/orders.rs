@@ -1,0 +1,134 @@
+//! 01's cases of starting, passing and showing, with the answers that stand there.
+
+use crate::both::Both;
+use crate::dispatch::STATE_BYTES;
+use crate::made::{bench_plan, tasks};
+use crate::view::queue_bytes;
+use differ::dispatcher::Order;
+use sim::random::blocks::block_of;
+
+/// The passes of 01's listing, and what they are answered.
+const LISTING: [(u32, u8, Order); 6] = [
+    (1, 1, run(1, 5, 7)),
+    (7, 1, run(2, 7, 2)),
+    (2, 1, run(0, 7, 4)),
+    (4, 1, run(1, 7, 4)),
+    (4, 1, idle(2)),
+    (2, 0, run(0, 6, 5)),
+];
+
+const fn run(task: u8, level: u8, hold: u32) -> Order {
+    Order::Run { task, level, hold }
+}
+
+const fn idle(hold: u32) -> Order {
+    Order::Idle { hold }
+}
+
+/// The bench plan after so many passes of the listing.
+fn led(both: &mut Both, passes: usize) -> [u8; STATE_BYTES] {
+    let mut state = [0; STATE_BYTES];
+    let first = both.start(&block_of(&bench_plan()), &mut state);
+    assert_eq!(first, Ok(run(0, 7, 4)));
+    for (d, finished, order) in &LISTING[..passes] {
+        assert_eq!(both.pass(&mut state, *d, *finished), Ok(*order));
+    }
+    state
+}
+
+/// Would catch every one of the ways astray that 01 lists: the run goes through the ticks that it
+/// names.
+#[test]
+fn the_listing() {
+    let mut both = Both::new();
+    for passes in 0..=LISTING.len() {
+        led(&mut both, passes);
+    }
+}
+
+/// Would catch a field at another place of the state, or with its bytes in another order.
+#[test]
+fn the_state_byte_by_byte() {
+    let mut both = Both::new();
+    let mut state = led(&mut both, 1);
+    let mut wanted = [0; STATE_BYTES];
+    // Clock 1, task 1, level 5, three entries.
+    wanted[..8].copy_from_slice(&[0, 0, 0, 1, 1, 5, 3, 0]);
+    // 400 is hex 190 and 600 is hex 258. Task 0 has ended and had one of its 4 ticks.
+    wanted[8..20].copy_from_slice(&[0, 10, 0, 1, 0x90, 0, 0, 0, 0, 3, 0, 0]);
+    wanted[20..32].copy_from_slice(&[0, 10, 0, 1, 0x90, 0, 1, 0x90, 0, 4, 0, 0]);
+    wanted[32..44].copy_from_slice(&[0, 30, 0, 2, 0x58, 0, 2, 0x58, 0, 6, 0, 0]);
+    assert_eq!(state, wanted);
+    // Two ticks at 60 a tick: 280 left, hex 118.
+    assert_eq!(both.pass(&mut state, 2, 0), Ok(run(1, 5, 5)));
+    wanted[3] = 3;
+    wanted[17] = 1;
+    wanted[26..28].copy_from_slice(&[1, 0x18]);
+    assert_eq!(state, wanted);
+    // Idle at tick 18: task 255, level 0. Only task 2's allotment isn't used up.
+    let idle = led(&mut both, 5);
+    assert_eq!(idle[..8], [0, 0, 0, 18, 255, 0, 3, 0]);
+    assert_eq!(idle[8..20], [0, 10, 0, 1, 0x90, 0, 0, 0, 0, 0, 0, 0]);
+    assert_eq!(idle[32..44], [0, 30, 0, 2, 0x58, 0, 0, 0, 0, 4, 0, 0]);
+}
+
+/// Would catch an edge of 11 to 14 that is off by one.
+#[test]
+fn passes_of_the_bench_plan_at_tick_0() {
+    let mut both = Both::new();
+    let state = led(&mut both, 0);
+    let mut answer = |d, finished| both.pass(&mut state.clone(), d, finished);
+    assert_eq!(answer(3, 0), Ok(run(0, 7, 1)));
+    assert_eq!(answer(4, 0), Err(14));
+    assert_eq!(answer(4, 1), Ok(run(1, 7, 4)));
+    assert_eq!(answer(5, 1), Err(14));
+    assert_eq!(answer(10, 1), Err(14));
+    assert_eq!(answer(11, 1), Err(12));
+    assert_eq!(answer(0, 0), Err(11));
+    assert_eq!(answer(0, 1), Err(11));
+}
+
+/// Would catch a finish that is taken though no job runs.
+#[test]
+fn finishing_while_idle_at_tick_18() {
+    let mut both = Both::new();
+    let mut state = led(&mut both, 5);
+    assert_eq!(both.pass(&mut state, 2, 1), Err(13));
+    assert_eq!(both.pass(&mut state, 3, 1), Err(12));
+    assert_eq!(both.pass(&mut state, 1, 0), Ok(idle(1)));
+    assert_eq!(both.pass(&mut state, 1, 0), Ok(run(0, 6, 5)));
+}
+
+/// Would catch a queue that is sorted by deadline and number alone, and one byte too few asked for.
+#[test]
+fn queues_at_ticks_1_and_20() {
+    let mut both = Both::new();
+    let first = led(&mut both, 1);
+    let queue = [0, 0, 3, 1, 0, 4, 2, 0, 6];
+    assert_eq!(both.show(&first, 9).as_deref(), Ok(&queue[..]));
+    assert_eq!(both.show(&first, 8), Err(9));
+    let last = led(&mut both, 6);
+    let queue = queue_bytes(&[(2, 2), (0, 4), (1, 4)]);
+    assert_eq!(both.show(&last, 48), Ok(queue));
+}
+
+/// Would catch a wrong answer where the plan has no room at all: every tick starts a new job.
+#[test]
+fn period_1() {
+    let mut both = Both::new();
+    for (work, level) in [(10, 0), (11, 1), (60, 5), (61, 6), (100, 7)] {
+        let mut state = [0; STATE_BYTES];
+        let first = both.start(&block_of(&tasks(&[(1, work)])), &mut state);
+        assert_eq!(first, Ok(run(0, level, 1)));
+        for _ in 0..50 {
+            assert_eq!(both.pass(&mut state, 1, 0), Err(14));
+            assert_eq!(both.pass(&mut state, 2, 1), Err(12));
+            assert_eq!(both.pass(&mut state, 1, 1), Ok(run(0, level, 1)));
+        }
+    }
+    let mut state = [0; STATE_BYTES];
+    assert_eq!(
+        both.start(&block_of(&tasks(&[(1, 101)])), &mut state),
+        Err(8)
+    );
+}

@@ -1,0 +1,141 @@
+//! Passes at and beside every edge that a question has, from states of every kind.
+
+use crate::both::{Both, Call, ACCEPTED};
+use crate::dispatch::STATE_BYTES;
+use crate::view::{told, View};
+use sim::plan::SPEEDS;
+use sim::random::plans::{plan_at_level, plan_at_level_within, SMALL_BASES};
+use sim::random::states::{invented_state, late_state, reached_state};
+use sim::random::Random;
+
+/// Puts passes at each edge to copies of the state. Says how many were accepted.
+fn put_edges(both: &mut Both, random: &mut Random, state: &[u8; STATE_BYTES]) -> u32 {
+    let view = View::of(state);
+    let mut accepted = 0;
+    for d in view.edges() {
+        for finished in [false, true] {
+            let mut after = *state;
+            let reply = both.pass(&mut after, d, told(random, finished));
+            let number = reply.err().unwrap_or(ACCEPTED);
+            assert_eq!(number, view.refusal(d, finished), "{d} {finished} {view:?}");
+            accepted += u32::from(reply.is_ok());
+        }
+    }
+    accepted
+}
+
+/// A state that a run reaches. The more passes a plan has seen, the less its jobs are in step.
+fn some_reached_state(random: &mut Random, level: usize) -> [u8; STATE_BYTES] {
+    let plan = if random.one_in(3) {
+        plan_at_level(random, level)
+    } else {
+        let base = random.pick(&SMALL_BASES);
+        plan_at_level_within(random, level, base)
+    };
+    let passes = random.pick(&[0, 1, 2, 5, 20, 60]);
+    reached_state(random, &plan, passes).0
+}
+
+/// Would catch any of 11 to 14 that is off by one, left out, asked before its turn, or told with
+/// another's number; ticks cut to fewer bits; a byte for finished that must be 1; and a state
+/// changed on the way to a refusal.
+#[test]
+fn every_edge_of_reached_states() {
+    let mut both = Both::new();
+    let mut random = Random::new(501);
+    for round in 0..2_500 {
+        let state = some_reached_state(&mut random, round % SPEEDS.len());
+        put_edges(&mut both, &mut random, &state);
+    }
+    both.dispatched("edges of reached states", 60_000);
+    both.wants(Call::Pass, ACCEPTED, 5_000);
+    for number in [11, 12, 14] {
+        both.wants(Call::Pass, number, 4_000);
+    }
+    both.wants(Call::Pass, 13, 500);
+}
+
+/// The same within the last ticks before the largest clock: would catch 15 that is off by one, asked
+/// before its turn, or asked about a sum that has wrapped.
+#[test]
+fn every_edge_of_late_states() {
+    let mut both = Both::new();
+    let mut random = Random::new(502);
+    let mut stuck = 0;
+    for round in 0..1_600 {
+        let reached = some_reached_state(&mut random, round % SPEEDS.len());
+        let mut state = late_state(&mut random, &reached);
+        // On towards the end, as far as it goes.
+        for _ in 0..random.below(40) {
+            let view = View::of(&state);
+            let (d, finished) = if random.one_in(2) {
+                view.whole_hold()
+            } else {
+                view.early_end(&mut random)
+            };
+            if both
+                .pass(&mut state, d, told(&mut random, finished))
+                .is_err()
+            {
+                break;
+            }
+        }
+        if put_edges(&mut both, &mut random, &state) == 0 {
+            stuck += 1;
+        }
+    }
+    both.dispatched("edges of late states", 40_000);
+    both.wants(Call::Pass, ACCEPTED, 6_000);
+    for number in [11, 12, 14, 15] {
+        both.wants(Call::Pass, number, 2_000);
+    }
+    both.wants(Call::Pass, 13, 200);
+    assert!(stuck > 100, "{stuck}");
+}
+
+/// Would catch a pass that counts on more than soundness: any clock, any progress of the jobs, and
+/// an order at a higher level than the lowest that fits.
+#[test]
+fn every_edge_of_invented_states() {
+    let mut both = Both::new();
+    let mut random = Random::new(503);
+    for round in 0..3_000 {
+        let plan = plan_at_level(&mut random, round % SPEEDS.len());
+        let state = invented_state(&mut random, &plan);
+        put_edges(&mut both, &mut random, &state);
+        let _ = both.show(&state, 48);
+    }
+    both.dispatched("edges of invented states", 80_000);
+    both.wants(Call::Pass, ACCEPTED, 6_000);
+    for number in 11..=14 {
+        both.wants(Call::Pass, number, 1_000);
+    }
+    both.wants(Call::Pass, 15, 100);
+    both.wants(Call::Show, ACCEPTED, 3_000);
+}
+
+/// Runs on from invented states: would catch a state left unsound by a pass from a sound one.
+#[test]
+fn runs_from_invented_states() {
+    let mut both = Both::new();
+    let mut random = Random::new(504);
+    for round in 0..400 {
+        let base = random.pick(&SMALL_BASES);
+        let plan = plan_at_level_within(&mut random, round % SPEEDS.len(), base);
+        let mut state = invented_state(&mut random, &plan);
+        for _ in 0..30 {
+            let view = View::of(&state);
+            let (d, finished) = match random.below(3) {
+                0 => view.whole_hold(),
+                1 => view.early_end(&mut random),
+                _ => view.one_tick(&mut random),
+            };
+            let reply = both.pass(&mut state, d, told(&mut random, finished));
+            assert_eq!(reply.err().unwrap_or(0), view.refusal(d, finished));
+            let _ = both.show(&state, 48);
+        }
+    }
+    both.dispatched("runs from invented states", 24_000);
+    both.wants(Call::Pass, ACCEPTED, 7_000);
+    both.wants(Call::Show, ACCEPTED, 12_000);
+}

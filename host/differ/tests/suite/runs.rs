@@ -1,0 +1,234 @@
+//! Long runs of accepted plans. After every pass, accepted or refused, demand 3 is checked on the
+//! simulator's two books, which are fed the library's replies and nothing of the state; and the
+//! queue shown must be the one of the plain schedule's book.
+
+use crate::both::{Both, Call, ACCEPTED};
+use crate::dispatch::{as_simulated, STATE_BYTES};
+use crate::made::bench_plan;
+use crate::view::{queue_bytes, told, View};
+use differ::dispatcher::Order;
+use sim::books::{demand3_holds, ActualBook, PlainBook};
+use sim::plan::{judge_list, Task, SPEEDS};
+use sim::random::blocks::block_of;
+use sim::random::plans::{full_plan, plan_at_level, plan_at_level_within, SMALL_BASES};
+use sim::random::states::any_pass;
+use sim::random::Random;
+
+/// How the passes of a run are chosen.
+#[derive(Clone, Copy)]
+enum Style {
+    /// Every job takes its worst case.
+    Worst,
+    /// Every job ends within its hold, most often soon.
+    Early,
+    /// A pass for every tick.
+    TickByTick,
+    /// Accepted ones, ones around the hold, and ones far off.
+    Any,
+}
+
+const STYLES: [Style; 4] = [Style::Worst, Style::Early, Style::TickByTick, Style::Any];
+
+/// What went on in the runs, to be sure that they met what they are for.
+#[derive(Default, Debug)]
+struct Tally {
+    early: u64,
+    interrupted: u64,
+    stayed: u64,
+    below_nominal: u64,
+    idle: u64,
+    levels: [u64; 8],
+}
+
+struct Run {
+    plan: Vec<Task>,
+    nominal: u8,
+    state: [u8; STATE_BYTES],
+    order: Order,
+    actual: ActualBook,
+    plain: PlainBook,
+}
+
+impl Run {
+    fn new(both: &mut Both, plan: Vec<Task>) -> Run {
+        let mut state = [0xa5; STATE_BYTES];
+        let order = both
+            .start(&block_of(&plan), &mut state)
+            .expect("the plan is an accepted one");
+        let run = Run {
+            nominal: judge_list(&plan).unwrap().nominal as u8,
+            actual: ActualBook::new(&plan, as_simulated(order)),
+            plain: PlainBook::new(&plan),
+            plan,
+            state,
+            order,
+        };
+        run.check(both);
+        run
+    }
+
+    fn choose(&self, random: &mut Random, style: Style) -> (u32, bool) {
+        let view = View::of(&self.state);
+        match style {
+            Style::Worst => view.whole_hold(),
+            Style::Early => view.early_end(random),
+            Style::TickByTick => view.one_tick(random),
+            Style::Any => any_pass(random, as_simulated(self.order)),
+        }
+    }
+
+    /// One pass, with everything checked after it.
+    fn step(&mut self, both: &mut Both, random: &mut Random, style: Style, tally: &mut Tally) {
+        let (d, finished) = self.choose(random, style);
+        let view = View::of(&self.state);
+        let reply = both.pass(&mut self.state, d, told(random, finished));
+        assert_eq!(reply.err().unwrap_or(0), view.refusal(d, finished));
+        let entered = reply.map(as_simulated);
+        self.actual.pass(d, finished, entered);
+        self.plain.pass(d, entered);
+        if let Ok(order) = reply {
+            self.note(view, d, finished, order, tally);
+            self.order = order;
+        }
+        self.check(both);
+        self.actual.forget_closed();
+        self.plain.forget_closed();
+    }
+
+    fn note(&self, view: View, d: u32, finished: bool, order: Order, tally: &mut Tally) {
+        let d = u64::from(d);
+        let arrived = d == view.to_arrival;
+        match view.needed {
+            Some(needed) if finished && d < needed => tally.early += 1,
+            Some(_) if !finished && arrived => tally.interrupted += 1,
+            _ => {}
+        }
+        if !finished && !arrived {
+            tally.stayed += 1;
+        }
+        match order {
+            Order::Idle { .. } => tally.idle += 1,
+            Order::Run { level, .. } => {
+                tally.levels[usize::from(level)] += 1;
+                tally.below_nominal += u64::from(level < self.nominal);
+            }
+        }
+    }
+
+    fn check(&self, both: &mut Both) {
+        let demand = demand3_holds(&self.plan, &self.actual, &self.plain);
+        assert_eq!(demand, Ok(()), "{:?}", self.plan);
+        let open = self.plain.open_jobs();
+        let open: Vec<(usize, u64)> = open.iter().map(|job| (job.task, job.left)).collect();
+        let shown = both.show(&self.state, 48);
+        assert_eq!(shown, Ok(queue_bytes(&open)), "{:?}", self.plan);
+    }
+}
+
+/// A run of so many passes, all in one style.
+fn run(
+    both: &mut Both,
+    random: &mut Random,
+    plan: &[Task],
+    style: Style,
+    passes: u32,
+    tally: &mut Tally,
+) {
+    let mut run = Run::new(both, plan.to_vec());
+    for _ in 0..passes {
+        run.step(both, random, style, tally);
+    }
+}
+
+/// Would catch a wrong task, level, hold, clock, work left or plain ticks left after any pass of a
+/// run; ticks lent to a more urgent job, or not counted where deadlines are equal; an allotment
+/// pushed twice; a queue that stands still; a level always nominal; and any deadline missed.
+#[test]
+fn long_runs_at_every_level() {
+    let mut both = Both::new();
+    let mut random = Random::new(401);
+    let mut tally = Tally::default();
+    for level in 0..SPEEDS.len() {
+        for round in 0..48 {
+            let base = random.pick(&SMALL_BASES);
+            let plan = plan_at_level_within(&mut random, level, base);
+            let style = STYLES[round % STYLES.len()];
+            run(&mut both, &mut random, &plan, style, 160, &mut tally);
+        }
+    }
+    println!("{tally:?}");
+    both.dispatched("runs at every level", 120_000);
+    both.wants(Call::Pass, ACCEPTED, 50_000);
+    for number in [11, 12, 13, 14] {
+        both.wants(Call::Pass, number, 100);
+    }
+    assert!(
+        tally.early > 5_000 && tally.interrupted > 1_000,
+        "{tally:?}"
+    );
+    assert!(tally.stayed > 5_000 && tally.idle > 5_000, "{tally:?}");
+    assert!(tally.below_nominal > 5_000, "{tally:?}");
+    assert!(tally.levels.iter().all(|times| *times > 2_000), "{tally:?}");
+}
+
+/// The same where the plain schedule has no tick to spare: would catch a level that is one too low,
+/// or a tick lent twice, as a job that is late.
+#[test]
+fn long_runs_of_full_plans() {
+    let mut both = Both::new();
+    let mut random = Random::new(402);
+    let mut tally = Tally::default();
+    let mut runs = 0;
+    while runs < 128 {
+        let plan = full_plan(&mut random, runs % SPEEDS.len());
+        // The books go tick by tick.
+        if plan.iter().any(|task| task.period > 3_000) {
+            continue;
+        }
+        let style = STYLES[runs / SPEEDS.len() % STYLES.len()];
+        run(&mut both, &mut random, &plan, style, 120, &mut tally);
+        runs += 1;
+    }
+    println!("{tally:?}");
+    both.dispatched("runs of full plans", 30_000);
+    both.wants(Call::Pass, ACCEPTED, 13_000);
+    assert!(tally.early > 1_000 && tally.interrupted > 100, "{tally:?}");
+    assert!(tally.below_nominal > 1_000, "{tally:?}");
+}
+
+/// Would catch a number of ticks, of work or of plain ticks that is cut to fewer bits.
+#[test]
+fn runs_with_long_periods() {
+    let mut both = Both::new();
+    let mut random = Random::new(403);
+    let mut tally = Tally::default();
+    for level in 0..SPEEDS.len() {
+        for round in 0..6 {
+            let plan = plan_at_level(&mut random, level);
+            // A pass for every tick would not come far.
+            let style = [Style::Worst, Style::Early, Style::Any][round % 3];
+            run(&mut both, &mut random, &plan, style, 50, &mut tally);
+        }
+    }
+    println!("{tally:?}");
+    both.dispatched("runs with long periods", 4_500);
+    both.wants(Call::Pass, ACCEPTED, 2_000);
+    assert!(tally.early > 300, "{tally:?}");
+}
+
+/// Would catch what builds up over many hyperperiods.
+#[test]
+fn the_bench_plan_for_thousands_of_passes() {
+    let mut both = Both::new();
+    let mut random = Random::new(404);
+    let mut tally = Tally::default();
+    for style in STYLES {
+        let plan = bench_plan();
+        run(&mut both, &mut random, &plan, style, 4_000, &mut tally);
+    }
+    println!("{tally:?}");
+    both.dispatched("the bench plan", 32_000);
+    both.wants(Call::Pass, ACCEPTED, 14_000);
+    assert!(tally.early > 3_000 && tally.interrupted > 500, "{tally:?}");
+    assert!(tally.below_nominal > 3_000, "{tally:?}");
+}

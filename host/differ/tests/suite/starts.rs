@@ -1,0 +1,141 @@
+//! Plans of every kind started in buffers of every length.
+
+use crate::both::{Both, Call, ACCEPTED};
+use crate::dispatch::STATE_BYTES;
+use crate::made::{plan_of_count, tasks};
+use differ::dispatcher::Order;
+use sim::plan::{pack_block, SPEEDS};
+use sim::random::blocks::{block_of, damaged_block};
+use sim::random::plans::{
+    edge_list, full_plan, plan_above_largest_hyperperiod, plan_at_largest_hyperperiod,
+    plan_at_level, plan_one_over,
+};
+use sim::random::Random;
+
+/// Starts in a buffer of this length whose bytes before are anything.
+#[track_caller]
+fn put_start(
+    both: &mut Both,
+    random: &mut Random,
+    block: &[u8],
+    room: usize,
+) -> Result<Order, u32> {
+    let mut state = vec![0; room];
+    match random.below(3) {
+        0 => {}
+        1 => state.fill(0xff),
+        _ => state.fill_with(|| random.number() as u8),
+    }
+    both.start(block, &mut state)
+}
+
+/// A buffer's length: exact, one byte off, empty, or longer.
+fn some_room(random: &mut Random) -> usize {
+    random.pick(&[0, 199, 200, 200, 200, 200, 201, 212, 400])
+}
+
+/// Would catch a buffer that must have exactly 200 bytes, a byte written past the 200 or past the
+/// buffer, a buffer half filled before 9 is said, and an old byte that shines through.
+#[test]
+fn starts_in_buffers_of_every_length() {
+    let mut both = Both::new();
+    let mut random = Random::new(901);
+    for count in 1..=16 {
+        let block = block_of(&plan_of_count(&mut random, count));
+        for room in 0..=260 {
+            let reply = put_start(&mut both, &mut random, &block, room);
+            assert_eq!(reply.is_ok(), room >= STATE_BYTES);
+        }
+        for room in [456, 65_536, 65_735, 65_736, 1 << 18] {
+            assert!(put_start(&mut both, &mut random, &block, room).is_ok());
+        }
+    }
+    both.dispatched("starts in buffers of every length", 4_000);
+    both.wants(Call::Start, ACCEPTED, 1_000);
+    both.wants(Call::Start, 9, 3_000);
+}
+
+/// Would catch 9 said before another refusal, and a byte changed on the way to one.
+#[test]
+fn refused_blocks_in_buffers_of_every_length() {
+    let mut both = Both::new();
+    let mut random = Random::new(902);
+    let bench = block_of(&tasks(&[(10, 400), (10, 400), (30, 600)]));
+    let mut closed = bench.clone();
+    closed[14] |= 4;
+    let refused = [
+        (vec![], 1),
+        (bench[..1].to_vec(), 1),
+        (bench[1..].to_vec(), 2),
+        (pack_block(1, 0, &[]), 3),
+        (block_of(&tasks(&[(1_000, 1); 17])), 3),
+        (bench[..14].to_vec(), 4),
+        ([&bench[..], &[0]].concat(), 4),
+        (closed, 5),
+        (block_of(&tasks(&[(10, 400), (10, 0)])), 6),
+        (block_of(&tasks(&[(1_000, 1), (1_001, 1)])), 7),
+        (block_of(&tasks(&[(10, 400), (10, 400), (30, 601)])), 8),
+    ];
+    for (block, number) in refused {
+        for room in 0..=240 {
+            let reply = put_start(&mut both, &mut random, &block, room);
+            assert_eq!(reply, Err(number));
+        }
+    }
+    both.dispatched("refused blocks in buffers of every length", 2_600);
+    for number in 1..=8 {
+        both.wants(Call::Start, number, 240);
+    }
+}
+
+/// Would catch a first order or a fresh state that is wrong for some plan.
+#[test]
+fn starts_of_plans_of_every_kind() {
+    let mut both = Both::new();
+    let mut random = Random::new(903);
+    for round in 0..1_500 {
+        let level = round % SPEEDS.len();
+        let lists = [
+            plan_at_level(&mut random, level),
+            full_plan(&mut random, level),
+            plan_one_over(&mut random, level),
+            plan_at_largest_hyperperiod(&mut random),
+            plan_above_largest_hyperperiod(&mut random),
+            edge_list(&mut random),
+        ];
+        for list in lists {
+            let room = some_room(&mut random);
+            let _ = put_start(&mut both, &mut random, &block_of(&list), room);
+        }
+    }
+    both.dispatched("starts of plans of every kind", 9_000);
+    both.wants(Call::Start, ACCEPTED, 3_000);
+    for number in [6, 7, 8, 9] {
+        both.wants(Call::Start, number, 100);
+    }
+}
+
+/// Would catch damage that starting lets through though reading doesn't, or the other way round.
+#[test]
+fn starts_of_damaged_blocks() {
+    let mut both = Both::new();
+    let mut random = Random::new(904);
+    for round in 0..1_500 {
+        let block = block_of(&plan_at_level(&mut random, round % SPEEDS.len()));
+        for _ in 0..6 {
+            let damaged = damaged_block(&mut random, &block);
+            let room = some_room(&mut random);
+            let started = put_start(&mut both, &mut random, &damaged, room);
+            match both.read(&damaged) {
+                Ok(_) if room < STATE_BYTES => assert_eq!(started, Err(9)),
+                Ok(_) => assert!(started.is_ok()),
+                Err(number) => assert_eq!(started, Err(number)),
+            }
+        }
+    }
+    both.dispatched("starts of damaged blocks", 9_000);
+    for number in [ACCEPTED, 1, 2, 3, 4, 5, 6, 7, 8, 9] {
+        both.wants(Call::Start, number, 15);
+    }
+    both.wants(Call::Start, ACCEPTED, 500);
+}
