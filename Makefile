@@ -47,10 +47,12 @@ target/staticlib/libkilmstra.a: $(ARCHIVES)
 target/staticlib/lib%.a: $(CODE)
 	rt staticlib $*
 
-# rt leaves the program as it is if only its source's times have changed.
+# rt makes no program again whose code it has seen: one that is gone it must forget first, and one that
+# is there is as new as its source, whatever the times of the files say.
 target/bin/%: $(CODE)
+	@[ -f $@ ] || rm -f target/stamp/$*
 	rt check $*
-	@touch $@
+	@touch -c $@
 
 clean:
 	rm -rf target host/target
