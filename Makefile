@@ -2,6 +2,7 @@
 # make prove   the proofs alone
 # make host    the host tests alone, over what of the proved code is missing or older than its source
 # make run     the bench program on 01's example
+# make bench   measures the proved calls against ones written by hand, and writes docs/BENCHMARK.md
 # make install PREFIX=..   the header, the archive and the pkg-config file
 # make clean   removes all that was made
 
@@ -10,7 +11,7 @@ PROGRAMS := target/bin/bench
 CODE := crates.txt $(shell find crates -name '*.rt')
 PREFIX ?= /usr/local
 
-.PHONY: test prove host archives programs run install clean
+.PHONY: test prove host archives programs run bench install clean
 .NOTPARALLEL:
 
 test:
@@ -30,6 +31,9 @@ programs: $(PROGRAMS)
 run: target/bin/bench
 	@echo 'target/bin/bench < examples/bench.in'
 	@target/bin/bench < examples/bench.in
+
+bench: archives
+	host/benchmark/run
 
 install: target/staticlib/libkilmstra.a
 	mkdir -p "$(PREFIX)/include" "$(PREFIX)/lib/pkgconfig"

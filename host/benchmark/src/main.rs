@@ -1,0 +1,77 @@
+//! Measures the dispatcher's calls.
+//!
+//! - `benchmark time`: for each call and count of tasks, the nanoseconds of the proved call, of the
+//!   one written by hand, and their ratio.
+//! - `benchmark stack`: the same with the bytes of stack.
+//! - `benchmark calls`: how many inputs each measurement has, and how many calls `count` makes of them.
+//! - `benchmark count CALL TASKS WHICH`: makes these calls, for a tool that counts instructions.
+//!   WHICH is proved, hand or none; the count for none, taken off, leaves what the calls cost.
+
+use benchmark::calls::{Calls, BY_HAND, PROVED};
+use benchmark::inputs::inputs;
+use benchmark::measure::{round, times, Call, CALLS};
+use benchmark::stack::most_used;
+use std::env::args;
+use std::process::ExitCode;
+
+const COUNTS: [usize; 4] = [1, 3, 8, 16];
+const TIMED_ROUNDS: usize = 400;
+const COUNTED_ROUNDS: usize = 4;
+
+fn main() -> ExitCode {
+    let words: Vec<String> = args().skip(1).collect();
+    let words: Vec<&str> = words.iter().map(String::as_str).collect();
+    let is_done = match words[..] {
+        ["time"] => print_times(),
+        ["stack"] => print_stack(),
+        ["calls"] => print_calls(),
+        ["count", call, tasks, which] => count(call, tasks, which).is_some(),
+        _ => false,
+    };
+    if is_done {
+        return ExitCode::SUCCESS;
+    }
+    eprintln!("usage: benchmark time | stack | calls | count CALL TASKS WHICH");
+    ExitCode::FAILURE
+}
+
+fn print_times() -> bool {
+    for call in CALLS {
+        for tasks in COUNTS {
+            let (proved, hand) = times(call, &inputs(tasks), TIMED_ROUNDS);
+            let ratio = proved / hand;
+            println!("{} {tasks} {proved:.0} {hand:.0} {ratio:.2}", call.name());
+        }
+    }
+    true
+}
+
+fn print_stack() -> bool {
+    for call in CALLS {
+        for tasks in COUNTS {
+            let inputs = inputs(tasks);
+            let [proved, hand] = [PROVED, BY_HAND].map(|calls| most_used(call, &calls, &inputs));
+            println!("{} {tasks} {proved} {hand}", call.name());
+        }
+    }
+    true
+}
+
+fn print_calls() -> bool {
+    let inputs = inputs(COUNTS[0]).len();
+    println!("{inputs} {}", COUNTED_ROUNDS * inputs);
+    true
+}
+
+fn count(call: &str, tasks: &str, which: &str) -> Option<()> {
+    let (call, calls) = (Call::named(call)?, Calls::named(which)?);
+    let tasks = tasks
+        .parse()
+        .ok()
+        .filter(|tasks| (1..=16).contains(tasks))?;
+    let inputs = inputs(tasks);
+    for _ in 0..COUNTED_ROUNDS {
+        round(call, &calls, &inputs);
+    }
+    Some(())
+}

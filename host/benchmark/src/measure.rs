@@ -1,0 +1,62 @@
+//! Rounds of calls, and the time that they take.
+
+use crate::calls::{Calls, BY_HAND, NONE, PROVED};
+use crate::inputs::{Input, QUEUE_BYTES, STATE_BYTES};
+use std::hint::black_box;
+use std::time::Instant;
+
+pub const CALLS: [Call; 3] = [Call::Start, Call::Pass, Call::Show];
+
+#[derive(Clone, Copy)]
+pub enum Call {
+    Start,
+    Pass,
+    Show,
+}
+
+impl Call {
+    pub fn name(self) -> &'static str {
+        match self {
+            Call::Start => "start",
+            Call::Pass => "pass",
+            Call::Show => "show",
+        }
+    }
+
+    pub fn named(name: &str) -> Option<Call> {
+        CALLS.into_iter().find(|call| call.name() == name)
+    }
+}
+
+/// One call on every input, each on a fresh copy of its state.
+pub fn round(call: Call, calls: &Calls, inputs: &[Input]) {
+    let calls = black_box(calls);
+    let mut state = [0; STATE_BYTES];
+    let mut queue = [0; QUEUE_BYTES];
+    for input in inputs {
+        state.copy_from_slice(&input.state);
+        let lent = black_box(&mut state);
+        black_box(match call {
+            Call::Start => calls.start(&input.block, lent),
+            Call::Pass => calls.pass(lent, input.d, input.finished),
+            Call::Show => calls.show(lent, black_box(&mut queue)),
+        });
+    }
+}
+
+/// Nanoseconds per call of the proved one and of the one written by hand. Of many rounds, taken in
+/// turn, the fastest of each counts: it is the one that was least disturbed. What the round costs
+/// without its calls is taken off.
+pub fn times(call: Call, inputs: &[Input], rounds: usize) -> (f64, f64) {
+    let kinds = [PROVED, BY_HAND, NONE];
+    let mut least = [f64::INFINITY; 3];
+    for _ in 0..rounds {
+        for (calls, least) in kinds.iter().zip(&mut least) {
+            let begin = Instant::now();
+            round(call, calls, inputs);
+            let spent = begin.elapsed().as_nanos() as f64;
+            *least = least.min(spent / inputs.len() as f64);
+        }
+    }
+    (least[0] - least[2], least[1] - least[2])
+}
