@@ -1,18 +1,17 @@
--- Laws of packed bits: the bit at a place, and packing and unpacking undo each other.
+-- Laws of packed bits: packing and unpacking undo each other, and bits are read out of the bytes that cover them.
 -- Assumes nothing.
 use Prim.Native.Nat.{ℕ, zero, suc, _+_, _-_, _*_, _/_, _%_, _^_, _<_, _≤_}
 use mathlib.Core.Path.{_≡_, refl, sym, subst, ap, ap₂, _∙_}
 use mathlib.Core.List.{List, [], _∷_, _++_}
-use native.Mathlib.Nat.{not-suc-le-zero}
+use native.Mathlib.Nat.{not-suc-le-zero, mod-eq-of-lt}
 use native.Mathlib.Omega.{arith}
 use native.Mathlib.Decide.{decLe}
+use lib.Pow.{pow-lt}
 use lib.ListN.{length, getD, drop, length-append, length-drop, List·getD-append, List·getD-eq-default}
 use lib.Seq.{getD-append-add, getD-drop, drop-at, drop-drop}
 use Rattle.arith.specs.Digits.{number, digits}
-use Rattle.arith.specs.Bits.{unpacked, packedTo, packed}
-use Rattle.arith.specs.Need.{need}
-use Rattle.arith.proofs.DigitLaws.{length-digits, digit-at, digit-below, digit-number, number-digits, number-same}
-use Rattle.arith.proofs.Needs.{need-is}
+use Rattle.arith.specs.Bits.{unpacked, packedTo}
+use Rattle.arith.proofs.DigitLaws.{length-digits, digit-below, digit-number, number-digits, number-same, number-within, number-regrouped}
 
 pub length-unpacked : (s : List ℕ) → length (unpacked s) ≡ 8 * length s
 length-unpacked [] = refl
@@ -28,26 +27,6 @@ later b bits j =
 -- within the first byte they are its own
 early : (b : ℕ) (bits : List ℕ) (k : ℕ) → k < 8 → getD (digits 2 8 b ++ bits) k 0 ≡ getD (digits 2 8 b) k 0
 early b bits k h = List·getD-append (digits 2 8 b) bits 0 k (omega (arith, length-digits 2 8 b))
-
--- bit r of byte q
-pub unpacked-at :
-    (s : List ℕ) (q r : ℕ) →
-    r < 8 →
-    q < length s →
-    getD (unpacked s) (8 * q + r) 0 ≡ getD s q 0 / 2 ^ (7 - r) % 2
-unpacked-at [] q r h l = absurd (not-suc-le-zero l)
-unpacked-at (b ∷ bs) zero r h l =
-    let z : 8 * 0 + r ≡ r = omega arith in
-    let e : 8 - suc r ≡ 7 - r = omega arith in
-    ap (λ (k : ℕ). getD (unpacked (b ∷ bs)) k 0) z
-    ∙ early b (unpacked bs) r h
-    ∙ digit-at 2 8 b r h
-    ∙ ap (λ (k : ℕ). b / 2 ^ k % 2) e
-unpacked-at (b ∷ bs) (suc q) r h l =
-    let z : 8 * suc q + r ≡ 8 + (8 * q + r) = omega arith in
-    ap (λ (k : ℕ). getD (unpacked (b ∷ bs)) k 0) z
-    ∙ later b (unpacked bs) (8 * q + r)
-    ∙ unpacked-at bs q r h (omega arith)
 
 -- every one is 0 or 1
 pub unpacked-below : (s : List ℕ) (k : ℕ) → getD (unpacked s) k 0 < 2
@@ -114,10 +93,60 @@ unpacked-packed (suc n) bits l h k =
           ∙ digit-number 2 8 bits (λ j q. h j) k (omega arith)
     ]
 
--- bit k, by the byte that it stands in
-pub bit-of : (s : List ℕ) (k byte : ℕ) → k < 8 * length s → byte ≡ getD s (k / 8) 0 → byte / 2 ^ (7 - k % 8) % 2 ≡ getD (unpacked s) k 0
-bit-of s k byte h e =
-    let place : 8 * (k / 8) + k % 8 ≡ k = omega arith in
-    ap (λ (b : ℕ). b / 2 ^ (7 - k % 8) % 2) e
-    ∙ sym (unpacked-at s (k / 8) (k % 8) (omega arith) (omega arith))
-    ∙ ap (λ (j : ℕ). getD (unpacked s) j 0) place
+-- the number of k bytes is that of their bits
+pub number-bytes :
+    (s : List ℕ) →
+    ((k : ℕ) → k < length s → getD s k 0 < 256) →
+    (j k : ℕ) →
+    j + k ≤ length s →
+    number 256 k (drop j s) ≡ number 2 (8 * k) (drop (8 * j) (unpacked s))
+number-bytes s h j k l =
+    number-regrouped 2 8 k (drop j s) (drop (8 * j) (unpacked s))
+    (λ i q. getD-drop j s i 0 ∙ byte (j + i) (omega arith) ∙ ap (λ (x : List ℕ). number 2 8 x) (place i))
+  where
+    byte : (i : ℕ) → i < length s → getD s i 0 ≡ number 2 8 (drop (8 * i) (unpacked s))
+    byte i q =
+        ap (λ (x : List ℕ). getD x i 0) (sym (packed-unpacked s h)) ∙ packed-at (length s) (unpacked s) i q
+
+    place : (i : ℕ) → drop (8 * (j + i)) (unpacked s) ≡ drop (8 * i) (drop (8 * j) (unpacked s))
+    place i =
+        let e : 8 * (j + i) ≡ 8 * j + 8 * i = omega arith in
+        ap (λ (x : ℕ). drop x (unpacked s)) e ∙ sym (drop-drop (8 * i) (8 * j) (unpacked s))
+
+-- n bits, out of the bytes that cover them: some bits lead, and some stand beyond
+pub bits-covered :
+    (s : List ℕ) →
+    ((k : ℕ) → k < length s → getD s k 0 < 256) →
+    (first bytes lead n beyond : ℕ) →
+    first + bytes ≤ length s →
+    8 * bytes ≡ lead + n + beyond →
+    number 256 bytes (drop first s) / 2 ^ beyond % 2 ^ n ≡ number 2 n (drop (8 * first + lead) (unpacked s))
+bits-covered s h first bytes lead n beyond l e =
+    let bits : List ℕ = drop (8 * first) (unpacked s) in
+    ap (λ (x : ℕ). x / 2 ^ beyond % 2 ^ n) (number-bytes s h first bytes l ∙ ap (λ (x : ℕ). number 2 x bits) e)
+    ∙ number-within 2 lead n beyond bits (λ k. subst (λ (x : ℕ). x < 2) (sym (getD-drop (8 * first) (unpacked s) k 0)) (unpacked-below s (8 * first + k)))
+    ∙ ap (λ (x : List ℕ). number 2 n x) (drop-drop lead (8 * first) (unpacked s))
+
+-- a power of two that 32 bits hold
+power-held : (n : ℕ) → n ≤ 20 → 1 * 2 ^ n % 2 ^ 32 ≡ 2 ^ n
+power-held n h =
+    let e : 1 * 2 ^ n ≡ 2 ^ n = omega arith in
+    ap (λ (x : ℕ). x % 2 ^ 32) e ∙ mod-eq-of-lt (pow-lt {i = n} {j = 32} (omega arith))
+
+-- the n bits at a place, as they are read out of the bytes from the first that holds one to the last
+pub bits-read :
+    (s : List ℕ) →
+    ((k : ℕ) → k < length s → getD s k 0 < 256) →
+    (at n r : ℕ) →
+    n ≤ 20 →
+    at + n ≤ 8 * length s →
+    r ≡ number 256 ((at + n + 7) / 8 - at / 8) (drop (at / 8) s) →
+    r / 2 ^ (8 * (at / 8 + ((at + n + 7) / 8 - at / 8)) - (at + n)) % (1 * 2 ^ n % 2 ^ 32) ≡ number 2 n (drop at (unpacked s))
+bits-read s h at n r few l e =
+    let first : ℕ = at / 8 in
+    let bytes : ℕ = (at + n + 7) / 8 - first in
+    let beyond : ℕ = 8 * (first + bytes) - (at + n) in
+    let place : 8 * first + at % 8 ≡ at = omega arith in
+    ap₂ (λ (x y : ℕ). x / 2 ^ beyond % y) e (power-held n few)
+    ∙ bits-covered s h first bytes (at % 8) n beyond (omega arith) (omega arith)
+    ∙ ap (λ (x : ℕ). number 2 n (drop x (unpacked s))) place

@@ -3,7 +3,7 @@
 use Prim.Native.Nat.{ℕ, zero, suc, _+_, _-_, _*_, _/_, _%_, _^_, _<_, _≤_}
 use mathlib.Core.Path.{_≡_, refl, sym, subst, ap, ap₂, _∙_}
 use mathlib.Core.List.{List, [], _∷_, _++_, append-assoc}
-use native.Mathlib.Nat.{mod-lt, div-add-mod', div-lt-iff-lt-mul, div-div-eq-div-mul, pow-zero, pow-suc, mul-comm, div-one, not-suc-le-zero, lt-of-lt-of-le, pow-le-pow-right}
+use native.Mathlib.Nat.{mod-lt, div-add-mod', div-lt-iff-lt-mul, div-div-eq-div-mul, pow-zero, pow-suc, add-mul, mul-assoc, mul-comm, div-one, not-suc-le-zero, lt-of-lt-of-le, pow-le-pow-right}
 use native.Mathlib.Numerals.{add-one}
 use native.Mathlib.Omega.{arith}
 use native.Mathlib.Decide.{decLe}
@@ -133,3 +133,47 @@ below-more b i acc d h l = rw (add-one, pow-suc) (digits-lt h l)
 
 pub below-cap : (b i m acc : ℕ) → 0 < b → i ≤ m → acc < b ^ i → acc < b ^ m
 below-cap b i m acc p l h = lt-of-lt-of-le h (pow-le-pow-right p l)
+
+-- the first m + n digits: the first m, then the n after them
+pub number-split :
+    (b m n : ℕ) (ds : List ℕ) → number b (m + n) ds ≡ number b m ds * b ^ n + number b n (drop m ds)
+number-split b m zero ds =
+    let e : m + 0 ≡ m = omega arith in
+    ap (λ (k : ℕ). number b k ds) e ∙ rw pow-zero (omega arith)
+number-split b m (suc n) ds =
+    let e : m + suc n ≡ suc (m + n) = omega arith in
+    ap (λ (k : ℕ). number b k ds) e
+    ∙ ap₂ (λ (x y : ℕ). x * b + y) (number-split b m n ds) (sym (getD-drop m ds n 0))
+    ∙ more (number b m ds) (b ^ n) (number b n (drop m ds)) (getD (drop m ds) n 0)
+    ∙ ap (λ (x : ℕ). number b m ds * x + (number b n (drop m ds) * b + getD (drop m ds) n 0)) (sym (pow-suc b n))
+  where
+    more : (x p y d : ℕ) → (x * p + y) * b + d ≡ x * (p * b) + (y * b + d)
+    more x p y d = ap (λ (z : ℕ). z + d) (add-mul (x * p) y b) ∙ omega (arith, mul-assoc x p b)
+
+-- digits within a number: those after them are divided off, and those before them are whole multiples
+pub number-within :
+    (b m n c : ℕ) (ds : List ℕ) →
+    ((k : ℕ) → getD ds k 0 < b) →
+    number b (m + n + c) ds / b ^ c % b ^ n ≡ number b n (drop m ds)
+number-within b m n c ds h =
+    ap (λ (x : ℕ). x / b ^ c % b ^ n) (number-split b (m + n) c ds)
+    ∙ ap (λ (x : ℕ). x % b ^ n) (digits-div (number b (m + n) ds) (below (m + n) c))
+    ∙ ap (λ (x : ℕ). x % b ^ n) (number-split b m n ds)
+    ∙ digits-mod (number b m ds) (below m n)
+  where
+    below : (i j : ℕ) → number b j (drop i ds) < b ^ j
+    below i j = number-below b j (drop i ds) (λ k l. subst (λ (x : ℕ). x < b) (sym (getD-drop i ds k 0)) (h (i + k)))
+
+-- digits that are each made of w digits in a smaller base: the number is that of the smaller ones
+pub number-regrouped :
+    (b w n : ℕ) (ds es : List ℕ) →
+    ((k : ℕ) → k < n → getD ds k 0 ≡ number b w (drop (w * k) es)) →
+    number (b ^ w) n ds ≡ number b (w * n) es
+number-regrouped b w zero ds es h =
+    let e : 0 ≡ w * 0 = omega arith in
+    ap (λ (k : ℕ). number b k es) e
+number-regrouped b w (suc n) ds es h =
+    let e : w * n + w ≡ w * suc n = omega arith in
+    ap₂ (λ (x y : ℕ). x * b ^ w + y) (number-regrouped b w n ds es (λ k l. h k (omega arith))) (h n (omega arith))
+    ∙ sym (number-split b (w * n) w es)
+    ∙ ap (λ (k : ℕ). number b k es) e

@@ -2,7 +2,7 @@
 -- Assumes nothing.
 use Prim.Native.Nat.{ℕ, zero, suc, _+_, _*_, _/_, _%_, _<_, _≤_, _∣_}
 use mathlib.Core.Path.{_≡_, refl, sym, subst, ap, _∙_}
-use native.Mathlib.Nat.{le-of-lt, lt-of-le-of-lt, mul-le-mul-left, mod-lt, dvd-refl, dvd-zero, dvd-mod-iff, dvd-mul-left, dvd-mul-right, pos-of-dvd-of-pos, not-suc-le-zero, mul-div-cancel', div-mul-cancel, mul-assoc, mul-comm, dvd-of-mul-dvd-mul-right, mul-dvd-mul-left, mod-add-div', add-mul, mul-lt-mul-of-pos-right, zero-mul, mul-pos}
+use native.Mathlib.Nat.{le-of-lt, lt-of-le-of-lt, mul-le-mul-left, mod-lt, dvd-refl, dvd-zero, dvd-mod-iff, dvd-mul-left, dvd-mul-right, pos-of-dvd-of-pos, not-suc-le-zero, mul-div-cancel', div-mul-cancel, mul-assoc, mul-comm, dvd-of-mul-dvd-mul-right, mul-dvd-mul-left, mod-add-div', add-mul, mul-lt-mul-of-pos-right, zero-mul, mul-pos, dvd-antisymm, dvd-of-mod-eq-zero}
 use native.Mathlib.Omega.{arith}
 use lib.Arith.{digits-mod}
 use Rattle.arith.specs.Divisor.{gcdWithin, gcd, lcm}
@@ -115,6 +115,10 @@ unfolding lcm
 lcm-positive a b h k =
     let g : ℕ = gcd a b in
     mul-pos (pos-of-dvd-of-pos {m = a / g} {n = a} (subst (λ (x : ℕ). a / g ∣ x) (div-mul-cancel g (gcd-divides a b .0)) (dvd-mul-right (a / g) g)) h) k
+
+-- a multiple of a number is their least common multiple
+pub lcm-multiple : (a b : ℕ) → 0 < a → b % a ≡ 0 → b ≡ lcm a b
+lcm-multiple a b h e = dvd-antisymm (lcm-right a b) (lcm-least a b b h (dvd-of-mod-eq-zero a e) (dvd-refl b))
 
 -- a product of two numbers below a bound is below its square
 pub product-below : (k a b : ℕ) → a < k → b < k → a * b < k * k

@@ -1,6 +1,6 @@
 -- The laws of the time needed. All of them come from two: it covers the work, and nothing less does.
 -- Assumes nothing.
-use Prim.Native.Nat.{ℕ, zero, suc, _+_, _-_, _*_, _/_, _%_, _<_, _≤_}
+use Prim.Native.Nat.{ℕ, suc, _+_, _-_, _*_, _/_, _%_, _<_, _≤_}
 use mathlib.Core.Path.{_≡_, sym, subst, ap, _∙_}
 use native.Mathlib.Nat.{mod-add-div', mod-lt, div-lt-iff-lt-mul, le-trans, le-of-suc-le-suc, mul-le-mul-left, add-mul, lt-of-mul-lt-mul-right, suc-mul, mul-one}
 use native.Mathlib.Omega.{arith}

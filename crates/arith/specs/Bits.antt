@@ -1,6 +1,6 @@
 -- 01, "Blocks": "Bits are packed most significant first."
 -- Assumes nothing.
-use Prim.Native.Nat.{ℕ, zero, suc, _+_, _/_}
+use Prim.Native.Nat.{ℕ, zero, suc, _+_}
 use mathlib.Core.List.{List, [], _∷_, _++_}
 use lib.ListN.{length, drop}
 use Rattle.arith.specs.Digits.{number, digits}

@@ -1,7 +1,7 @@
 // Arithmetic that plans and the dispatcher stand on.
 ghost use mathlib.Core.Path.{_≡_};
 ghost use Prim.Native.Nat.{ℕ, _+_, _*_, _<_, _≤_};
-ghost use lib.ListN.{length, drop, getD};
+ghost use lib.ListN.{length, drop};
 ghost use lib.Seq.{sets};
 ghost use Rattle.arith.specs.Need.{need};
 ghost use Rattle.arith.specs.Divisor.{gcd, lcm};
@@ -35,6 +35,9 @@ pub fn lcm_of(a: u32, b: u32) -> u64
     requires { ⌜ 0 < a ⌝ }
     ensures { λ r. ⌜ r ≡ lcm a b ⌝ }
 {
+    if b % a == 0 {
+        return b as u64;
+    }
     let g = gcd_of(a, b);
     let part = a / g;
     (part as u64) * (b as u64)
@@ -75,25 +78,14 @@ pub fn put_number(s: &mut [u8], at: usize, n: usize, x: u32)
     }
 }
 
-// The bit at a place of a slice's bits.
-pub fn bit_at(s: &[u8], k: usize) -> u32
-    requires { ⌜ k < 8 * length (now s) ⌝ }
-    ensures { λ r. ⌜ r ≡ getD (unpacked (now (s .entry))) k 0 ⌝ }
-{
-    let byte = wide(s[k / 8]);
-    (byte >> (7 - k % 8)) % 2
-}
-
 // The number that n bits of a slice are, most significant first.
 pub fn bits_at(s: &[u8], at: usize, n: usize) -> u32
     requires { ⌜ (n ≤ 20) × (at ≤ 1024) × (at + n ≤ 8 * length (now s)) ⌝ }
     ensures { λ r. ⌜ r ≡ number 2 n (drop at (unpacked (now (s .entry)))) ⌝ }
 {
-    let mut acc: u32 = 0;
-    let mut i: usize = 0;
-    while i < n {
-        acc = acc * 2 + bit_at(s, at + i);
-        i += 1;
-    }
-    acc
+    let first = at / 8;
+    let bytes = (at + n + 7) / 8 - first;
+    let number = get_number(s, first, bytes);
+    let beyond = 8 * (first + bytes) - (at + n);
+    (number >> beyond) % (1u32 << n)
 }

@@ -1,6 +1,6 @@
 -- The dispatcher's book against the entries: a job that has arrived is closed in it, or it is its task's latest and has work left.
 -- Assumes nothing.
-use Prim.Native.Nat.{ℕ, zero, suc, _+_, _-_, _*_, _/_, _%_, _≤_, _<_}
+use Prim.Native.Nat.{ℕ, suc, _+_, _-_, _*_, _/_, _%_, _≤_, _<_}
 use mathlib.Core.Path.{_≡_, refl, sym, subst, ap, _∙_}
 use mathlib.Core.Bool.{Bool, true, false}
 use mathlib.Core.List.{List, [], _∷_}
@@ -10,11 +10,11 @@ use native.Mathlib.Omega.{arith}
 use lib.Dec.{T}
 use native.Mathlib.Decide.{decLe, ℕ-discrete}
 use Rattle.arith.specs.Choice.{pick}
-use Rattle.arith.proofs.Tests.{Tested, passed, failed, tested}
+use Rattle.arith.proofs.Tests.{passed, failed, tested}
 use Rattle.schedule.specs.PlainSchedule.{Timing, Job, latest, deadline}
 use Rattle.schedule.specs.Feasibility.{In}
 use Rattle.schedule.proofs.Drain.{Quiet}
-use Rattle.schedule.proofs.Periods.{multiple-last, next-multiple, quiet-last}
+use Rattle.schedule.proofs.Periods.{multiple-last, quiet-last}
 use Rattle.dispatcher.specs.Run.{Arrived}
 
 -- a job is its task's latest, with work left

@@ -1,25 +1,23 @@
 -- The promises of the dispatcher, for any rising table of speeds of at most 256 levels: demand 3 in one piece, the queue shown, soundness
 -- kept, and no dead end.
 -- Assumes nothing.
-use Prim.Native.Nat.{ℕ, zero, suc, _+_, _*_, _≤_, _<_}
+use Prim.Native.Nat.{ℕ, zero, suc, _+_, _≤_, _<_}
 use mathlib.Core.Path.{_≡_, refl, sym, subst, subst₂, ap, ap₂, _∙_}
-use mathlib.Core.Bool.{Bool, true, false}
+use mathlib.Core.Bool.{Bool, true}
 use mathlib.Core.List.{List, [], _∷_, _++_}
-use mathlib.Core.Logic.{_⊎_, inl, inr, ⊎-elim}
+use mathlib.Core.Logic.{_⊎_, ⊎-elim}
 use native.Mathlib.Omega.{arith}
 use native.Mathlib.Decide.{decLe}
 use lib.ListN.{length, getD, take, drop}
 use lib.Seq.{take-at, drop-at}
-use borrow.Author.Tests.{leb-true}
-use lib.Dec.{eqb, leb, lit<}
+use lib.Dec.{eqb, lit<}
 use Rattle.arith.specs.Choice.{pick, both}
-use Rattle.arith.specs.Need.{need}
-use Rattle.arith.proofs.Tests.{TestLe, le-yes, le-not, testLe, TestEq, eq-yes, eq-not, testEq, Tested, passed, failed, tested}
+use Rattle.arith.proofs.Tests.{le-yes, le-not, testLe, eq-yes, eq-not, testEq, passed, failed, tested}
 use Rattle.arith.proofs.Needs.{need-zero-work}
 use Rattle.plan.specs.declared.Task.{Task}
 use Rattle.plan.specs.Levels.{Rising, hyperperiod, nominal}
 use Rattle.arith.specs.Bits.{unpacked}
-use Rattle.plan.specs.Blocks.{tasksIn, countIn, noTask}
+use Rattle.plan.specs.Blocks.{tasksIn, countIn}
 use Rattle.plan.specs.Questions.{Question, firstNo, reading, roomQuestion}
 use Rattle.plan.specs.Answers.{storedBy}
 use Rattle.plan.proofs.Facts.{FineList, FineBlock, fine-block, range-at}

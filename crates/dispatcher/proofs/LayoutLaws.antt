@@ -12,6 +12,7 @@ use lib.Dec.{eqb}
 use lib.ListN.{length, getD, take, drop, replicate, length-drop, take-append-drop}
 use lib.Seq.{drop-cons, drop-drop, drop-length, getD-drop}
 use Rattle.arith.specs.Choice.{both, every}
+use Rattle.arith.specs.Sum.{sumOf}
 use Rattle.arith.specs.Digits.{number, digits}
 use Rattle.arith.proofs.DigitLaws.{digits-number}
 use Rattle.dispatcher.specs.declared.Entry.{Entry}
@@ -57,29 +58,37 @@ pairs-all bytes count i z inv =
     let n : count - i ≡ 0 = omega arith in
     sym (ap (λ (k : ℕ). pairsZero k (drop (8 + 12 * i) bytes)) n) ∙ inv
 
--- a loop over the bytes from a place on
-module _ (bytes : List ℕ) (at i : ℕ) (h : i < length bytes)
-    (inv : every (eqb 0) (drop i bytes) ≡ every (eqb 0) (drop at bytes)) where
-  zeros-cons : both (eqb 0 (getD bytes i 0)) (every (eqb 0) (drop (i + 1) bytes)) ≡ every (eqb 0) (drop at bytes)
-  zeros-cons =
-      sym (ap (λ (l : List ℕ). every (eqb 0) l) (drop-cons bytes i 0 h ∙ ap (λ (k : ℕ). getD bytes i 0 ∷ drop k bytes) (sym (add-one i))))
-      ∙ inv
+-- the sum of bytes
+abbrev pub byteSum : List ℕ → ℕ
+byteSum l = sumOf (λ (x : ℕ). x) l
 
-  pub zeros-not : (getD bytes i 0 ≡ 0 → ⊥) → false ≡ every (eqb 0) (drop at bytes)
-  zeros-not z =
-      sym (ap (λ (t : Bool). both t (every (eqb 0) (drop (i + 1) bytes))) (ne-eqb 0 (getD bytes i 0) (λ e. z (sym e)))) ∙ zeros-cons
+-- a sum over the bytes from a place on
+pub sum-more :
+    (bytes : List ℕ) (at i sum x : ℕ) → i < length bytes → sum + byteSum (drop i bytes) ≡ byteSum (drop at bytes) → x ≡ getD bytes i 0 →
+    sum + x + byteSum (drop (i + 1) bytes) ≡ byteSum (drop at bytes)
+sum-more bytes at i sum x h inv e =
+    let s : byteSum (drop i bytes) ≡ getD bytes i 0 + byteSum (drop (i + 1) bytes) =
+    ap byteSum (drop-cons bytes i 0 h ∙ ap (λ (k : ℕ). getD bytes i 0 ∷ drop k bytes) (sym (add-one i))) in
+    omega arith
 
-  pub zeros-again : getD bytes i 0 ≡ 0 → every (eqb 0) (drop (i + 1) bytes) ≡ every (eqb 0) (drop at bytes)
-  zeros-again z =
-      sym (ap (λ (t : Bool). both t (every (eqb 0) (drop (i + 1) bytes))) (eq-eqb 0 (getD bytes i 0) (sym z))) ∙ zeros-cons
+-- bytes are all zero exactly if their sum is
+zero-sum : (l : List ℕ) → eqb (byteSum l) 0 ≡ every (eqb 0) l
+zero-sum [] = refl
+zero-sum (x ∷ l) =
+    elim (decLe 1 x) [
+      | yes h ↦ simp (ne-eqb (x + byteSum l) 0 (λ e. omega arith), ne-eqb 0 x (λ e. omega arith))
+      | no h ↦
+          let e : x + byteSum l ≡ byteSum l = omega arith in
+          ap (λ (n : ℕ). eqb n 0) e ∙ zero-sum l ∙ ap (λ (b : Bool). both b (every (eqb 0) l)) (sym (eq-eqb 0 x (omega arith)))
+    ]
 
-pub zeros-all :
-    (bytes : List ℕ) (at i : ℕ) →
-    i ≡ length bytes →
-    every (eqb 0) (drop i bytes) ≡ every (eqb 0) (drop at bytes) →
-    true ≡ every (eqb 0) (drop at bytes)
-zeros-all bytes at i z inv =
-    sym (ap (λ (l : List ℕ). every (eqb 0) l) (ap (λ (k : ℕ). drop k bytes) z ∙ drop-length bytes)) ∙ inv
+pub sum-all :
+    (bytes : List ℕ) (at i sum : ℕ) → i ≡ length bytes → sum + byteSum (drop i bytes) ≡ byteSum (drop at bytes) →
+    eqb sum 0 ≡ every (eqb 0) (drop at bytes)
+sum-all bytes at i sum z inv =
+    let e : byteSum (drop i bytes) ≡ 0 = ap byteSum (ap (λ (k : ℕ). drop k bytes) z ∙ drop-length bytes) in
+    let s : sum ≡ byteSum (drop at bytes) = omega arith in
+    ap (λ (n : ℕ). eqb n 0) s ∙ zero-sum (drop at bytes)
 
 -- comparing bytes piece by piece
 both-assoc : (a b c : Bool) → both a (both b c) ≡ both (both a b) c

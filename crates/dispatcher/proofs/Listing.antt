@@ -1,6 +1,5 @@
 -- 01, "The bench program": its example, computed from the definitions.
 -- Assumes nothing.
-use Prim.Native.Nat.{ℕ}
 use mathlib.Core.Path.{_≡_, refl}
 use Rattle.arith.specs.Need.{need}
 use Rattle.arith.specs.Divisor.{gcd, lcm}

@@ -1,15 +1,14 @@
 -- What a pass makes of each entry, read off the state after it.
 -- Assumes nothing.
-use Prim.Native.Nat.{ℕ, zero, suc, _+_, _-_, _*_, _%_, _≤_, _<_}
-use mathlib.Core.Path.{_≡_, refl, sym, subst, ap, _∙_}
-use mathlib.Core.Bool.{Bool, true, false}
+use Prim.Native.Nat.{ℕ, _+_, _-_, _%_, _<_}
+use mathlib.Core.Path.{_≡_, refl, ap, _∙_}
+use mathlib.Core.Bool.{Bool}
 use mathlib.Core.List.{List, [], _∷_}
 use mathlib.Core.Logic.{_≢_}
 use lib.Dec.{eqb}
-use lib.ListN.{length, getD}
+use lib.ListN.{getD}
 use Rattle.arith.specs.Choice.{pick}
-use Rattle.arith.proofs.Tests.{TestEq, eq-yes, eq-not, testEq, Tested, passed, failed, tested}
-use Rattle.plan.specs.declared.Task.{Task}
+use Rattle.arith.proofs.Tests.{eq-yes, eq-not, testEq, passed, failed, tested}
 use Rattle.plan.specs.Blocks.{noTask}
 use Rattle.schedule.specs.PlainSchedule.{Timing, Pending}
 use Rattle.dispatcher.specs.declared.Entry.{Entry}

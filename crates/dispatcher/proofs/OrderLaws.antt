@@ -1,31 +1,39 @@
--- What the functions that choose an order find is the order of the definitions.
+-- What the functions that choose an order find in a block is the order of the definitions.
 -- Assumes nothing.
-use Prim.Native.Nat.{ℕ, _+_, _<_, _≤_, min}
+use Prim.Native.Nat.{ℕ, _+_, _-_, _*_, _%_, _<_, _≤_, min}
 use mathlib.Core.Path.{_≡_, refl, sym, ap, ap₂, subst, _∙_}
 use mathlib.Core.Bool.{Bool, true}
 use mathlib.Core.List.{List, [], _∷_}
+use native.Mathlib.Nat.{mul-comm}
 use native.Mathlib.Numerals.{add-one}
 use native.Mathlib.Decide.{ℕ-discrete}
 use native.Mathlib.Omega.{arith}
 use borrow.Author.Tests.{leb-true, le-leb, lt-leb, eq-eqb, ne-eqb}
-use lib.Dec.{leb, eqb}
+use lib.Dec.{leb, ltb, eqb}
+use lib.ListN.{getD}
+use lib.Seq.{sets}
 use Rattle.arith.specs.Choice.{pick}
-use Rattle.arith.specs.Sum.{sumTo}
 use Rattle.arith.specs.Need.{need}
+use Rattle.arith.specs.Digits.{digits}
 use Rattle.arith.proofs.Needs.{need-faster}
+use Rattle.arith.proofs.Sums.{sumTo-eq}
 use Rattle.plan.specs.Levels.{baseSpeeds, speedOf}
 use Rattle.plan.proofs.LevelLaws.{first-most, first-le, first-after, baseRising}
 use Rattle.schedule.specs.PlainSchedule.{Timing, Pending}
-use Rattle.dispatcher.specs.declared.Loaded.{Loaded}
-use Rattle.dispatcher.specs.declared.Times.{Times}
+use Rattle.dispatcher.specs.declared.Entry.{Entry}
+use Rattle.dispatcher.specs.declared.Choice.{Choice}
+use Rattle.dispatcher.specs.declared.Reply.{Reply}
 use Rattle.dispatcher.specs.declared.Reply.the-variants as reply
-use Rattle.dispatcher.specs.StateBlock.{State, workOf}
-use Rattle.dispatcher.specs.Orders.{allowance, openJobs, lowestLevel, withOrder, orderFor, chooseOrder, orderWith}
+use Rattle.dispatcher.specs.StateBlock.{State, workOf, remainingOf, encode, decode}
+use Rattle.dispatcher.specs.Orders.{leastTo, nextArrival, allowance, openJobs, lowestLevel, holdOf, withOrder, orderFor, chooseOrder, orderWith}
 use Rattle.dispatcher.specs.Questions.{runningTime}
-use Rattle.dispatcher.specs.Code.{stateOf, entryOf, Timed, urgentBy, bestTo}
+use Rattle.dispatcher.specs.Code.{Holds, entryIn, timingIn, Keyed, noKey, deadlineIn, leastKey, fieldIn, allowedBy, OrderIn, Runnable, Doable}
 use Rattle.dispatcher.proofs.OrderFacts.{head-below}
-use Rattle.dispatcher.proofs.UrgencySteps.{best-below}
-use Rattle.dispatcher.proofs.UrgencyLaws.{headTask, work-is, best-is, allowance-is}
+use Rattle.dispatcher.proofs.Allowances.{allowance-is}
+use Rattle.dispatcher.proofs.BlockLaws.{count-in, entry-at, store-order}
+use Rattle.dispatcher.proofs.KeyLaws as keys
+use Rattle.dispatcher.proofs.NeedTests.{need-test, speed-positive}
+use Rattle.dispatcher.proofs.OpenJobs.{timing-count, open-head}
 
 -- the lowest level that meets an allowance is one of the eight, or 8
 module _ (work allowed : ℕ) where
@@ -48,89 +56,246 @@ module _ (work allowed : ℕ) where
             (omega (arith, leb-true (need (speedOf baseSpeeds i) work) allowed m))
       ]
 
-  -- a level that meets it, or does not, bounds the lowest that does
-  module _ (level speed time : ℕ) (h : level < 8) (s : speed ≡ speedOf baseSpeeds level) (n : time ≡ need speed work) where
-    tested-time : leb time allowed ≡ meets (speedOf baseSpeeds level)
-    tested-time = ap (λ (x : ℕ). leb x allowed) (n ∙ ap (λ (x : ℕ). need x work) s)
+  -- a level that does the work in time, or does not, bounds the lowest that does
+  module _ (level speed : ℕ) (h : level < 8) (s : speed ≡ speedOf baseSpeeds level) where
+    does : leb work (speed * allowed) ≡ meets (speedOf baseSpeeds level)
+    does =
+        ap (λ (x : ℕ). leb work x) (mul-comm speed allowed)
+        ∙ sym (need-test speed work allowed (speed-positive level speed h s))
+        ∙ ap (λ (x : ℕ). leb (need x work) allowed) s
 
-    pub level-high : time ≤ allowed → lowestLevel baseSpeeds work allowed ≤ level
-    level-high le = first-le meets baseSpeeds level 0 h (sym tested-time ∙ le-leb time allowed le)
+    pub level-high : work ≤ speed * allowed → lowestLevel baseSpeeds work allowed ≤ level
+    level-high le = first-le meets baseSpeeds level 0 h (sym does ∙ le-leb work (speed * allowed) le)
 
-    pub level-low : allowed < time → level + 1 ≤ lowestLevel baseSpeeds work allowed
+    pub level-low : speed * allowed < work → level + 1 ≤ lowestLevel baseSpeeds work allowed
     level-low lt =
-        rw add-one (first-after meets baseSpeeds 0 meets-higher level h (sym tested-time ∙ lt-leb time allowed lt))
+        rw add-one (first-after meets baseSpeeds 0 meets-higher level h (sym does ∙ lt-leb work (speed * allowed) lt))
 
--- a level's speed is above 0
-pub speed-positive : (level speed : ℕ) → level < 8 → speed ≡ speedOf baseSpeeds level → 0 < speed
-speed-positive level speed h e = subst (λ (s : ℕ). 0 < s) (sym e) (baseRising .positive level h)
-
--- the running job's time
-pub time-is :
-    (l : Loaded) (speed time : ℕ) → l .task < l .count → speed ≡ speedOf baseSpeeds (l .level) →
-    time ≡ need speed (entryOf l (l .task) .work) → time ≡ runningTime baseSpeeds (stateOf l)
-time-is l speed time h s n = n ∙ ap₂ need s (sym (work-is l (l .task) h))
+  -- work that the top level does in time has one of the eight
+  level-some : work ≤ allowed * 100 → lowestLevel baseSpeeds work allowed < 8
+  level-some le = omega (arith, level-high 7 100 (omega arith) refl (omega arith))
 
 -- the hold, by each way out
 module _ (task time next : ℕ) where
   pub hold-idle : task ≡ 255 → next ≡ pick (eqb task 255) next (min time next)
   hold-idle e = simp (eq-eqb task 255 e)
 
-  module _ (some : task ≡ 255 → ⊥) (found : ℕ) (f : found ≡ time) where
-    pub hold-time : found < next → found ≡ pick (eqb task 255) next (min time next)
+  module _ (some : task ≡ 255 → ⊥) where
+    pub hold-time : time < next → time ≡ pick (eqb task 255) next (min time next)
     hold-time lt = rw (ne-eqb task 255 some) (omega arith)
 
-    pub hold-next : next ≤ found → next ≡ pick (eqb task 255) next (min time next)
+    pub hold-next : next ≤ time → next ≡ pick (eqb task 255) next (min time next)
     hold-next le = rw (ne-eqb task 255 some) (omega arith)
 
 -- the order, by each way out
-module _ (s : State) (hold : ℕ) where
-  pub order-idle : s .task ≡ 255 → reply.Idle hold ≡ orderWith s hold
-  order-idle e = simp (eq-eqb (s .task) 255 e)
+module _ (task level hold : ℕ) where
+  pub order-idle : task ≡ 255 → (s : State) → task ≡ s .task → level ≡ s .level → reply.Idle hold ≡ orderWith s hold
+  order-idle e s a b = simp (eq-eqb (s .task) 255 (sym a ∙ e))
 
-  pub order-run : (s .task ≡ 255 → ⊥) → reply.Run (s .task) (s .level) hold ≡ orderWith s hold
-  order-run e = simp (ne-eqb (s .task) 255 e)
+  pub order-run :
+      (task ≡ 255 → ⊥) → (s : State) → task ≡ s .task → level ≡ s .level → reply.Run task level hold ≡ orderWith s hold
+  order-run ne s a b =
+      ap₂ (λ (x y : ℕ). reply.Run x y hold) a b ∙ simp (ne-eqb (s .task) 255 (λ z. ne (a ∙ z)))
 
 -- the order that is chosen, from the head of the open jobs
-module _ (τ : Timing) (few : τ .count ≤ 16) (s : State) where
-  head-none : (q : List Pending) → openJobs τ s ≡ q → headTask q ≡ 255 → withOrder s 255 0 ≡ orderFor baseSpeeds τ s q
+module _ (τ : Timing) (s : State) (l : List ℕ) (keyed : Keyed τ (s .clock) l) where
+  head-key : (q : List Pending) → openJobs τ s ≡ q → (keys.headKey l q ≡ noKey → ⊥) → keys.headKey l q ≡ getD l (keys.headTask q) 0
+  head-key [] e h = absurd (h refl)
+  head-key (f ∷ q) e h = refl
+
+  head-none : (q : List Pending) → openJobs τ s ≡ q → keys.headKey l q ≡ noKey → withOrder s 255 0 ≡ orderFor baseSpeeds τ s q
   head-none [] e h = refl
-  head-none (f ∷ q) e h = absurd (omega (arith, head-below τ (s .clock) (workOf s) (τ .count) f q e))
+  head-none (f ∷ q) e h =
+      absurd (omega (arith, keys.key-below τ (s .clock) l keyed (f .job .task) (head-below τ (s .clock) (workOf s) (τ .count) f q e)))
 
   head-some :
-      (q : List Pending) → openJobs τ s ≡ q → (headTask q ≡ 255 → ⊥) →
-      withOrder s (headTask q) (lowestLevel baseSpeeds (workOf s (headTask q)) (allowance τ s (headTask q))) ≡ orderFor baseSpeeds τ s q
+      (q : List Pending) → openJobs τ s ≡ q → (keys.headKey l q ≡ noKey → ⊥) →
+      withOrder s (keys.headTask q) (lowestLevel baseSpeeds (workOf s (keys.headTask q)) (allowance τ s (keys.headTask q)))
+      ≡ orderFor baseSpeeds τ s q
   head-some [] e h = absurd (h refl)
   head-some (f ∷ q) e h = refl
 
-  head-small : (q : List Pending) → openJobs τ s ≡ q → (headTask q ≡ 255 → ⊥) → headTask q < τ .count
+  head-small : (q : List Pending) → openJobs τ s ≡ q → (keys.headKey l q ≡ noKey → ⊥) → keys.headTask q < τ .count
   head-small [] e h = absurd (h refl)
   head-small (f ∷ q) e h = head-below τ (s .clock) (workOf s) (τ .count) f q e
 
-module _ (l : Loaded) (t : Times) (x : ℕ) (best : x ≡ bestTo l t (l .count)) (τ : Timing) (same : τ .count ≡ l .count)
-    (timed : Timed τ (l .clock .ticks) t) where
-  head-is : x ≡ headTask (openJobs τ (stateOf l))
-  head-is = best ∙ best-is τ l t timed (sym same)
+-- the most urgent open job of a block: its task, its key and its order
+record Head (b l : List ℕ) (best i : ℕ) : Type 0 where
+  below : i < getD b 6 0
+  key : best ≡ getD l i 0
+  order :
+      chooseOrder baseSpeeds (timingIn b) (decode b)
+      ≡ withOrder (decode b) i (lowestLevel baseSpeeds (workOf (decode b) i) (allowance (timingIn b) (decode b) i))
 
-  pub chosen-none : x ≡ 255 → withOrder (stateOf l) x 0 ≡ chooseOrder baseSpeeds τ (stateOf l)
-  chosen-none e =
-      ap (λ (k : ℕ). withOrder (stateOf l) k 0) e
-      ∙ head-none τ (timed .few) (stateOf l) (openJobs τ (stateOf l)) refl (sym head-is ∙ e)
+module _ (b l : List ℕ) (holds : Holds b) (doable : Doable (decode b)) (keyed : Keyed (timingIn b) (decode b .clock) l)
+    (count : ℕ) (same : count ≡ getD b 6 0) (best : ℕ) (found : best ≡ leastKey l (fieldIn b 13 3) count) where
+  abbrev τ : Timing
+  τ = timingIn b
 
-  pub chosen-some :
-      (x ≡ 255 → ⊥) → (work allowed level : ℕ) →
-      work ≡ entryOf l x .work →
-      allowed ≡ sumTo (l .count) (λ j. pick (urgentBy t x j) 0 (entryOf l j .remaining)) →
-      level ≡ lowestLevel baseSpeeds work allowed →
-      withOrder (stateOf l) x level ≡ chooseOrder baseSpeeds τ (stateOf l)
-  chosen-some ne work allowed level w a e =
-      let some : headTask (openJobs τ (stateOf l)) ≡ 255 → ⊥ = λ z. ne (head-is ∙ z) in
-      let below : x < l .count = omega (arith, head-small τ (timed .few) (stateOf l) (openJobs τ (stateOf l)) refl some, head-is) in
-      let lev : level ≡ lowestLevel baseSpeeds (workOf (stateOf l) x) (allowance τ (stateOf l) x) =
-      e ∙ ap₂ (lowestLevel baseSpeeds) (w ∙ sym (work-is l x below)) (a ∙ allowance-is τ l t timed (sym same) x below) in
-      ap (withOrder (stateOf l) x) lev
-      ∙ ap (λ (k : ℕ). withOrder (stateOf l) k (lowestLevel baseSpeeds (workOf (stateOf l) k) (allowance τ (stateOf l) k))) head-is
-      ∙ head-some τ (timed .few) (stateOf l) (openJobs τ (stateOf l)) refl some
+  abbrev s : State
+  s = decode b
 
--- the most urgent open job, where there is one, is of one of the tasks
-pub best-small : (l : Loaded) (t : Times) (x : ℕ) → l .count ≤ 16 → x ≡ bestTo l t (l .count) → (x ≡ 255 → ⊥) → x < 16
-best-small l t x few e ne = omega (arith, best-below l t (l .count) (λ z. ne (e ∙ z)))
+  count-is : count ≡ τ .count
+  count-is = same ∙ sym (timing-count b)
+
+  best-is : best ≡ keys.headKey l (openJobs τ s)
+  best-is = open-head b l count best same keyed found
+
+  -- no job is open
+  pub chosen-none :
+      best ≡ noKey →
+      (r : Choice) →
+      r .task ≡ 255 →
+      r .level ≡ 0 →
+      OrderIn (chooseOrder baseSpeeds τ s) r × ((r .task < 256) × (r .level < 256))
+  chosen-none e r t v =
+      let o : withOrder s 255 0 ≡ chooseOrder baseSpeeds τ s = head-none τ s l keyed (openJobs τ s) refl (sym best-is ∙ e) in (
+        subst (λ (x : State). OrderIn x r) o record { task = t; level = v; time = λ ne. absurd (ne t) },
+        (omega arith, omega arith),
+      )
+
+  -- one is
+  module _ (some : best ≡ noKey → ⊥) (i : ℕ) (task : i ≡ best % 16) where
+    head : Head b l best i
+    head =
+        let q : List Pending = openJobs τ s in
+        let x : ℕ = keys.headTask q in
+        let n : keys.headKey l q ≡ noKey → ⊥ = λ z. some (best-is ∙ z) in
+        let k : best ≡ getD l x 0 = best-is ∙ head-key τ s l keyed q refl n in
+        let h : x < τ .count = head-small τ s l keyed q refl n in
+        let e : x ≡ i = sym (task ∙ ap (λ (y : ℕ). y % 16) k ∙ keys.key-task τ (s .clock) l keyed x h) in
+        record {
+          below = subst (λ (y : ℕ). y < getD b 6 0) e (omega (arith, timing-count b));
+          key = k ∙ ap (λ (y : ℕ). getD l y 0) e;
+          order =
+              sym (head-some τ s l keyed q refl n)
+              ∙ ap (λ (y : ℕ). withOrder s y (lowestLevel baseSpeeds (workOf s y) (allowance τ s y))) e;
+        }
+
+    module _ (work allowed level : ℕ) (w : work ≡ entryIn b i .work) (a : allowed ≡ allowedBy l (λ j. entryIn b j .remaining) count best)
+        (v : level ≡ lowestLevel baseSpeeds work allowed) where
+      work-is : work ≡ workOf s i
+      work-is = w ∙ sym (ap (λ (e : Entry). e .work) (entry-at b i (head .below)))
+
+      allowed-is : allowed ≡ allowance τ s i
+      allowed-is =
+          a
+          ∙ sumTo-eq count (λ j. pick (ltb best (getD l j 0)) 0 (entryIn b j .remaining)) (λ j. pick (ltb best (getD l j 0)) 0 (remainingOf s j))
+          (λ j h. ap (λ (e : Entry). pick (ltb best (getD l j 0)) 0 (e .remaining)) (sym (entry-at b j (omega arith))))
+          ∙ ap₂ (λ (n k : ℕ). allowedBy l (remainingOf s) n k) count-is (head .key)
+          ∙ keys.allowance-is τ s l keyed i (omega (arith, head .below, timing-count b))
+
+      -- the level is one of the eight: the top one does the work
+      pub chosen-level : level < 8
+      chosen-level =
+          let own : remainingOf s i ≤ allowance τ s i =
+          omega (arith, allowance-is τ (s .clock) (remainingOf s) (τ .count) i (omega (arith, head .below, timing-count b))) in
+          let can : workOf s i ≤ remainingOf s i * 100 = doable i (omega (arith, head .below, count-in b)) in
+          omega (arith, v, level-some work allowed (omega (arith, work-is, allowed-is)))
+
+      pub chosen-some :
+          (r : Choice) →
+          (r .task ≡ i) × (r .level ≡ level) × (r .time ≡ need (speedOf baseSpeeds level) work) →
+          OrderIn (chooseOrder baseSpeeds τ s) r × ((r .task < 256) × (r .level < 256))
+      chosen-some r h =
+          let e : level ≡ lowestLevel baseSpeeds (workOf s i) (allowance τ s i) = v ∙ ap₂ (lowestLevel baseSpeeds) work-is allowed-is in
+          let t : r .time ≡ need (speedOf baseSpeeds (lowestLevel baseSpeeds (workOf s i) (allowance τ s i))) (workOf s i) =
+          h .2 ∙ ap₂ (λ (x y : ℕ). need (speedOf baseSpeeds x) y) e work-is in (
+            subst (λ (x : State). OrderIn x r) (sym (head .order)) record { task = h .0; level = h .1 ∙ e; time = λ ne. t },
+            (omega (arith, h .0, head .below, holds .few), omega (arith, h .1, chosen-level)),
+          )
+
+-- the order that stands
+module _ (b : List ℕ) (holds : Holds b) (runnable : Runnable (decode b)) (some : getD b 4 0 ≡ 255 → ⊥) where
+  standing-below : getD b 4 0 < getD b 6 0
+  standing-below = omega (arith, runnable .task some, count-in b)
+
+  pub standing-task : getD b 4 0 < 16
+  standing-task = omega (arith, standing-below, holds .few)
+
+  pub standing-level : getD b 5 0 < 8
+  standing-level = runnable .level some
+
+  pub standing-run :
+      (work : ℕ) (r : Choice) →
+      work ≡ entryIn b (getD b 4 0) .work →
+      (r .task ≡ getD b 4 0) × (r .level ≡ getD b 5 0) × (r .time ≡ need (speedOf baseSpeeds (getD b 5 0)) work) →
+      OrderIn (decode b) r
+  standing-run work r w h = record {
+    task = h .0;
+    level = h .1;
+    time = λ ne.
+        h .2
+        ∙ ap (need (speedOf baseSpeeds (getD b 5 0))) (w ∙ sym (ap (λ (e : Entry). e .work) (entry-at b (getD b 4 0) standing-below)));
+  }
+
+-- choosing leaves the clock and the entries
+order-clock : (τ : Timing) (s : State) (q : List Pending) → orderFor baseSpeeds τ s q .clock ≡ s .clock
+order-clock τ s [] = refl
+order-clock τ s (f ∷ q) = refl
+
+order-only :
+    (τ : Timing) (s : State) (q : List Pending) →
+    withOrder s (orderFor baseSpeeds τ s q .task) (orderFor baseSpeeds τ s q .level) ≡ orderFor baseSpeeds τ s q
+order-only τ s [] = refl
+order-only τ s (f ∷ q) = refl
+
+-- an order that is chosen, stored and answered
+module _ (b l : List ℕ) (holds : Holds b) (some : 1 ≤ getD b 6 0) (back : encode (decode b) ≡ b)
+    (keyed : Keyed (timingIn b) (decode b .clock) l) (count : ℕ) (same : count ≡ getD b 6 0)
+    (clock : ℕ) (t : clock ≡ decode b .clock) where
+  tasks-are : count ≡ timingIn b .count
+  tasks-are = same ∙ sym (timing-count b)
+
+  -- every deadline is still to come
+  pub choose-next :
+      ((count ≤ 16) × (1 ≤ count)) × ((i : ℕ) → i < count → (clock ≤ deadlineIn (getD l i 0)) × (getD l i 0 < noKey))
+  choose-next = (
+    (omega (arith, holds .few), omega arith),
+    λ i h. (
+      omega (arith, keys.key-after (timingIn b) (decode b .clock) l keyed i (omega (arith, tasks-are))),
+      keys.key-below (timingIn b) (decode b .clock) l keyed i (omega (arith, tasks-are)),
+    ),
+  )
+
+  module _ (next : ℕ) (n : next ≡ deadlineIn (leastTo count (λ i. getD l i 0)) - clock)
+      (c : Choice) (o : OrderIn (chooseOrder baseSpeeds (timingIn b) (decode b)) c × ((c .task < 256) × (c .level < 256))) where
+    abbrev S : State
+    S = chooseOrder baseSpeeds (timingIn b) (decode b)
+
+    pub choose-stored :
+        (m : List ℕ) →
+        m ≡ sets (sets b 4 (digits 256 1 (c .task))) 5 (digits 256 1 (c .level)) →
+        m ≡ encode S
+    choose-stored m e =
+        e
+        ∙ ap (λ (x : List ℕ). sets (sets x 4 (digits 256 1 (c .task))) 5 (digits 256 1 (c .level))) (sym back)
+        ∙ store-order (decode b) (c .task) (c .level) (o .1 .0) (o .1 .1)
+        ∙ ap encode (ap₂ (withOrder (decode b)) (o .0 .task) (o .0 .level) ∙ order-only (timingIn b) (decode b) (openJobs (timingIn b) (decode b)))
+
+    next-is : next ≡ nextArrival (timingIn b) (S .clock)
+    next-is =
+        n
+        ∙ ap₂ (λ (x y : ℕ). deadlineIn (leastTo x (λ i. getD l i 0)) - y) tasks-are t
+        ∙ keys.next-is (timingIn b) (decode b .clock) l keyed (omega (arith, tasks-are))
+        ∙ sym (ap (nextArrival (timingIn b)) (order-clock (timingIn b) (decode b) (openJobs (timingIn b) (decode b))))
+
+    held : (task : ℕ) → c .task ≡ task → (time : ℕ) → ((c .task ≡ 255 → ⊥) → c .time ≡ time) →
+        pick (eqb (c .task) 255) next (min (c .time) next) ≡ pick (eqb task 255) next (min time next)
+    held task e time f =
+        elim (ℕ-discrete (c .task) 255) [
+          | yes z ↦ sym (hold-idle (c .task) (c .time) next z) ∙ hold-idle task time next (sym e ∙ z)
+          | no z ↦ ap₂ (λ (x y : ℕ). pick (eqb x 255) next (min y next)) e (f z)
+        ]
+
+    pub choose-reply :
+        (hold : ℕ) (r : Reply) →
+        hold ≡ pick (eqb (c .task) 255) next (min (c .time) next) →
+        ((x : State) → c .task ≡ x .task → c .level ≡ x .level → r ≡ orderWith x hold) →
+        r ≡ orderWith S (holdOf baseSpeeds (timingIn b) S)
+    choose-reply hold r h f =
+        let e : hold ≡ holdOf baseSpeeds (timingIn b) S =
+        h
+        ∙ held (S .task) (o .0 .task) (runningTime baseSpeeds S) (o .0 .time)
+        ∙ ap (λ (x : ℕ). pick (eqb (S .task) 255) x (min (runningTime baseSpeeds S) x)) next-is in
+        f S (o .0 .task) (o .0 .level) ∙ ap (orderWith S) e

@@ -1,209 +1,328 @@
--- What a pass makes of a state, and its hold, are those of the definitions.
+-- What a pass makes of a state, and its order, are those of the definitions.
 -- Assumes nothing.
-use Prim.Native.Nat.{ℕ, zero, suc, _+_, _-_, _<_, _≤_, min}
+use Prim.Native.Nat.{ℕ, zero, suc, _+_, _-_, _*_, _<_, _≤_, min}
 use mathlib.Core.Path.{_≡_, refl, sym, ap, ap₂, subst, _∙_}
 use mathlib.Core.Bool.{Bool, true, false, not}
-use mathlib.Core.List.{List, _++_}
+use mathlib.Core.List.{List, _++_, append-nil}
+use native.Mathlib.Nat.{le-trans, mul-le-mul}
 use native.Mathlib.Decide.{ℕ-discrete}
 use native.Mathlib.Omega.{arith}
-use borrow.Author.Tests.{eq-eqb, ne-eqb, eqb-true}
+use borrow.Author.Tests.{eq-eqb, ne-eqb}
 use lib.Dec.{eqb}
 use lib.ListN.{length, getD, drop}
+use lib.Seq.{drop-length}
 use Rattle.arith.specs.Choice.{pick}
-use Rattle.arith.proofs.Tests.{both-left}
+use Rattle.arith.specs.Need.{need}
+use Rattle.arith.proofs.Needs.{need-covers}
+use Rattle.arith.proofs.Tests.{passed, failed, tested}
 use Rattle.plan.specs.declared.Task.{Task}
 use Rattle.plan.specs.Levels.{baseSpeeds, speedOf, nominal}
+use Rattle.plan.specs.Blocks.{noTask}
 use Rattle.plan.specs.Questions.{firstNo}
 use Rattle.plan.specs.Answers.{storedBy}
 use Rattle.plan.proofs.Facts.{FineList}
 use Rattle.plan.proofs.LevelLaws.{baseRising}
 use Rattle.schedule.specs.PlainSchedule.{Timing}
-use Rattle.dispatcher.specs.declared.Loaded.{Loaded}
-use Rattle.dispatcher.specs.declared.Times.{Times}
-use Rattle.dispatcher.specs.declared.Outcome.{Outcome}
+use Rattle.dispatcher.specs.declared.Entry.{Entry}
+use Rattle.dispatcher.specs.declared.Choice.{Choice}
 use Rattle.dispatcher.specs.declared.Tested.{Tested}
 use Rattle.dispatcher.specs.declared.Reply.{Reply}
 use Rattle.dispatcher.specs.declared.Reply.the-variants as reply
-use Rattle.dispatcher.specs.StateBlock.{State, remainingOf, planIn, timing, encode, decode, sameBytes, laidOut}
+use Rattle.dispatcher.specs.StateBlock.{State, noEntry, workOf, remainingOf, planIn, timing, encode, decode}
 use Rattle.dispatcher.specs.Orders.{leastTo, nextArrival, holdOf, chooseOrder, orderWith}
 use Rattle.dispatcher.specs.Passes.{someTo, arrivesAt, movedState, choosesAnew, passedState}
-use Rattle.dispatcher.specs.Questions.{runningTime, stateSound, passQuestions}
+use Rattle.dispatcher.specs.Questions.{largestClock, sound, stateSound, runningTime, passQuestions}
 use Rattle.dispatcher.specs.Calls.{repliedBy, passNumber, passOrder, passReply, passBytes}
-use Rattle.dispatcher.specs.Code.{stateOf, entryOf, timingOf, Timed, Good, Fitted, Stepping, MovedAs, PassedAs, TestedAs}
-use Rattle.dispatcher.proofs.Fine.{Fine, Accepted}
-use Rattle.dispatcher.proofs.Plans.{allotment-short}
-use Rattle.dispatcher.proofs.StateCodec.{Storable, length-encode}
-use Rattle.dispatcher.proofs.Soundness.{accepted, fine-storable}
+use Rattle.dispatcher.specs.Code.{Holds, entryIn, timingIn, keyOf, noKey, deadlineIn, dueAt, Keyed, OrderIn, Doable, Good, Stepping, TestedAs}
+use Rattle.dispatcher.proofs.Fine.{nominalSpeed, Accepted}
+use Rattle.dispatcher.proofs.StateCodec.{Storable, StorableEntry, decode-encode, length-encode}
+use Rattle.dispatcher.proofs.Soundness.{planIn-at, length-planIn, accepted, fine-storable}
 use Rattle.dispatcher.proofs.NextArrival.{next-arrives, before-next}
-use Rattle.dispatcher.proofs.PassSound.{FineEntries, moved-fine, pass-fine}
-use Rattle.dispatcher.proofs.ImageLaws.{few-entries}
-use Rattle.dispatcher.proofs.UrgencyLaws.{remaining-is, next-loaded, deadlines-after}
-use Rattle.dispatcher.proofs.PassSteps.{fine-order, sound-plan, fine-loaded, count-is, count-some, period-above}
+use Rattle.dispatcher.proofs.Moved.{choose-entries, passed-entries}
+use Rattle.dispatcher.proofs.PassSound.{FineEntries, fine-chosen, moved-fine}
+use Rattle.dispatcher.proofs.BlockLaws.{count-in, entry-at}
+use Rattle.dispatcher.proofs.KeyLaws.{key-below, key-after, next-is, keyed-after, keyed-on}
+use Rattle.dispatcher.proofs.NeedTests.{speed-most}
+use Rattle.dispatcher.proofs.PassSteps.{sound-plan, sound-facts, nominal-small, nominal-above, entries-few, period-some, sound-state, sound-size, sound-count, count-some}
+
+-- work whose time at some speed is at most the ticks left is done in them at the top speed
+doable-at : (speed work left : ℕ) → 0 < speed → speed ≤ 100 → need speed work ≤ left → work ≤ left * 100
+doable-at speed work left h k e = le-trans (need-covers speed work h) (mul-le-mul e k)
 
 -- the hold of an order, from the ticks to the next arrival
-pub hold-is :
-    (τ : Timing) (s : State) (next hold : ℕ) → next ≡ nextArrival τ (s .clock) →
-    hold ≡ pick (eqb (s .task) 255) next (min (runningTime baseSpeeds s) next) → hold ≡ holdOf baseSpeeds τ s
-hold-is τ s next hold n h =
-    h ∙ ap (λ (x : ℕ). pick (eqb (s .task) 255) x (min (runningTime baseSpeeds s) x)) n
+hold-is :
+    (τ : Timing) (s : State) (c : Choice) → OrderIn s c → (next hold : ℕ) → next ≡ nextArrival τ (s .clock) →
+    hold ≡ pick (eqb (c .task) 255) next (min (c .time) next) → hold ≡ holdOf baseSpeeds τ s
+hold-is τ s c o next hold n h =
+    elim (ℕ-discrete (c .task) 255) [
+      | yes e ↦
+          h
+          ∙ ap (λ (b : Bool). pick b next (min (c .time) next)) (eq-eqb (c .task) 255 e)
+          ∙ n
+          ∙ ap (λ (b : Bool). pick b (nextArrival τ (s .clock)) (min (runningTime baseSpeeds s) (nextArrival τ (s .clock))))
+          (sym (eq-eqb (s .task) 255 (sym (o .task) ∙ e)))
+      | no e ↦
+          h
+          ∙ ap (λ (b : Bool). pick b next (min (c .time) next)) (ne-eqb (c .task) 255 e)
+          ∙ ap₂ (λ (x y : ℕ). min x y) (o .time e) n
+          ∙ ap (λ (b : Bool). pick b (nextArrival τ (s .clock)) (min (runningTime baseSpeeds s) (nextArrival τ (s .clock))))
+          (sym (ne-eqb (s .task) 255 (λ z. e (o .task ∙ z))))
+    ]
 
--- a fine state that was loaded can be stored
-pub fine-fitted :
-    (ts : List Task) → FineList baseSpeeds (length ts) ts → (s : Loaded) → Fine baseSpeeds ts (stateOf s) → s .count ≤ 16 → Fitted s
-fine-fitted ts plan s fine few =
-    let k : Storable (stateOf s) = fine-storable baseSpeeds ts (stateOf s) plan baseRising (omega arith) fine in
-    record { task = k .task; level = k .level; count = few }
+-- a pass from a sound state that the questions let through
+module _ (s : State) (ok : stateSound baseSpeeds s ≡ true) (d : ℕ) (finished : Bool) (clear : firstNo (passQuestions baseSpeeds s d finished) ≡ 0) where
+  abbrev τ : Timing
+  τ = timing baseSpeeds (planIn s)
 
--- a pass that the questions let through
-module _ (l : Loaded) (t : Times) (highest next d : ℕ) (finished : Bool) (good : Good l t highest)
-    (arrival : next ≡ nextArrival (timingOf l) (l .clock .ticks)) (clear : firstNo (passQuestions baseSpeeds (stateOf l) d finished) ≡ 0)
-    (size : length (l .entries) ≡ 16) where
-  lets : Accepted baseSpeeds (timingOf l) (stateOf l) d finished
-  lets = accepted baseSpeeds (stateOf l) d finished clear
+  abbrev moved : State
+  moved = movedState baseSpeeds τ s d finished
 
-  plan : FineList baseSpeeds (length (planIn (stateOf l))) (planIn (stateOf l))
-  plan = sound-plan l (good .sound)
+  lets : Accepted baseSpeeds τ s d finished
+  lets = accepted baseSpeeds s d finished clear
 
-  fine : Fine baseSpeeds (planIn (stateOf l)) (stateOf l)
-  fine = fine-loaded l (good .sound)
+  plan : FineList baseSpeeds (length (planIn s)) (planIn s)
+  plan = sound-plan s ok
 
-  count : timingOf l .count ≡ l .count
-  count = count-is l (good .sound) size (good .count)
-
-  periods : (i : ℕ) → i < timingOf l .count → 0 < timingOf l .period i
-  periods i h = period-above l (good .sound) size (good .count) i (omega (arith, count))
-
-  pub stepping : Stepping l t d
-  stepping = record {
-    sound = good .sound;
-    count = good .count;
-    timed = good .timed;
-    some = lets .some;
-    within = lets .within;
-    clock = lets .clock;
-  }
-
-  pub at-nominal : (speed : ℕ) → speed ≡ speedOf baseSpeeds highest → speed ≡ speedOf baseSpeeds (nominal baseSpeeds (planIn (stateOf l)))
-  at-nominal speed e = e ∙ ap (speedOf baseSpeeds) (good .nominal)
+  periods : (i : ℕ) → i < τ .count → 0 < τ .period i
+  periods i h = period-some s ok i (omega (arith, length-planIn s))
 
   -- an order is chosen anew exactly if the job finished or the next arrival is reached
   arrives : Bool
-  arrives = someTo (timingOf l .count) (arrivesAt (timingOf l) (l .clock .ticks + d))
+  arrives = someTo (τ .count) (arrivesAt τ (s .clock + d))
 
-  pub anew-not : finished ≡ false → d < next → choosesAnew (timingOf l) (stateOf l) d finished ≡ false
-  unfolding arrives
-  anew-not f h =
-      ap (λ (b : Bool). pick b true arrives) f
-      ∙ before-next (timingOf l) (plan .count-low) periods (l .clock .ticks) d (lets .some) (omega (arith, arrival))
+  module _ (next : ℕ) (n : next ≡ nextArrival τ (s .clock)) where
+    pub anew-not : finished ≡ false → d < next → choosesAnew τ s d finished ≡ false
+    unfolding arrives
+    anew-not f h =
+        ap (λ (b : Bool). pick b true arrives) f
+        ∙ before-next τ (plan .count-low) periods (s .clock) d (lets .some) (omega (arith, n))
 
-  pub anew-finished : finished ≡ true → choosesAnew (timingOf l) (stateOf l) d finished ≡ true
+    pub anew-arrives : finished ≡ false → next ≤ d → choosesAnew τ s d finished ≡ true
+    unfolding arrives
+    anew-arrives f h =
+        ap (λ (b : Bool). pick b true arrives) f
+        ∙ next-arrives τ (plan .count-low) periods (s .clock) d (omega (arith, n, lets .within))
+
+  pub anew-finished : finished ≡ true → choosesAnew τ s d finished ≡ true
   unfolding arrives
   anew-finished f = ap (λ (b : Bool). pick b true arrives) f
 
-  pub anew-arrives : finished ≡ false → next ≤ d → choosesAnew (timingOf l) (stateOf l) d finished ≡ true
-  unfolding arrives
-  anew-arrives f h =
-      ap (λ (b : Bool). pick b true arrives) f
-      ∙ next-arrives (timingOf l) (plan .count-low) periods (l .clock .ticks) d (omega (arith, arrival, lets .within))
+  -- the moved state is fine but for its order, so it fits its block
+  moved-facts : FineEntries baseSpeeds (planIn s) moved
+  moved-facts = moved-fine baseSpeeds baseRising (planIn s) plan s (sound-facts s ok) d finished lets
 
-  -- the state after the pass is sound
-  passed-fine : Fine baseSpeeds (planIn (stateOf l)) (passedState baseSpeeds (timingOf l) (stateOf l) d finished)
-  passed-fine = pass-fine baseSpeeds baseRising (planIn (stateOf l)) plan (stateOf l) fine d finished lets
+  pub moved-count : length (moved .entries) ≡ length (s .entries)
+  moved-count = sym (length-planIn moved) ∙ ap length (moved-facts .plan) ∙ length-planIn s
 
-  module _ (m : Loaded) (mv : MovedAs l d finished m) where
-    -- where the order stays, its hold falls
-    module _ (hold : ℕ) (h : hold ≡ pick (eqb (l .task) 255) next (min (runningTime baseSpeeds (stateOf l)) next)) where
-      pub hold-enough : d ≤ hold
-      hold-enough =
-          elim (ℕ-discrete (l .task) 255) [
-            | yes e ↦
-                let z : hold ≡ next = h ∙ ap (λ (b : Bool). pick b next (min (runningTime baseSpeeds (stateOf l)) next)) (eq-eqb (l .task) 255 e) in
-                omega (arith, lets .within, arrival)
-            | no e ↦
-                let z : hold ≡ min (runningTime baseSpeeds (stateOf l)) next =
-                h ∙ ap (λ (b : Bool). pick b next (min (runningTime baseSpeeds (stateOf l)) next)) (ne-eqb (l .task) 255 e) in
-                omega (arith, lets .within, arrival, lets .time (ap not (ne-eqb (l .task) 255 e)))
-          ]
+  moved-storable : Storable moved
+  moved-storable =
+      let old : Storable s = fine-storable baseSpeeds (planIn s) s plan baseRising (omega arith) (sound-facts s ok) in
+      let new : Storable (chooseOrder baseSpeeds τ moved) =
+      fine-storable baseSpeeds (planIn s) (chooseOrder baseSpeeds τ moved) plan baseRising (omega arith)
+      (fine-chosen baseSpeeds (planIn s) (plan .tasks .admitted) moved moved-facts) in
+      let same : chooseOrder baseSpeeds τ moved .entries ≡ moved .entries = choose-entries baseSpeeds τ moved in
+      record {
+        clock = omega (arith, moved-facts .clock);
+        task = old .task;
+        level = old .level;
+        count = omega (arith, moved-count, entries-few s ok);
+        entries = subst (λ (l : List Entry). (i : ℕ) → i < length l → StorableEntry (getD l i noEntry)) same (new .entries);
+      }
 
-      pub passed-on : choosesAnew (timingOf l) (stateOf l) d finished ≡ false → PassedAs l d finished (record { state = m; hold = hold - d })
-      passed-on anew =
-          let moved : State = movedState baseSpeeds (timingOf l) (stateOf l) d finished in
-          let state : stateOf m ≡ passedState baseSpeeds (timingOf l) (stateOf l) d finished =
-          mv .state ∙ ap (λ (b : Bool). pick b (chooseOrder baseSpeeds (timingOf l) moved) moved) (sym anew) in
-          let e : hold - d ≡ holdOf baseSpeeds (timingOf l) (stateOf l) - d =
-          ap (λ (x : ℕ). x - d) (hold-is (timingOf l) (stateOf l) next hold arrival h) in
-          record {
-            state = state;
-            hold = e
-                ∙ ap (λ (b : Bool). pick b (holdOf baseSpeeds (timingOf l) (passedState baseSpeeds (timingOf l) (stateOf l) d finished)) (holdOf baseSpeeds (timingOf l) (stateOf l) - d)) (sym anew);
-            fitted = fine-fitted (planIn (stateOf l)) plan m (subst (Fine baseSpeeds (planIn (stateOf l))) (sym state) passed-fine) (omega (arith, mv .count, good .count));
-          }
+  moved-doable : Doable moved
+  moved-doable i h =
+      let k : i < length (planIn s) = omega (arith, moved-count, length-planIn s) in
+      doable-at (nominalSpeed baseSpeeds (planIn s)) (workOf moved i) (remainingOf moved i) (nominal-above s ok)
+      (speed-most (nominal baseSpeeds (planIn s)) (speedOf baseSpeeds (nominal baseSpeeds (planIn s))) (nominal-small s ok) refl)
+      (moved-facts .ahead i k)
 
-    pub moved-remaining : (j : ℕ) → j < m .count → entryOf m j .remaining ≤ 65535
-    moved-remaining j h =
-        let f : FineEntries baseSpeeds (planIn (stateOf l)) (movedState baseSpeeds (timingOf l) (stateOf l) d finished) =
-        moved-fine baseSpeeds baseRising (planIn (stateOf l)) plan (stateOf l) fine d finished lets in
-        let k : j < length (planIn (stateOf l)) = omega (arith, count, mv .count) in
-        omega (
-          arith,
-          remaining-is m j h,
-          ap (λ (s : State). remainingOf s j) (mv .state),
-          f .remaining j k,
-          allotment-short baseSpeeds (planIn (stateOf l)) plan baseRising j k,
-        )
+  -- the order where it stays, and where it is chosen anew
+  abbrev ordered : Bool → Reply
+  ordered b =
+      orderWith (pick b (chooseOrder baseSpeeds τ moved) moved)
+      (pick b (holdOf baseSpeeds τ (pick b (chooseOrder baseSpeeds τ moved) moved)) (holdOf baseSpeeds τ s - d))
 
-    -- where one is chosen, it is that of the moved state at its new times
-    module _ (u : Times) (timed : Timed (timingOf l) (l .clock .ticks + d) u) (anew : choosesAnew (timingOf l) (stateOf l) d finished ≡ true)
-        (s : Loaded)
-        (chosen : (τ : Timing) → τ .count ≡ m .count → Timed τ (m .clock .ticks) u → stateOf s ≡ chooseOrder baseSpeeds τ (stateOf m))
-        (ticks : s .clock .ticks ≡ m .clock .ticks) (same : s .count ≡ m .count) where
-      chosen-state : stateOf s ≡ passedState baseSpeeds (timingOf l) (stateOf l) d finished
-      chosen-state =
-          let moved : State = movedState baseSpeeds (timingOf l) (stateOf l) d finished in
-          let at : Timed (timingOf l) (m .clock .ticks) u =
-          subst (λ (x : ℕ). Timed (timingOf l) x u) (sym (ap (λ (x : State). x .clock) (mv .state))) timed in
-          chosen (timingOf l) (count ∙ sym (mv .count)) at
-          ∙ ap (chooseOrder baseSpeeds (timingOf l)) (mv .state)
-          ∙ ap (λ (b : Bool). pick b (chooseOrder baseSpeeds (timingOf l) moved) moved) (sym anew)
+  -- the bytes after the pass
+  module _ (m : List ℕ) (e : m ≡ encode moved) where
+    pub moved-back : decode m ≡ moved
+    moved-back = ap decode e ∙ decode-encode moved moved-storable
 
-      chosen-timed : Timed (timingOf l) (s .clock .ticks) u
-      chosen-timed =
-          subst (λ (x : ℕ). Timed (timingOf l) x u) (sym (ticks ∙ ap (λ (x : State). x .clock) (mv .state))) timed
+    moved-timing : timingIn m ≡ τ
+    moved-timing = ap (λ (x : State). timing baseSpeeds (planIn x)) moved-back ∙ ap (timing baseSpeeds) (moved-facts .plan)
 
-      chosen-count : s .count ≡ timingOf l .count
-      chosen-count = same ∙ mv .count ∙ sym count
+    pub moved-size : getD m 6 0 ≡ length (s .entries)
+    moved-size = ap (λ (l : List ℕ). getD l 6 0) e ∙ moved-count
 
-      pub chosen-few : s .count ≤ 16
-      chosen-few = omega (arith, same, mv .count, good .count)
+    pub moved-holds : Holds m
+    moved-holds = record {
+      size = ap length e ∙ length-encode moved (moved-storable .count);
+      few = omega (arith, moved-size, entries-few s ok);
+    }
 
-      pub chosen-some : 1 ≤ s .count
-      chosen-some = omega (arith, same, mv .count, count-some l (good .sound) size (good .count))
+    pub moved-again : encode (decode m) ≡ m
+    moved-again = ap encode moved-back ∙ sym e
 
-      pub chosen-after : (i : ℕ) → i < s .count → s .clock .ticks ≤ getD (u .deadline) i 0
-      chosen-after =
-          deadlines-after (timingOf l) s u chosen-timed chosen-count (λ i h. periods i (omega (arith, chosen-count)))
+    pub moved-does : Doable (decode m)
+    moved-does = subst Doable (sym moved-back) moved-doable
 
-      chosen-fine : Fine baseSpeeds (planIn (stateOf l)) (stateOf s)
-      chosen-fine = subst (Fine baseSpeeds (planIn (stateOf l))) (sym chosen-state) passed-fine
+    pub moved-clock : decode m .clock ≡ s .clock + d
+    moved-clock = ap (λ (x : State). x .clock) moved-back
 
-      pub chosen-form : (s .task ≡ 255 → ⊥) → (s .task < s .count) × (s .level < 8)
-      chosen-form = fine-order (planIn (stateOf l)) plan s chosen-fine (sym chosen-count)
+    -- its keys
+    pub moved-keyed :
+        (keys : List ℕ) → Keyed τ (s .clock) keys → (count clock : ℕ) → count ≡ getD m 6 0 → clock ≡ decode m .clock → (r : List ℕ) →
+        ((i : ℕ) → i < count → getD r i 0 ≡ pick (dueAt keys clock i) (keyOf (clock + entryIn m i .period) (entryIn m i .period) i) (getD keys i 0)) →
+        Keyed (timingIn m) (decode m .clock) r
+    moved-keyed keys keyed count clock n t r each =
+        let at : clock ≡ s .clock + d = t ∙ moved-clock in
+        let period : (i : ℕ) → i < getD m 6 0 → entryIn m i .period ≡ τ .period i =
+        λ i h.
+        ap (λ (x : Entry). x .period) (sym (entry-at m i h))
+        ∙ ap (λ (x : State). getD (x .entries) i noEntry .period) moved-back
+        ∙ ap (λ (x : Task). x .period) (sym (planIn-at moved i))
+        ∙ ap (λ (l : List Task). getD l i noTask .period) (moved-facts .plan) in
+        let new : Keyed τ (s .clock + d) r =
+        keyed-after τ (s .clock) keys keyed d (lets .some) (lets .within) r (lets .clock)
+        (λ i h.
+        let k : i < getD m 6 0 = omega (arith, moved-size, length-planIn s) in
+        each i (omega (arith, n))
+        ∙ ap₂ (λ (x y : ℕ). pick (dueAt keys x i) (keyOf (x + y) y i) (getD keys i 0)) at (period i k)) in
+        subst (λ (x : Timing). Keyed x (decode m .clock) r) (sym moved-timing)
+        (subst (λ (x : ℕ). Keyed τ x r) (sym moved-clock) new)
 
-      pub passed-anew :
-          (later hold : ℕ) → later ≡ leastTo (s .count) (λ i. getD (u .deadline) i 0 - s .clock .ticks) →
-          hold ≡ pick (eqb (s .task) 255) later (min (runningTime baseSpeeds (stateOf s)) later) →
-          PassedAs l d finished (record { state = s; hold = hold })
-      passed-anew later hold a h =
-          let n : later ≡ nextArrival (timingOf l) (s .clock .ticks) =
-          a ∙ next-loaded (timingOf l) s u chosen-timed chosen-count chosen-some (λ i k. periods i (omega (arith, chosen-count))) in
-          record {
-            state = chosen-state;
-            hold =
-                hold-is (timingOf l) (stateOf s) later hold n h
-                ∙ ap (holdOf baseSpeeds (timingOf l)) chosen-state
-                ∙ ap (λ (b : Bool). pick b (holdOf baseSpeeds (timingOf l) (passedState baseSpeeds (timingOf l) (stateOf l) d finished)) (holdOf baseSpeeds (timingOf l) (stateOf l) - d)) (sym anew);
-            fitted = fine-fitted (planIn (stateOf l)) plan s chosen-fine chosen-few;
-          }
+    -- before the next arrival its keys are the old ones
+    pub moved-kept : (keys : List ℕ) → Keyed τ (s .clock) keys → d < nextArrival τ (s .clock) → Keyed (timingIn m) (decode m .clock) keys
+    moved-kept keys keyed h =
+        subst (λ (x : Timing). Keyed x (decode m .clock) keys) (sym moved-timing)
+        (subst (λ (x : ℕ). Keyed τ x keys) (sym moved-clock) (keyed-on τ (s .clock) keys keyed d (lets .some) h (lets .clock)))
+
+    -- where the order stays
+    module _ (anew : choosesAnew τ s d finished ≡ false) where
+      pub stays-bytes : m ≡ encode (passedState baseSpeeds τ s d finished)
+      stays-bytes = e ∙ ap (λ (b : Bool). encode (pick b (chooseOrder baseSpeeds τ moved) moved)) (sym anew)
+
+      pub stays-reply :
+          (c : Choice) → OrderIn s c → (next hold : ℕ) → next ≡ nextArrival τ (s .clock) → hold ≡ pick (eqb (c .task) 255) next (min (c .time) next) →
+          (r : Reply) → ((x : State) → c .task ≡ x .task → c .level ≡ x .level → r ≡ orderWith x (hold - d)) → r ≡ passOrder baseSpeeds s d finished
+      stays-reply c o next hold n h r q =
+          q moved (o .task) (o .level)
+          ∙ ap (λ (x : ℕ). orderWith moved (x - d)) (hold-is τ s c o next hold n h)
+          ∙ ap ordered (sym anew)
+
+    -- where one is chosen
+    module _ (anew : choosesAnew τ s d finished ≡ true) where
+      pub anew-bytes : (l : List ℕ) → l ≡ encode (chooseOrder baseSpeeds (timingIn m) (decode m)) → l ≡ encode (passedState baseSpeeds τ s d finished)
+      anew-bytes l h =
+          h
+          ∙ ap₂ (λ (x : Timing) (y : State). encode (chooseOrder baseSpeeds x y)) moved-timing moved-back
+          ∙ ap (λ (b : Bool). encode (pick b (chooseOrder baseSpeeds τ moved) moved)) (sym anew)
+
+      pub anew-reply :
+          (r : Reply) →
+          r ≡ orderWith (chooseOrder baseSpeeds (timingIn m) (decode m)) (holdOf baseSpeeds (timingIn m) (chooseOrder baseSpeeds (timingIn m) (decode m))) →
+          r ≡ passOrder baseSpeeds s d finished
+      anew-reply r h =
+          h
+          ∙ ap₂ (λ (x : Timing) (y : State). orderWith (chooseOrder baseSpeeds x y) (holdOf baseSpeeds x (chooseOrder baseSpeeds x y))) moved-timing moved-back
+          ∙ ap ordered (sym anew)
+
+  -- the hold that stands is at least the ticks of the pass
+  pub hold-enough :
+      (c : Choice) → OrderIn s c → (next hold : ℕ) → next ≡ nextArrival τ (s .clock) → hold ≡ pick (eqb (c .task) 255) next (min (c .time) next) → d ≤ hold
+  hold-enough c o next hold n h =
+      elim (ℕ-discrete (c .task) 255) [
+        | yes e ↦
+            let z : hold ≡ next = h ∙ ap (λ (b : Bool). pick b next (min (c .time) next)) (eq-eqb (c .task) 255 e) in
+            omega (arith, lets .within, n)
+        | no e ↦
+            let z : hold ≡ min (c .time) next = h ∙ ap (λ (b : Bool). pick b next (min (c .time) next)) (ne-eqb (c .task) 255 e) in
+            omega (arith, lets .within, n, o .time e, lets .time (ap not (ne-eqb (s .task) 255 (λ x. e (o .task ∙ x)))))
+      ]
+
+  -- a pass leaves as many entries
+  pub passed-few : length (passedState baseSpeeds τ s d finished .entries) ≤ 16
+  passed-few =
+      omega (arith, ap length (passed-entries baseSpeeds τ s d finished), moved-count, entries-few s ok)
+
+-- the same of a block
+module _ (bytes keys : List ℕ) (highest next d : ℕ) (finished : Bool) (good : Good bytes keys highest)
+    (arrival : next ≡ nextArrival (timingIn bytes) (decode bytes .clock)) (clear : firstNo (passQuestions baseSpeeds (decode bytes) d finished) ≡ 0) where
+  fine : stateSound baseSpeeds (decode bytes) ≡ true
+  fine = sound-state bytes (good .sound)
+
+  allows : Accepted baseSpeeds (timingIn bytes) (decode bytes) d finished
+  allows = accepted baseSpeeds (decode bytes) d finished clear
+
+  pub stepping : Stepping bytes keys highest d
+  stepping = record { good = good; some = allows .some; within = allows .within; clock = allows .clock }
+
+  module _ (c : Choice) (o : OrderIn (decode bytes) c) (m : List ℕ) (e : m ≡ encode (movedState baseSpeeds (timingIn bytes) (decode bytes) d finished)) where
+    pub after-holds : Holds m
+    after-holds = moved-holds (decode bytes) fine d finished clear m e
+
+    pub after-some : 1 ≤ getD m 6 0
+    after-some = omega (arith, moved-size (decode bytes) fine d finished clear m e, count-in bytes, count-some bytes (good .sound))
+
+    pub after-clock : (clock : ℕ) → clock ≡ decode m .clock → clock ≤ largestClock
+    after-clock clock t = omega (arith, moved-clock (decode bytes) fine d finished clear m e, allows .clock)
+
+    pub after-below : (count : ℕ) → count ≡ getD m 6 0 → (i : ℕ) → i < count → getD keys i 0 < noKey
+    after-below count n i h =
+        key-below (timingIn bytes) (decode bytes .clock) keys (good .keyed) i
+        (omega (arith, moved-size (decode bytes) fine d finished clear m e, length-planIn (decode bytes)))
+
+    pub after-again : encode (decode m) ≡ m
+    after-again = moved-again (decode bytes) fine d finished clear m e
+
+    pub after-does : Doable (decode m)
+    after-does = moved-does (decode bytes) fine d finished clear m e
+
+    pub after-keyed :
+        (count clock : ℕ) → count ≡ getD m 6 0 → clock ≡ decode m .clock → (r : List ℕ) →
+        ((i : ℕ) → i < count → getD r i 0 ≡ pick (dueAt keys clock i) (keyOf (clock + entryIn m i .period) (entryIn m i .period) i) (getD keys i 0)) →
+        Keyed (timingIn m) (decode m .clock) r
+    after-keyed = moved-keyed (decode bytes) fine d finished clear m e keys (good .keyed)
+
+    pub after-kept : d < next → Keyed (timingIn m) (decode m .clock) keys
+    after-kept h = moved-kept (decode bytes) fine d finished clear m e keys (good .keyed) (omega (arith, arrival))
+
+    pub after-hold : (hold : ℕ) → hold ≡ pick (eqb (c .task) 255) next (min (c .time) next) → d ≤ hold
+    after-hold hold h = hold-enough (decode bytes) fine d finished clear c o next hold arrival h
+
+    -- the order stays where the job goes on and the next arrival is not reached
+    module _ (f : finished ≡ false) (h : d < next) where
+      stays : choosesAnew (timingIn bytes) (decode bytes) d finished ≡ false
+      stays = anew-not (decode bytes) fine d finished clear next arrival f h
+
+      pub kept-bytes : m ≡ encode (passedState baseSpeeds (timingIn bytes) (decode bytes) d finished)
+      kept-bytes = stays-bytes (decode bytes) fine d finished clear m e stays
+
+      pub kept-reply :
+          (hold : ℕ) → hold ≡ pick (eqb (c .task) 255) next (min (c .time) next) → (r : Reply) →
+          ((x : State) → c .task ≡ x .task → c .level ≡ x .level → r ≡ orderWith x (hold - d)) → r ≡ passOrder baseSpeeds (decode bytes) d finished
+      kept-reply hold k r q = stays-reply (decode bytes) fine d finished clear m e stays c o next hold arrival k r q
+
+    pub chosen-finished : finished ≡ true → choosesAnew (timingIn bytes) (decode bytes) d finished ≡ true
+    chosen-finished = anew-finished (decode bytes) fine d finished clear
+
+    pub chosen-late : next ≤ d → choosesAnew (timingIn bytes) (decode bytes) d finished ≡ true
+    chosen-late h =
+        elim (tested finished) as (λ b _. finished ≡ b → choosesAnew (timingIn bytes) (decode bytes) d finished ≡ true) [
+          | passed ↦ λ f. chosen-finished f
+          | failed ↦ λ f. anew-arrives (decode bytes) fine d finished clear next arrival f h
+        ]
+        refl
+
+    module _ (anew : choosesAnew (timingIn bytes) (decode bytes) d finished ≡ true) where
+      pub chosen-bytes :
+          (l : List ℕ) → l ≡ encode (chooseOrder baseSpeeds (timingIn m) (decode m)) → l ≡ encode (passedState baseSpeeds (timingIn bytes) (decode bytes) d finished)
+      chosen-bytes = anew-bytes (decode bytes) fine d finished clear m e anew
+
+      pub chosen-reply :
+          (r : Reply) →
+          r ≡ orderWith (chooseOrder baseSpeeds (timingIn m) (decode m)) (holdOf baseSpeeds (timingIn m) (chooseOrder baseSpeeds (timingIn m) (decode m))) →
+          r ≡ passOrder baseSpeeds (decode bytes) d finished
+      chosen-reply = anew-reply (decode bytes) fine d finished clear m e anew
 
 -- a reply that is a refusal or an order, and the bytes that go with it
 replied-no : (n : ℕ) (order : Reply) → (n ≡ 0 → ⊥) → reply.Refused n ≡ repliedBy n order
@@ -214,85 +333,72 @@ stored-no : (n : ℕ) (bytes buffer : List ℕ) → (n ≡ 0 → ⊥) → buffer
 stored-no zero bytes buffer h = absurd (h refl)
 stored-no (suc n) bytes buffer h = refl
 
+-- bytes stored over as many are all there is
+stored-all : (bytes buffer : List ℕ) → length bytes ≡ length buffer → bytes ≡ storedBy 0 bytes buffer
+stored-all bytes buffer e =
+    sym (append-nil bytes) ∙ ap (λ (l : List ℕ). bytes ++ l) (sym (ap (λ (k : ℕ). drop k buffer) e ∙ drop-length buffer))
+
 -- a pass over a block, by each way out
 module _ (bytes : List ℕ) (d : ℕ) (finished : Bool) where
   -- the reply and the bytes, by the number
   abbrev replies : ℕ → Reply
   replies n = repliedBy n (passOrder baseSpeeds (decode bytes) d finished)
 
-  abbrev leaves : ℕ → List ℕ
-  leaves n =
-      storedBy n
-      (encode (passedState baseSpeeds (timing baseSpeeds (planIn (decode bytes))) (decode bytes) d finished))
-      bytes
+  abbrev after : List ℕ
+  after = encode (passedState baseSpeeds (timingIn bytes) (decode bytes) d finished)
 
   module _ (n : ℕ) (e : n ≡ passNumber baseSpeeds bytes d finished) (h : n ≡ 0 → ⊥) where
     pub refused-reply : reply.Refused n ≡ passReply baseSpeeds bytes d finished
     refused-reply = replied-no n (passOrder baseSpeeds (decode bytes) d finished) h ∙ ap replies e
 
     pub refused-bytes : bytes ≡ passBytes baseSpeeds bytes d finished
-    refused-bytes =
-        stored-no n (encode (passedState baseSpeeds (timing baseSpeeds (planIn (decode bytes))) (decode bytes) d finished)) bytes h
-        ∙ ap leaves e
+    refused-bytes = stored-no n after bytes h ∙ ap (λ (k : ℕ). storedBy k after bytes) e
 
-  module _ (r : Tested) (tested : TestedAs bytes r) where
-    -- a block that is not sound
-    pub number-10 : r .sound ≡ false → 10 ≡ passNumber baseSpeeds bytes d finished
-    number-10 u =
-        ap (λ (b : Bool). pick b (firstNo (passQuestions baseSpeeds (decode bytes) d finished)) 10) (sym u ∙ tested .sound)
+  -- the number, by whether the block is sound
+  abbrev numbered : Bool → ℕ
+  numbered b = pick b (firstNo (passQuestions baseSpeeds (decode bytes) d finished)) 10
 
-    -- a sound one
-    module _ (u : r .sound ≡ true) where
-      pub number-is :
-          (n : ℕ) → n ≡ firstNo (passQuestions baseSpeeds (stateOf (r .state)) d finished) → n ≡ passNumber baseSpeeds bytes d finished
-      number-is n e =
+  pub number-10 : (r : Tested) → TestedAs bytes r → r .sound ≡ false → 10 ≡ passNumber baseSpeeds bytes d finished
+  number-10 r tested u = ap numbered (sym u ∙ tested .sound)
+
+  module _ (ok : sound baseSpeeds bytes ≡ true) where
+    pub number-is : (n : ℕ) → n ≡ firstNo (passQuestions baseSpeeds (decode bytes) d finished) → n ≡ passNumber baseSpeeds bytes d finished
+    number-is n e = e ∙ ap numbered (sym ok)
+
+    module _ (clear : firstNo (passQuestions baseSpeeds (decode bytes) d finished) ≡ 0) where
+      no-number : 0 ≡ passNumber baseSpeeds bytes d finished
+      no-number = number-is 0 (sym clear)
+
+      pub accepted-reply : (r : Reply) → r ≡ passOrder baseSpeeds (decode bytes) d finished → r ≡ passReply baseSpeeds bytes d finished
+      accepted-reply r e = e ∙ ap replies no-number
+
+      pub accepted-bytes : (l : List ℕ) → l ≡ encode (passedState baseSpeeds (timingIn bytes) (decode bytes) d finished) → l ≡ passBytes baseSpeeds bytes d finished
+      accepted-bytes l e =
           e
-          ∙ ap (λ (s : State). firstNo (passQuestions baseSpeeds s d finished)) (tested .state u)
-          ∙ ap (λ (b : Bool). pick b (firstNo (passQuestions baseSpeeds (decode bytes) d finished)) 10) (sym u ∙ tested .sound)
+          ∙ stored-all after bytes
+          (length-encode (passedState baseSpeeds (timingIn bytes) (decode bytes) d finished) (passed-few (decode bytes) (sound-state bytes ok) d finished clear)
+          ∙ sym (sound-size bytes ok))
+          ∙ ap (λ (k : ℕ). storedBy k after bytes) no-number
 
-      pub sound-length : length bytes ≡ 200
-      sound-length =
-          eqb-true (length bytes) 200
-          (both-left (eqb (length bytes) 200) (sameBytes (encode (decode bytes)) bytes)
-          (both-left (laidOut bytes) (stateSound baseSpeeds (decode bytes)) (sym (tested .sound) ∙ u)))
+-- the next arrival, from a sound block's keys
+module _ (bytes keys : List ℕ) (highest : ℕ) (good : Good bytes keys highest) (count clock : ℕ) (n : count ≡ getD bytes 6 0) (t : clock ≡ decode bytes .clock) where
+  pub good-few : (count ≤ 16) × (1 ≤ count)
+  good-few = (omega (arith, good .holds .few), omega (arith, count-some bytes (good .sound)))
 
-      module _ (clear : 0 ≡ passNumber baseSpeeds bytes d finished) (o : Outcome) (p : PassedAs (r .state) d finished o) where
-        after : State → State
-        after s = passedState baseSpeeds (timing baseSpeeds (planIn s)) s d finished
+  pub good-after : (i : ℕ) → i < count → (clock ≤ deadlineIn (getD keys i 0)) × (getD keys i 0 < noKey)
+  good-after i h =
+      let k : i < timingIn bytes .count = omega (arith, sound-count bytes (good .sound)) in (
+        omega (arith, key-after (timingIn bytes) (decode bytes .clock) keys (good .keyed) i k),
+        key-below (timingIn bytes) (decode bytes .clock) keys (good .keyed) i k,
+      )
 
-        pub accepted-reply : (x : Reply) → x ≡ orderWith (stateOf (o .state)) (o .hold) → x ≡ passReply baseSpeeds bytes d finished
-        accepted-reply x e =
-            e
-            ∙ ap₂ orderWith (p .state) (p .hold)
-            ∙ ap (λ (s : State). passOrder baseSpeeds s d finished) (tested .state u)
-            ∙ ap replies clear
-
-        pub accepted-bytes :
-            (new : List ℕ) → new ≡ encode (stateOf (o .state)) ++ drop 200 bytes → new ≡ passBytes baseSpeeds bytes d finished
-        unfolding after
-        accepted-bytes new e =
-            let s : stateOf (o .state) ≡ after (decode bytes) = p .state ∙ ap after (tested .state u) in
-            let k : length (encode (stateOf (o .state))) ≡ 200 =
-            length-encode (stateOf (o .state)) (few-entries (o .state) (p .fitted)) in
-            e
-            ∙ ap (λ (j : ℕ). encode (stateOf (o .state)) ++ drop j bytes) (sym k)
-            ∙ ap (λ (x : State). encode x ++ drop (length (encode x)) bytes) s
-            ∙ ap leaves clear
-
--- the next arrival, from a sound state's times
-module _ (l : Loaded) (t : Times) (highest : ℕ) (good : Good l t highest) (size : length (l .entries) ≡ 16) where
-  good-count : l .count ≡ timingOf l .count
-  good-count = sym (count-is l (good .sound) size (good .count))
-
-  good-periods : (i : ℕ) → i < l .count → 0 < timingOf l .period i
-  good-periods = period-above l (good .sound) size (good .count)
-
-  pub good-some : 1 ≤ l .count
-  good-some = count-some l (good .sound) size (good .count)
-
-  pub good-after : (i : ℕ) → i < l .count → l .clock .ticks ≤ getD (t .deadline) i 0
-  good-after = deadlines-after (timingOf l) l t (good .timed) good-count good-periods
+  pub good-clock : clock ≤ largestClock
+  good-clock = omega (arith, sound-facts (decode bytes) (sound-state bytes (good .sound)) .clock)
 
   pub good-next :
-      (next : ℕ) → next ≡ leastTo (l .count) (λ i. getD (t .deadline) i 0 - l .clock .ticks) → next ≡ nextArrival (timingOf l) (l .clock .ticks)
-  good-next next e = e ∙ next-loaded (timingOf l) l t (good .timed) good-count good-some good-periods
+      (next : ℕ) → next ≡ deadlineIn (leastTo count (λ i. getD keys i 0)) - clock → next ≡ nextArrival (timingIn bytes) (decode bytes .clock)
+  good-next next e =
+      let m : count ≡ timingIn bytes .count = n ∙ sym (sound-count bytes (good .sound)) in
+      e
+      ∙ ap₂ (λ (x y : ℕ). deadlineIn (leastTo x (λ i. getD keys i 0)) - y) m t
+      ∙ next-is (timingIn bytes) (decode bytes .clock) keys (good .keyed) (omega (arith, count-some bytes (good .sound), sound-count bytes (good .sound)))

@@ -1,42 +1,41 @@
--- What the functions of a pass find, step by step: its questions, the entries after d ticks, and the times after them.
+-- What the functions of a pass find, step by step: its questions, the facts of a sound state, and the state after d ticks.
 -- Assumes nothing.
-use Prim.Native.Nat.{ℕ, _+_, _-_, _*_, _/_, _%_, _<_, _≤_}
+use Prim.Native.Nat.{ℕ, zero, suc, _+_, _-_, _*_, _%_, _<_, _≤_}
 use mathlib.Core.Path.{_≡_, refl, sym, ap, ap₂, subst, _∙_}
-use mathlib.Core.Bool.{Bool, true, false, not}
+use mathlib.Core.Bool.{Bool, true, false, not, false≢true}
 use mathlib.Core.List.{List, [], _∷_, _++_}
-use native.Mathlib.Nat.{mod-add-div', mod-lt, mod-add-mod, mod-eq-of-lt, mod-self, mul-le-mul, not-suc-le-zero}
-use native.Mathlib.Numerals.{add-one}
-use native.Mathlib.Decide.{ℕ-discrete}
 use native.Mathlib.Omega.{arith}
 use borrow.Author.Tests.{lt-leb, le-leb, lt-ltb, le-ltb, eq-eqb, ne-eqb}
-use lib.Dec.{leb, ltb}
-use lib.ListN.{length, getD, take, set, length-set}
-use lib.Seq.{length-take-le, take-suc-set, getD-set-same, getD-set-other}
+use lib.Dec.{leb, ltb, eqb}
+use lib.ListN.{length, getD}
+use lib.Seq.{sets}
 use Rattle.arith.specs.Choice.{pick}
-use Rattle.arith.specs.Sum.{sumTo}
 use Rattle.arith.specs.Need.{need}
+use Rattle.arith.specs.Digits.{digits}
+use Rattle.arith.proofs.Tests.{both-left, both-right}
 use Rattle.plan.specs.declared.Task.{Task}
 use Rattle.plan.specs.Levels.{baseSpeeds, speedOf, nominal}
 use Rattle.plan.specs.Blocks.{noTask}
 use Rattle.plan.specs.Questions.{firstNo}
 use Rattle.plan.proofs.Facts.{FineList, InRange}
 use Rattle.plan.proofs.LevelLaws.{baseRising}
-use Rattle.schedule.specs.PlainSchedule.{latest, deadline}
+use Rattle.schedule.specs.PlainSchedule.{Timing}
 use Rattle.dispatcher.specs.declared.Entry.{Entry}
-use Rattle.dispatcher.specs.declared.Loaded.{Loaded}
-use Rattle.dispatcher.specs.declared.Times.{Times}
-use Rattle.dispatcher.specs.StateBlock.{State, noEntry, taskOf, workOf, planIn, timing}
-use Rattle.dispatcher.specs.Orders.{nextArrival, openJobs}
-use Rattle.dispatcher.specs.Passes.{listTo, newEntry, drainedOf, workedOf, entryAfter}
-use Rattle.dispatcher.specs.Questions.{largestClock, stateSound, running, runningTime, passQuestions}
-use Rattle.dispatcher.specs.Code.{stateOf, entryOf, timingOf, Timed, urgentBy, finishQuestions, Stepping, MovedAs}
+use Rattle.dispatcher.specs.declared.Choice.{Choice}
+use Rattle.dispatcher.specs.StateBlock.{State, noEntry, taskOf, workOf, remainingOf, planIn, timing, encode, decode, laidOut}
+use Rattle.dispatcher.specs.Orders.{nextArrival}
+use Rattle.dispatcher.specs.Passes.{listTo, newEntry, drainedOf, workedOf, arrivesAt, entryAfter, movedState}
+use Rattle.dispatcher.specs.Questions.{largestClock, sound, stateSound, running, runningTime, passQuestions}
+use Rattle.dispatcher.specs.Code.{timingIn, withJobs, withClock, noKey, Keyed, dueAt, drainedBy, OrderIn, Runnable, Stepping, finishQuestions, arrivedState}
 use Rattle.dispatcher.proofs.Fine.{nominalSpeed, Fine}
 use Rattle.dispatcher.proofs.Plans.{task-range, allotment-short, nominal-positive}
-use Rattle.dispatcher.proofs.Soundness.{planIn-at, length-planIn, sound-fine, order-level}
+use Rattle.dispatcher.proofs.StateCodec.{laid-length, laid-back}
+use Rattle.dispatcher.proofs.Soundness.{planIn-at, length-planIn, sound-fine}
 use Rattle.dispatcher.proofs.NextArrival.{least-le}
 use Rattle.dispatcher.proofs.OrderFacts.{Ordered, idles, runs}
 use Rattle.dispatcher.proofs.Worked.{ordered}
-use Rattle.dispatcher.proofs.UrgencyLaws.{entry-is, work-is, remaining-is, drained-is}
+use Rattle.dispatcher.proofs.BlockLaws.{count-in, jobs-count, jobs-entry, jobs-work, store-clock}
+use Rattle.dispatcher.proofs.KeyLaws.{key-below, key-task, due-is, due-none, drained-is}
 
 -- the first no of the questions 13 and 14, where it is known whether a job runs
 abbrev finishNo : Bool → Bool → ℕ → ℕ → ℕ
@@ -51,37 +50,36 @@ finish-over : (finished : Bool) (d time : ℕ) → time < d → 14 ≡ finishNo 
 finish-over true d time h = simp (lt-leb d time h)
 finish-over false d time h = simp (le-ltb d time (omega arith))
 
-module _ (s : State) (d : ℕ) (finished : Bool) where
-  pub no-13 : s .task ≡ 255 → finished ≡ true → 13 ≡ firstNo (finishQuestions s d finished)
-  no-13 e f = simp (eq-eqb (s .task) 255 e, f)
+-- the questions 13 and 14, put to the order that stands
+module _ (c : Choice) (d : ℕ) (finished : Bool) where
+  pub no-13 : c .task ≡ 255 → finished ≡ true → (s : State) → OrderIn s c → 13 ≡ firstNo (finishQuestions s d finished)
+  no-13 e f s o = simp (eq-eqb (s .task) 255 (sym (o .task) ∙ e), f)
 
-  pub idle-on : s .task ≡ 255 → finished ≡ false → 0 ≡ firstNo (finishQuestions s d finished)
-  idle-on e f = simp (eq-eqb (s .task) 255 e, f)
+  pub idle-on : c .task ≡ 255 → finished ≡ false → (s : State) → OrderIn s c → 0 ≡ firstNo (finishQuestions s d finished)
+  idle-on e f s o = simp (eq-eqb (s .task) 255 (sym (o .task) ∙ e), f)
 
-  module _ (some : s .task ≡ 255 → ⊥) (time : ℕ) (t : time ≡ runningTime baseSpeeds s) where
-    runs-on : finishNo true finished d time ≡ firstNo (finishQuestions s d finished)
-    runs-on =
-        ap₂ (λ (b : Bool) (x : ℕ). finishNo b finished d x) (sym (ap not (ne-eqb (s .task) 255 some))) t
+  module _ (some : c .task ≡ 255 → ⊥) where
+    runs-on : (s : State) → OrderIn s c → finishNo true finished d (c .time) ≡ firstNo (finishQuestions s d finished)
+    runs-on s o =
+        ap₂ (λ (b : Bool) (x : ℕ). finishNo b finished d x)
+        (sym (ap not (ne-eqb (s .task) 255 (λ e. some (o .task ∙ e)))))
+        (o .time some)
 
-    pub time-left : d < time → 0 ≡ firstNo (finishQuestions s d finished)
-    time-left h = finish-left finished d time h ∙ runs-on
+    pub time-left : d < c .time → (s : State) → OrderIn s c → 0 ≡ firstNo (finishQuestions s d finished)
+    time-left h s o = finish-left finished d (c .time) h ∙ runs-on s o
 
-    pub time-over : time < d → 14 ≡ firstNo (finishQuestions s d finished)
-    time-over h = finish-over finished d time h ∙ runs-on
+    pub time-over : c .time < d → (s : State) → OrderIn s c → 14 ≡ firstNo (finishQuestions s d finished)
+    time-over h s o = finish-over finished d (c .time) h ∙ runs-on s o
 
-    pub time-whole : time ≤ d → d ≤ time → finished ≡ true → 0 ≡ firstNo (finishQuestions s d finished)
-    time-whole g h f =
-        let e : 0 ≡ finishNo true true d time = simp (le-leb d time h) in
-        e ∙ ap (λ (b : Bool). finishNo true b d time) (sym f) ∙ runs-on
+    pub time-whole : d ≤ c .time → finished ≡ true → (s : State) → OrderIn s c → 0 ≡ firstNo (finishQuestions s d finished)
+    time-whole h f s o =
+        let e : 0 ≡ finishNo true true d (c .time) = simp (le-leb d (c .time) h) in
+        e ∙ ap (λ (b : Bool). finishNo true b d (c .time)) (sym f) ∙ runs-on s o
 
-    pub time-not : time ≤ d → finished ≡ false → 14 ≡ firstNo (finishQuestions s d finished)
-    time-not h f =
-        let e : 14 ≡ finishNo true false d time = simp (le-ltb d time h) in
-        e ∙ ap (λ (b : Bool). finishNo true b d time) (sym f) ∙ runs-on
-
-  -- the questions 11 to 15
-  pub no-11 : d < 1 → 11 ≡ firstNo (passQuestions baseSpeeds s d finished)
-  no-11 h = simp (lt-leb 1 d h)
+    pub time-not : c .time ≤ d → finished ≡ false → (s : State) → OrderIn s c → 14 ≡ firstNo (finishQuestions s d finished)
+    time-not h f s o =
+        let e : 14 ≡ finishNo true false d (c .time) = simp (le-ltb d (c .time) h) in
+        e ∙ ap (λ (b : Bool). finishNo true b d (c .time)) (sym f) ∙ runs-on s o
 
 -- two questions before a third: a no of theirs stands, and after two yes the third decides
 no-first : (a b : Bool) (rest n : ℕ) → n ≡ pick a (pick b 0 14) 13 → (n ≡ 0 → ⊥) → n ≡ pick a (pick b rest 14) 13
@@ -94,6 +92,7 @@ yes-first true true rest n e h = refl
 yes-first true false rest n e h = absurd (omega arith)
 yes-first false b rest n e h = absurd (omega arith)
 
+-- the questions 11 to 15, put to a state
 module _ (s : State) (d : ℕ) (finished : Bool) (next : ℕ) (e : next ≡ nextArrival (timing baseSpeeds (planIn s)) (s .clock)) (some : 1 ≤ d) where
   abbrev goes : Bool
   goes = pick finished (running s) true
@@ -101,8 +100,8 @@ module _ (s : State) (d : ℕ) (finished : Bool) (next : ℕ) (e : next ≡ next
   abbrev timely : Bool
   timely = pick (running s) (pick finished (leb d (runningTime baseSpeeds s)) (ltb d (runningTime baseSpeeds s))) true
 
-  pub no-12 : next < d → 12 ≡ firstNo (passQuestions baseSpeeds s d finished)
-  no-12 h =
+  late : next < d → 12 ≡ firstNo (passQuestions baseSpeeds s d finished)
+  late h =
       let k : leb d (nextArrival (timing baseSpeeds (planIn s)) (s .clock)) ≡ false =
       lt-leb d (nextArrival (timing baseSpeeds (planIn s)) (s .clock)) (omega arith) in
       simp (le-leb 1 d some, k)
@@ -116,382 +115,343 @@ module _ (s : State) (d : ℕ) (finished : Bool) (next : ℕ) (e : next ≡ next
         ap₂ (λ (a b : Bool). pick a (pick b rest 12) 11) (sym (le-leb 1 d some)) (sym k)
 
     module _ (n : ℕ) (f : n ≡ firstNo (finishQuestions s d finished)) where
-      pub no-finish : (n ≡ 0 → ⊥) → n ≡ firstNo (passQuestions baseSpeeds s d finished)
-      no-finish h = no-first goes timely (pick (leb (s .clock + d) largestClock) 0 15) n f h ∙ early
+      finish-no : (n ≡ 0 → ⊥) → n ≡ firstNo (passQuestions baseSpeeds s d finished)
+      finish-no h = no-first goes timely (pick (leb (s .clock + d) largestClock) 0 15) n f h ∙ early
 
-      pub no-15 : n ≡ 0 → (room : Bool) → room ≡ leb (s .clock + d) largestClock → room ≡ false → 15 ≡ firstNo (passQuestions baseSpeeds s d finished)
-      no-15 h room r x =
-          ap (λ (b : Bool). pick {A = ℕ} b 0 15) (sym x ∙ r)
+      room-decides :
+          n ≡ 0 → (room : Bool) → room ≡ leb (s .clock + d) largestClock → pick {A = ℕ} room 0 15 ≡ firstNo (passQuestions baseSpeeds s d finished)
+      room-decides h room r =
+          ap (λ (b : Bool). pick {A = ℕ} b 0 15) r
           ∙ yes-first goes timely (pick (leb (s .clock + d) largestClock) 0 15) n f h
           ∙ early
 
-      pub no-none : n ≡ 0 → (room : Bool) → room ≡ leb (s .clock + d) largestClock → room ≡ true → 0 ≡ firstNo (passQuestions baseSpeeds s d finished)
-      no-none h room r x =
-          ap (λ (b : Bool). pick {A = ℕ} b 0 15) (sym x ∙ r)
-          ∙ yes-first goes timely (pick (leb (s .clock + d) largestClock) 0 15) n f h
-          ∙ early
+-- the same, put to a clock, an order and a next arrival that are those of a state
+module _ (ticks : ℕ) (c : Choice) (next d : ℕ) (finished : Bool) where
+  abbrev Answers : ℕ → Type 0
+  Answers r =
+      (s : State) → ticks ≡ s .clock → OrderIn s c → next ≡ nextArrival (timing baseSpeeds (planIn s)) (s .clock) →
+      r ≡ firstNo (passQuestions baseSpeeds s d finished)
 
--- the form of a fine state's order: idle, or one of the tasks at one of the levels
-pub fine-order :
-    (ts : List Task) → FineList baseSpeeds (length ts) ts → (s : Loaded) → Fine baseSpeeds ts (stateOf s) → length ts ≡ s .count →
-    (s .task ≡ 255 → ⊥) → (s .task < s .count) × (s .level < 8)
-fine-order ts plan s fine n = go (ordered baseSpeeds ts (stateOf s) fine)
-  where
-    go : Ordered baseSpeeds (timing baseSpeeds ts) (nominal baseSpeeds ts) (stateOf s) → (s .task ≡ 255 → ⊥) → (s .task < s .count) × (s .level < 8)
-    go (idles t x z) ne = absurd (ne t)
-    go (runs r) ne = (omega (arith, r .below), omega (arith, r .level, plan .tasks .admitted))
+  pub no-11 : d < 1 → Answers 11
+  no-11 h s t o e = simp (lt-leb 1 d h)
 
--- what a sound state that was loaded has
-module _ (l : Loaded) (sound : stateSound baseSpeeds (stateOf l) ≡ true) where
-  pub sound-plan : FineList baseSpeeds (length (planIn (stateOf l))) (planIn (stateOf l))
-  sound-plan = sound-fine baseSpeeds (stateOf l) sound .0
+  module _ (some : 1 ≤ d) where
+    pub no-12 : next < d → Answers 12
+    no-12 h s t o e = late s d finished next e some h
 
-  pub fine-loaded : Fine baseSpeeds (planIn (stateOf l)) (stateOf l)
-  fine-loaded = sound-fine baseSpeeds (stateOf l) sound .1
+    module _ (within : d ≤ next) (n : ℕ) (f : (s : State) → OrderIn s c → n ≡ firstNo (finishQuestions s d finished)) where
+      pub no-finish : (n ≡ 0 → ⊥) → Answers n
+      no-finish h s t o e = finish-no s d finished next e some within n (f s o) h
 
-  pub level-small : l .level < 8
-  level-small =
-      omega (
-        arith,
-        order-level baseSpeeds (timingOf l) (nominal baseSpeeds (planIn (stateOf l))) (stateOf l) (openJobs (timingOf l) (stateOf l)) (fine-loaded .order),
-        sound-plan .tasks .admitted,
-      )
+      module _ (h : n ≡ 0) (room : Bool) (r : room ≡ leb (ticks + d) largestClock) where
+        decides : (s : State) → ticks ≡ s .clock → OrderIn s c → next ≡ nextArrival (timing baseSpeeds (planIn s)) (s .clock) →
+            pick {A = ℕ} room 0 15 ≡ firstNo (passQuestions baseSpeeds s d finished)
+        decides s t o e =
+            room-decides s d finished next e some within n (f s o) h room (r ∙ ap (λ (x : ℕ). leb (x + d) largestClock) t)
 
-  pub nominal-small : (highest : ℕ) → highest ≡ nominal baseSpeeds (planIn (stateOf l)) → highest < 8
-  nominal-small highest e = omega (arith, sound-plan .tasks .admitted)
+        pub no-15 : room ≡ false → Answers 15
+        no-15 x s t o e = ap (λ (b : Bool). pick {A = ℕ} b 0 15) (sym x) ∙ decides s t o e
 
-  pub nominal-above : (speed : ℕ) → speed ≡ nominalSpeed baseSpeeds (planIn (stateOf l)) → 0 < speed
-  nominal-above speed e = omega (arith, nominal-positive baseSpeeds (planIn (stateOf l)) sound-plan baseRising)
+        pub no-none : room ≡ true → Answers 0
+        no-none x s t o e = ap (λ (b : Bool). pick {A = ℕ} b 0 15) (sym x) ∙ decides s t o e
 
-  module _ (size : length (l .entries) ≡ 16) (few : l .count ≤ 16) where
-    pub count-is : timingOf l .count ≡ l .count
-    count-is = length-planIn (stateOf l) ∙ length-take-le (l .count) (l .entries) (omega arith)
+-- what a sound state has
+module _ (s : State) (ok : stateSound baseSpeeds s ≡ true) where
+  pub sound-plan : FineList baseSpeeds (length (planIn s)) (planIn s)
+  sound-plan = sound-fine baseSpeeds s ok .0
 
-    pub count-some : 1 ≤ l .count
-    count-some = omega (arith, sound-plan .count-low, count-is)
+  pub sound-facts : Fine baseSpeeds (planIn s) s
+  sound-facts = sound-fine baseSpeeds s ok .1
 
-    pub order-form : (l .task ≡ 255 → ⊥) → (l .task < l .count) × (l .level < 8)
-    order-form = fine-order (planIn (stateOf l)) sound-plan l fine-loaded count-is
+  pub entries-few : length (s .entries) ≤ 16
+  entries-few = omega (arith, sound-plan .count-high, length-planIn s)
 
-    module _ (i : ℕ) (h : i < l .count) where
-      pub task-is : getD (planIn (stateOf l)) i noTask ≡ taskOf (entryOf l i)
-      task-is = planIn-at (stateOf l) i ∙ ap taskOf (entry-is l i h)
+  pub entries-some : 1 ≤ length (s .entries)
+  entries-some = omega (arith, sound-plan .count-low, length-planIn s)
 
-      pub period-is : timingOf l .period i ≡ entryOf l i .period
-      period-is = ap (λ (t : Task). t .period) task-is
+  pub nominal-small : nominal baseSpeeds (planIn s) < 8
+  nominal-small = sound-plan .tasks .admitted
 
-      pub period-range : InRange (getD (planIn (stateOf l)) i noTask)
-      period-range = task-range baseSpeeds (planIn (stateOf l)) sound-plan baseRising i (omega (arith, count-is))
+  pub nominal-above : 0 < nominalSpeed baseSpeeds (planIn s)
+  nominal-above = nominal-positive baseSpeeds (planIn s) sound-plan baseRising
 
-      pub period-above : 0 < timingOf l .period i
-      period-above = period-range .period-low
-
-      pub period-most : entryOf l i .period ≤ 65535
-      period-most = omega (arith, period-range .period-high, period-is)
-
-      pub remaining-most : entryOf l i .remaining ≤ 65535
-      remaining-most =
-          let k : i < length (planIn (stateOf l)) = omega (arith, count-is) in
-          omega (
-            arith,
-            remaining-is l i h,
-            fine-loaded .remaining i k,
-            allotment-short baseSpeeds (planIn (stateOf l)) sound-plan baseRising i k,
-          )
-
--- d ticks up to the next multiple of a period p after c: they reach it, or stay short of it
-module _ (p c d : ℕ) (pos : 0 < p) (some : 1 ≤ d) (le : d ≤ p - c % p) where
-  module _ (e : c / p * p + p ≡ c + d) where
-    reach-mod : (c + d) % p ≡ 0
-    reach-mod =
-        let k : c % p + d ≡ p = omega (arith, mod-add-div' c p) in
-        sym (mod-add-mod c p d) ∙ ap (λ (x : ℕ). x % p) k ∙ mod-self p
-
-    reach-last : (c + d) / p * p ≡ c + d
-    reach-last = omega (arith, mod-add-div' (c + d) p, reach-mod)
-
-  module _ (ne : c / p * p + p ≡ c + d → ⊥) where
-    short-mod : (c + d) % p ≡ c % p + d
-    short-mod = sym (mod-add-mod c p d) ∙ mod-eq-of-lt (omega (arith, mod-add-div' c p, mod-lt c pos))
-
-    short-not : (c + d) % p ≡ 0 → ⊥
-    short-not z = omega (arith, short-mod)
-
-    short-last : (c + d) / p * p ≡ c / p * p
-    short-last = omega (arith, mod-add-div' (c + d) p, mod-add-div' c p, short-mod)
-
--- d ticks that may pass
-module _ (l : Loaded) (t : Times) (d : ℕ) (p : Stepping l t d) (size : length (l .entries) ≡ 16) where
-  -- they are at most a period
-  ticks-most : (i : ℕ) → i < l .count → d ≤ timingOf l .period i - l .clock .ticks % timingOf l .period i
-  ticks-most i h =
-      omega (
-        arith,
-        p .within,
-        count-is l (p .sound) size (p .count),
-        least-le (timingOf l .count) (λ j. timingOf l .period j - l .clock .ticks % timingOf l .period j) i (omega (arith, count-is l (p .sound) size (p .count))),
-      )
-
-  pub ticks-short : d ≤ 65535
-  ticks-short =
-      omega (
-        arith,
-        ticks-most 0 (count-some l (p .sound) size (p .count)),
-        period-is l (p .sound) size (p .count) 0 (count-some l (p .sound) size (p .count)),
-        period-most l (p .sound) size (p .count) 0 (count-some l (p .sound) size (p .count)),
-      )
-
-  module _ (i : ℕ) (h : i < l .count) where
-    within-count : i < timingOf l .count
-    within-count = omega (arith, count-is l (p .sound) size (p .count))
-
-    positive : 0 < timingOf l .period i
-    positive = period-above l (p .sound) size (p .count) i h
-
-    -- a task has a new job exactly if its deadline is reached
-    module _ (due : getD (t .deadline) i 0 ≡ l .clock .ticks + d) where
-      reached : l .clock .ticks / timingOf l .period i * timingOf l .period i + timingOf l .period i ≡ l .clock .ticks + d
-      reached = sym (p .timed .deadlines i within-count) ∙ due
-
-      pub new-entry :
-          (speed ticks : ℕ) → speed ≡ nominalSpeed baseSpeeds (planIn (stateOf l)) → ticks ≡ need speed (entryOf l i .worst) → (finished : Bool) →
-          _≡_ {A = Entry}
-          (record { period = entryOf l i .period; worst = entryOf l i .worst; work = entryOf l i .worst; remaining = ticks })
-          (entryAfter baseSpeeds (timingOf l) (stateOf l) d finished i)
-      new-entry speed ticks s n finished =
-          let q : taskOf (entryOf l i) ≡ getD (planIn (stateOf l)) i noTask = sym (task-is l (p .sound) size (p .count) i h) in
-          let r : ticks ≡ timingOf l .allotment i = n ∙ ap₂ (λ (x : ℕ) (y : Task). need x (y .worst)) s q in
-          let old : Entry = record {
-            period = timingOf l .period i;
-            worst = getD (stateOf l .entries) i noEntry .worst;
-            work = workedOf baseSpeeds (stateOf l) d finished i;
-            remaining = drainedOf (timingOf l) (stateOf l) d i;
-          } in
-          let z : _≡_ {A = Entry}
-          (record { period = entryOf l i .period; worst = entryOf l i .worst; work = entryOf l i .worst; remaining = ticks })
-          (newEntry (timingOf l) (planIn (stateOf l)) i) =
-          λ k. record { period = q k .period; worst = q k .worst; work = q k .worst; remaining = r k } in
-          z
-          ∙ ap (λ (b : Bool). pick b (newEntry (timingOf l) (planIn (stateOf l)) i) old)
-          (sym (eq-eqb ((l .clock .ticks + d) % timingOf l .period i) 0 (reach-mod (timingOf l .period i) (l .clock .ticks) d positive (p .some) (ticks-most i h) reached)))
-
-      new-arrival : l .clock .ticks + d ≡ latest (timingOf l) (l .clock .ticks + d) i .arrival
-      new-arrival = sym (reach-last (timingOf l .period i) (l .clock .ticks) d positive (p .some) (ticks-most i h) reached)
-
-    module _ (not-due : getD (t .deadline) i 0 ≡ l .clock .ticks + d → ⊥) where
-      short : l .clock .ticks / timingOf l .period i * timingOf l .period i + timingOf l .period i ≡ l .clock .ticks + d → ⊥
-      short e = not-due (p .timed .deadlines i within-count ∙ e)
-
-      pub old-entry :
-          (finished : Bool) (work ahead ticks left : ℕ) →
-          work ≡ workedOf baseSpeeds (stateOf l) d finished i →
-          ahead ≡ sumTo (l .count) (λ j. pick (urgentBy t j i) (entryOf l j .remaining) 0) →
-          ticks ≡ d - ahead →
-          left ≡ entryOf l i .remaining - ticks →
-          _≡_ {A = Entry}
-          (record { period = entryOf l i .period; worst = entryOf l i .worst; work = work; remaining = left })
-          (entryAfter baseSpeeds (timingOf l) (stateOf l) d finished i)
-      old-entry finished work ahead ticks left w a m n =
-          let q : entryOf l i .period ≡ timingOf l .period i = sym (period-is l (p .sound) size (p .count) i h) in
-          let v : entryOf l i .worst ≡ getD (stateOf l .entries) i noEntry .worst = ap (λ (e : Entry). e .worst) (sym (entry-is l i h)) in
-          let r : left ≡ drainedOf (timingOf l) (stateOf l) d i =
-          n
-          ∙ ap (λ (x : ℕ). entryOf l i .remaining - x) (m ∙ ap (λ (x : ℕ). d - x) a)
-          ∙ drained-is (timingOf l) l t (p .timed) (sym (count-is l (p .sound) size (p .count))) d i h in
-          let old : Entry = record {
-            period = timingOf l .period i;
-            worst = getD (stateOf l .entries) i noEntry .worst;
-            work = workedOf baseSpeeds (stateOf l) d finished i;
-            remaining = drainedOf (timingOf l) (stateOf l) d i;
-          } in
-          let z : _≡_ {A = Entry} (record { period = entryOf l i .period; worst = entryOf l i .worst; work = work; remaining = left }) old =
-          λ k. record { period = q k; worst = v k; work = w k; remaining = r k } in
-          z
-          ∙ ap (λ (b : Bool). pick b (newEntry (timingOf l) (planIn (stateOf l)) i) old)
-          (sym (ne-eqb ((l .clock .ticks + d) % timingOf l .period i) 0 (short-not (timingOf l .period i) (l .clock .ticks) d positive (p .some) (ticks-most i h) short)))
-
-      old-arrival : latest (timingOf l) (l .clock .ticks) i .arrival ≡ latest (timingOf l) (l .clock .ticks + d) i .arrival
-      old-arrival = sym (short-last (timingOf l .period i) (l .clock .ticks) d positive (p .some) (ticks-most i h) short)
-
--- the work left after d ticks, by each way out
-module _ (l : Loaded) (d : ℕ) (finished : Bool) (i : ℕ) (h : i < l .count) where
-  abbrev fallen : ℕ
-  fallen = workOf (stateOf l) i - d * speedOf baseSpeeds (l .level)
-
-  pub work-other : (i ≡ l .task → ⊥) → entryOf l i .work ≡ workedOf baseSpeeds (stateOf l) d finished i
-  work-other ne =
-      sym (work-is l i h)
-      ∙ ap (λ (b : Bool). pick {A = ℕ} b (pick finished 0 fallen) (workOf (stateOf l) i)) (sym (ne-eqb i (l .task) ne))
-
-  module _ (mine : i ≡ l .task) where
-    work-mine : pick finished 0 fallen ≡ workedOf baseSpeeds (stateOf l) d finished i
-    work-mine = ap (λ (b : Bool). pick {A = ℕ} b (pick finished 0 fallen) (workOf (stateOf l) i)) (sym (eq-eqb i (l .task) mine))
-
-    pub work-done : finished ≡ true → 0 ≡ workedOf baseSpeeds (stateOf l) d finished i
-    work-done f = ap (λ (b : Bool). pick {A = ℕ} b 0 fallen) (sym f) ∙ work-mine
-
-    pub work-fallen :
-        finished ≡ false → (speed left : ℕ) → speed ≡ speedOf baseSpeeds (l .level) → left ≡ entryOf l i .work - d * speed →
-        left ≡ workedOf baseSpeeds (stateOf l) d finished i
-    work-fallen f speed left s e =
-        e
-        ∙ ap₂ (λ (x y : ℕ). x - d * y) (sym (work-is l i h)) s
-        ∙ ap (λ (b : Bool). pick {A = ℕ} b 0 fallen) (sym f)
-        ∙ work-mine
-
--- the work of a pass fits
-pub work-short : (level speed d : ℕ) → level < 8 → speed ≡ speedOf baseSpeeds level → d ≤ 65535 → d * speed ≤ 65535 * 100
-work-short level speed d h e k =
-    let most : speedOf baseSpeeds level ≤ 100 =
-    elim (ℕ-discrete level 7) [
-      | yes z ↦ subst (λ (x : ℕ). speedOf baseSpeeds x ≤ 100) (sym z) (omega arith)
-      | no z ↦ omega (arith, baseRising .faster level 7 (omega arith) (omega arith))
-    ] in
-    mul-le-mul k (subst (λ (x : ℕ). x ≤ 100) (sym e) most)
-
--- a state on its way through a pass: its first i entries are made
-pub record Moving (l : Loaded) (d : ℕ) (finished : Bool) (m : Loaded) (i : ℕ) : Type 0 where
-  pub below : i ≤ l .count
-  pub clock : m .clock .ticks ≡ l .clock .ticks + d
-  pub task : m .task ≡ l .task
-  pub level : m .level ≡ l .level
-  pub total : m .count ≡ l .count
-  pub size : length (m .entries) ≡ 16
-  pub entries : take i (m .entries) ≡ listTo i (entryAfter baseSpeeds (timingOf l) (stateOf l) d finished)
-
-module _ (l : Loaded) (d : ℕ) (finished : Bool) (m : Loaded) (i : ℕ) (few : l .count ≤ 16) (inv : Moving l d finished m i) where
-  pub moving-more :
-      (e : Entry) → i < l .count → e ≡ entryAfter baseSpeeds (timingOf l) (stateOf l) d finished i →
-      Moving l d finished
-      (record { clock = m .clock; task = m .task; level = m .level; count = m .count; entries = set (m .entries) i e })
-      (i + 1)
-  moving-more e h a = record {
-    below = omega arith;
-    clock = inv .clock;
-    task = inv .task;
-    level = inv .level;
-    total = inv .total;
-    size = simp length-set (inv .size);
-    entries =
-        rw add-one
-        (take-suc-set (m .entries) i e (omega (arith, inv .size))
-        ∙ ap₂ (λ (x : List Entry) (y : Entry). x ++ (y ∷ [])) (inv .entries) a);
-  }
-
-  pub moving-all : (sound : stateSound baseSpeeds (stateOf l) ≡ true) → length (l .entries) ≡ 16 → i ≡ l .count → MovedAs l d finished m
-  moving-all sound size e =
-      let n : m .count ≡ i = inv .total ∙ sym e in
-      let entries : take (m .count) (m .entries) ≡ listTo (timingOf l .count) (entryAfter baseSpeeds (timingOf l) (stateOf l) d finished) =
-      ap (λ (k : ℕ). take k (m .entries)) n
-      ∙ inv .entries
-      ∙ ap (λ (k : ℕ). listTo k (entryAfter baseSpeeds (timingOf l) (stateOf l) d finished)) (e ∙ sym (count-is l sound size few)) in
-      record {
-        state = λ j. record { clock = inv .clock j; task = inv .task j; level = inv .level j; entries = entries j };
-        count = inv .total;
+  -- its order is to stay idle, or runs one of the tasks at one of the levels
+  pub runnable : Runnable s
+  runnable = go (ordered baseSpeeds (planIn s) s sound-facts)
+    where
+      go : Ordered baseSpeeds (timing baseSpeeds (planIn s)) (nominal baseSpeeds (planIn s)) s → Runnable s
+      go (idles t x z) = record { task = λ ne. absurd (ne t); level = λ ne. absurd (ne t) }
+      go (runs r) = record {
+        task = λ ne. omega (arith, r .below, length-planIn s);
+        level = λ ne. omega (arith, r .level, nominal-small);
       }
 
--- times on their way through a pass: those below n are new, the others as they were
-pub record Renewed (l : Loaded) (t : Times) (d : ℕ) (r : Times) (n : ℕ) : Type 0 where
-  pub below : n ≤ l .count
-  pub count : r .count ≡ t .count
-  pub arrival-size : length (r .arrival) ≡ 16
-  pub deadline-size : length (r .deadline) ≡ 16
-  pub arrivals : (i : ℕ) → i < n → getD (r .arrival) i 0 ≡ latest (timingOf l) (l .clock .ticks + d) i .arrival
-  pub deadlines : (i : ℕ) → i < n → getD (r .deadline) i 0 ≡ deadline (timingOf l) (latest (timingOf l) (l .clock .ticks + d) i)
-  pub arrivals-kept : (i : ℕ) → n ≤ i → getD (r .arrival) i 0 ≡ getD (t .arrival) i 0
-  pub deadlines-kept : (i : ℕ) → n ≤ i → getD (r .deadline) i 0 ≡ getD (t .deadline) i 0
+  -- its numbers are in range
+  module _ (i : ℕ) (h : i < length (s .entries)) where
+    within-plan : i < length (planIn s)
+    within-plan = omega (arith, length-planIn s)
 
--- a list that has f i at each place below n and g i from n on, with its place n put right or right already
-module _ (f g : ℕ → ℕ) (s : List ℕ) (n : ℕ) where
-  put-at : n < length s → ((i : ℕ) → i < n → getD s i 0 ≡ f i) → (x : ℕ) → x ≡ f n → (i : ℕ) → i < n + 1 → getD (set s n x) i 0 ≡ f i
-  put-at h all x e i k =
-      elim (ℕ-discrete i n) [
-        | yes z ↦ subst (λ (y : ℕ). getD (set s n x) y 0 ≡ f y) (sym z) (getD-set-same s n x 0 h ∙ e)
-        | no z ↦ getD-set-other s n i x 0 z ∙ all i (omega arith)
-      ]
+    range-of : InRange (taskOf (getD (s .entries) i noEntry))
+    range-of =
+        subst (λ (t : Task). InRange t) (planIn-at s i) (task-range baseSpeeds (planIn s) sound-plan baseRising i within-plan)
 
-  put-past : ((i : ℕ) → n ≤ i → getD s i 0 ≡ g i) → (x i : ℕ) → n + 1 ≤ i → getD (set s n x) i 0 ≡ g i
-  put-past all x i k = getD-set-other s n i x 0 (λ z. omega arith) ∙ all i (omega arith)
+    pub worst-most : getD (s .entries) i noEntry .worst ≤ 16777215
+    worst-most = omega (arith, range-of .worst-high)
 
-  keep-at : ((i : ℕ) → i < n → getD s i 0 ≡ f i) → getD s n 0 ≡ f n → (i : ℕ) → i < n + 1 → getD s i 0 ≡ f i
-  keep-at all e i k =
-      elim (ℕ-discrete i n) [
-        | yes z ↦ subst (λ (y : ℕ). getD s y 0 ≡ f y) (sym z) e
-        | no z ↦ all i (omega arith)
-      ]
+    pub work-most : workOf s i ≤ 16777215
+    work-most =
+        let e : getD (planIn s) i noTask .worst ≡ getD (s .entries) i noEntry .worst = ap (λ (t : Task). t .worst) (planIn-at s i) in
+        omega (arith, sound-facts .work i within-plan, worst-most)
 
-module _ (l : Loaded) (t : Times) (d : ℕ) (p : Stepping l t d) (size : length (l .entries) ≡ 16) where
-  pub renewed-none : length (t .arrival) ≡ 16 → length (t .deadline) ≡ 16 → Renewed l t d t 0
-  renewed-none a b = record {
-    below = omega arith;
-    count = refl;
-    arrival-size = a;
-    deadline-size = b;
-    arrivals = λ i h. absurd (not-suc-le-zero h);
-    deadlines = λ i h. absurd (not-suc-le-zero h);
-    arrivals-kept = λ i h. refl;
-    deadlines-kept = λ i h. refl;
+    pub remaining-most : remainingOf s i ≤ 65535
+    remaining-most =
+        omega (arith, sound-facts .remaining i within-plan, allotment-short baseSpeeds (planIn s) sound-plan baseRising i within-plan)
+
+    pub period-some : 0 < timing baseSpeeds (planIn s) .period i
+    period-some = task-range baseSpeeds (planIn s) sound-plan baseRising i within-plan .period-low
+
+  -- ticks up to the next arrival are at most a period
+  pub ticks-short : (d : ℕ) → d ≤ nextArrival (timing baseSpeeds (planIn s)) (s .clock) → d ≤ 65535
+  ticks-short d h =
+      let τ : Timing = timing baseSpeeds (planIn s) in
+      omega (
+        arith,
+        least-le (τ .count) (λ j. τ .period j - s .clock % τ .period j) 0 (sound-plan .count-low),
+        task-range baseSpeeds (planIn s) sound-plan baseRising 0 (sound-plan .count-low) .period-high,
+      )
+
+-- what a sound block has
+module _ (bytes : List ℕ) (ok : sound baseSpeeds bytes ≡ true) where
+  laid : laidOut bytes ≡ true
+  laid = both-left (laidOut bytes) (stateSound baseSpeeds (decode bytes)) ok
+
+  pub sound-state : stateSound baseSpeeds (decode bytes) ≡ true
+  sound-state = both-right (laidOut bytes) (stateSound baseSpeeds (decode bytes)) ok
+
+  pub sound-size : length bytes ≡ 200
+  sound-size = laid-length bytes laid
+
+  pub sound-back : encode (decode bytes) ≡ bytes
+  sound-back = laid-back bytes laid
+
+  pub sound-count : timingIn bytes .count ≡ getD bytes 6 0
+  sound-count = length-planIn (decode bytes) ∙ count-in bytes
+
+  pub count-some : 1 ≤ getD bytes 6 0
+  count-some = omega (arith, entries-some (decode bytes) sound-state, count-in bytes)
+
+  pub count-few : getD bytes 6 0 ≤ 16
+  count-few = omega (arith, entries-few (decode bytes) sound-state, count-in bytes)
+
+-- lists that agree at each place
+listTo-same {ℓ} : {A : Type ℓ} (n : ℕ) (f g : ℕ → A) → ((i : ℕ) → i < n → f i ≡ g i) → listTo n f ≡ listTo n g
+listTo-same {A = A} zero f g h = refl
+listTo-same {A = A} (suc n) f g h =
+    ap₂ (λ (l : List A) (x : A). l ++ (x ∷ [])) (listTo-same n f g (λ i k. h i (omega arith))) (h n (omega arith))
+
+-- the steps of a state through d ticks: ticks are taken from its queue, work is done, the clock moves, jobs arrive
+module _ (s : State) (keys : List ℕ) (count d : ℕ) (finished : Bool) where
+  abbrev pub drained : State
+  drained = withJobs s (workOf s) (drainedBy keys (remainingOf s) count d)
+
+  abbrev pub worked : State
+  worked = withJobs drained (workedOf baseSpeeds drained d finished) (remainingOf drained)
+
+  abbrev pub timed : State
+  timed = withClock worked (s .clock + d)
+
+  module _ (all : length (s .entries) ≡ count) where
+    pub drained-count : length (drained .entries) ≡ count
+    drained-count = jobs-count s (workOf s) (drainedBy keys (remainingOf s) count d) ∙ all
+
+    pub timed-count : length (timed .entries) ≡ count
+    timed-count = jobs-count drained (workedOf baseSpeeds drained d finished) (remainingOf drained) ∙ drained-count
+
+    module _ (i : ℕ) (h : i < length (s .entries)) where
+      drained-within : i < length (drained .entries)
+      drained-within = omega (arith, drained-count)
+
+      -- the entry of a task before jobs arrive
+      abbrev aged : ℕ → Entry
+      aged left = record {
+        period = getD (s .entries) i noEntry .period;
+        worst = getD (s .entries) i noEntry .worst;
+        work = workedOf baseSpeeds s d finished i;
+        remaining = left;
+      }
+
+      timed-entry : getD (timed .entries) i noEntry ≡ aged (drainedBy keys (remainingOf s) count d i)
+      timed-entry =
+          let e : getD (drained .entries) i noEntry
+          ≡ record { period = getD (s .entries) i noEntry .period; worst = getD (s .entries) i noEntry .worst; work = workOf s i; remaining = drainedBy keys (remainingOf s) count d i } =
+          jobs-entry s (workOf s) (drainedBy keys (remainingOf s) count d) i h in
+          jobs-entry drained (workedOf baseSpeeds drained d finished) (remainingOf drained) i drained-within
+          ∙ ap (λ (x : Entry). record {
+            period = x .period;
+            worst = x .worst;
+            work = pick (eqb i (s .task)) (pick finished 0 (x .work - d * speedOf baseSpeeds (s .level))) (x .work);
+            remaining = x .remaining;
+          }) e
+
+      pub timed-worst : getD (timed .entries) i noEntry .worst ≡ getD (s .entries) i noEntry .worst
+      timed-worst = ap (λ (e : Entry). e .worst) timed-entry
+
+      pub drained-work : workOf drained i ≡ workOf s i
+      drained-work = jobs-work s (workOf s) (drainedBy keys (remainingOf s) count d) i h
+
+-- and in the end it is the moved state
+module _ (s : State) (keys : List ℕ) (keyed : Keyed (timing baseSpeeds (planIn s)) (s .clock) keys) (d : ℕ) (some : 1 ≤ d)
+    (within : d ≤ nextArrival (timing baseSpeeds (planIn s)) (s .clock)) (finished : Bool) (speed : ℕ) (fast : speed ≡ nominalSpeed baseSpeeds (planIn s))
+    (count : ℕ) (all : length (s .entries) ≡ count) where
+  abbrev τ : Timing
+  τ = timing baseSpeeds (planIn s)
+
+  abbrev before : State
+  before = timed s keys count d finished
+
+  -- an entry, with a new job where one is due
+  abbrev renewedIf : Bool → Entry → Entry
+  renewedIf b e = record {
+    period = e .period;
+    worst = e .worst;
+    work = pick b (e .worst) (e .work);
+    remaining = pick b (need speed (e .worst)) (e .remaining);
   }
 
-  module _ (r : Times) (n : ℕ) (inv : Renewed l t d r n) (h : n < l .count) where
-    pub renewed-new :
-        getD (r .deadline) n 0 ≡ l .clock .ticks + d →
-        Renewed l t d
-        (record {
-          count = r .count;
-          arrival = set (r .arrival) n (l .clock .ticks + d);
-          deadline = set (r .deadline) n (l .clock .ticks + d + entryOf l n .period);
-        })
-        (n + 1)
-    renewed-new e =
-        let due : getD (t .deadline) n 0 ≡ l .clock .ticks + d = sym (inv .deadlines-kept n (omega arith)) ∙ e in
-        let a : l .clock .ticks + d ≡ latest (timingOf l) (l .clock .ticks + d) n .arrival = new-arrival l t d p size n h due in
-        record {
-          below = omega arith;
-          count = inv .count;
-          arrival-size = simp length-set (inv .arrival-size);
-          deadline-size = simp length-set (inv .deadline-size);
-          arrivals =
-              put-at (λ i. latest (timingOf l) (l .clock .ticks + d) i .arrival) (λ i. getD (t .arrival) i 0) (r .arrival) n
-              (omega (arith, inv .arrival-size, p .count)) (inv .arrivals) (l .clock .ticks + d) a;
-          deadlines =
-              put-at (λ i. deadline (timingOf l) (latest (timingOf l) (l .clock .ticks + d) i)) (λ i. getD (t .deadline) i 0) (r .deadline) n
-              (omega (arith, inv .deadline-size, p .count)) (inv .deadlines) (l .clock .ticks + d + entryOf l n .period)
-              (ap₂ _+_ a (sym (period-is l (p .sound) size (p .count) n h)));
-          arrivals-kept =
-              put-past (λ i. latest (timingOf l) (l .clock .ticks + d) i .arrival) (λ i. getD (t .arrival) i 0) (r .arrival) n
-              (inv .arrivals-kept) (l .clock .ticks + d);
-          deadlines-kept =
-              put-past (λ i. deadline (timingOf l) (latest (timingOf l) (l .clock .ticks + d) i)) (λ i. getD (t .deadline) i 0) (r .deadline) n
-              (inv .deadlines-kept) (l .clock .ticks + d + entryOf l n .period);
-        }
+  module _ (i : ℕ) (h : i < length (s .entries)) where
+    within-count : i < τ .count
+    within-count = omega (arith, length-planIn s)
 
-    pub renewed-old : (getD (r .deadline) n 0 ≡ l .clock .ticks + d → ⊥) → Renewed l t d r (n + 1)
-    renewed-old ne =
-        let kept : getD (r .deadline) n 0 ≡ getD (t .deadline) n 0 = inv .deadlines-kept n (omega arith) in
-        let late : getD (t .deadline) n 0 ≡ l .clock .ticks + d → ⊥ = λ e. ne (kept ∙ e) in
-        let a : latest (timingOf l) (l .clock .ticks) n .arrival ≡ latest (timingOf l) (l .clock .ticks + d) n .arrival =
-        old-arrival l t d p size n h late in
-        let below : n < timingOf l .count = omega (arith, count-is l (p .sound) size (p .count)) in
-        record {
-          below = omega arith;
-          count = inv .count;
-          arrival-size = inv .arrival-size;
-          deadline-size = inv .deadline-size;
-          arrivals =
-              keep-at (λ i. latest (timingOf l) (l .clock .ticks + d) i .arrival) (λ i. getD (t .arrival) i 0) (r .arrival) n
-              (inv .arrivals) (inv .arrivals-kept n (omega arith) ∙ p .timed .arrivals n below ∙ a);
-          deadlines =
-              keep-at (λ i. deadline (timingOf l) (latest (timingOf l) (l .clock .ticks + d) i)) (λ i. getD (t .deadline) i 0) (r .deadline) n
-              (inv .deadlines) (kept ∙ p .timed .deadlines n below ∙ ap (λ (x : ℕ). x + timingOf l .period n) a);
-          arrivals-kept = λ i k. inv .arrivals-kept i (omega arith);
-          deadlines-kept = λ i k. inv .deadlines-kept i (omega arith);
-        }
+    task-same : taskOf (getD (s .entries) i noEntry) ≡ getD (planIn s) i noTask
+    task-same = sym (planIn-at s i)
 
-  pub renewed-all : (r : Times) (n : ℕ) → Renewed l t d r n → n ≡ l .count → Timed (timingOf l) (l .clock .ticks + d) r
-  renewed-all r n inv e = record {
-    count = inv .count ∙ p .timed .count;
-    few = p .timed .few;
-    arrivals = λ i h. inv .arrivals i (omega (arith, count-is l (p .sound) size (p .count)));
-    deadlines = λ i h. inv .deadlines i (omega (arith, count-is l (p .sound) size (p .count)));
-  }
+    abbrev kept : Entry
+    kept = record {
+      period = τ .period i;
+      worst = getD (s .entries) i noEntry .worst;
+      work = workedOf baseSpeeds s d finished i;
+      remaining = drainedOf τ s d i;
+    }
+
+    drained-same : drainedBy keys (remainingOf s) count d i ≡ drainedOf τ s d i
+    drained-same =
+        ap (λ (n : ℕ). drainedBy keys (remainingOf s) n d i) (sym all ∙ sym (length-planIn s))
+        ∙ drained-is τ s keys keyed d i within-count
+
+    renewed-is : (b : Bool) → renewedIf b (aged s keys count d finished all i h (drainedOf τ s d i)) ≡ pick b (newEntry τ (planIn s) i) kept
+    renewed-is true = λ k. record {
+      period = task-same k .period;
+      worst = task-same k .worst;
+      work = task-same k .worst;
+      remaining = need (fast k) (task-same k .worst);
+    }
+    renewed-is false = λ k. record {
+      period = task-same k .period;
+      worst = getD (s .entries) i noEntry .worst;
+      work = workedOf baseSpeeds s d finished i;
+      remaining = drainedOf τ s d i;
+    }
+
+    entry-moved : renewedIf (dueAt keys (s .clock + d) i) (getD (before .entries) i noEntry) ≡ entryAfter baseSpeeds τ s d finished i
+    entry-moved =
+        ap₂ renewedIf (due-is τ (s .clock) keys keyed d some within i within-count)
+        (timed-entry s keys count d finished all i h ∙ ap (aged s keys count d finished all i h) drained-same)
+        ∙ renewed-is (arrivesAt τ (s .clock + d) i)
+
+  pub arrived-moved : arrivedState keys (s .clock + d) speed before ≡ movedState baseSpeeds τ s d finished
+  arrived-moved =
+      let n : length (before .entries) ≡ τ .count = timed-count s keys count d finished all ∙ sym all ∙ sym (length-planIn s) in
+      let e : listTo (length (before .entries)) (λ i. renewedIf (dueAt keys (s .clock + d) i) (getD (before .entries) i noEntry))
+      ≡ listTo (τ .count) (entryAfter baseSpeeds τ s d finished) =
+      ap (λ (k : ℕ). listTo k (λ i. renewedIf (dueAt keys (s .clock + d) i) (getD (before .entries) i noEntry))) n
+      ∙ listTo-same (τ .count) (λ i. renewedIf (dueAt keys (s .clock + d) i) (getD (before .entries) i noEntry)) (entryAfter baseSpeeds τ s d finished)
+      (λ i h. entry-moved i (omega (arith, length-planIn s))) in
+      λ k. record { clock = s .clock + d; task = s .task; level = s .level; entries = e k }
+
+-- moving a block on, by its calls
+module _ (bytes keys : List ℕ) (highest d : ℕ) (finished : Bool) (p : Stepping bytes keys highest d) (c : Choice) (o : OrderIn (decode bytes) c) where
+  abbrev start : State
+  start = decode bytes
+
+  ok : stateSound baseSpeeds (decode bytes) ≡ true
+  ok = sound-state bytes (p .good .sound)
+
+  pub highest-small : highest < 8
+  highest-small = omega (arith, nominal-small (decode bytes) ok, p .good .nominal)
+
+  pub moving-short : d ≤ 65535
+  moving-short = ticks-short (decode bytes) ok d (p .within)
+
+  pub order-form : (c .task ≡ 255 → ⊥) → (c .task < 16) × (c .level < 8)
+  order-form ne =
+      let r : Runnable (decode bytes) = runnable (decode bytes) ok in
+      let k : decode bytes .task ≡ 255 → ⊥ = λ e. ne (o .task ∙ e) in
+      (omega (arith, r .task k, o .task, entries-few (decode bytes) ok), omega (arith, r .level k, o .level))
+
+  pub speed-above : (speed : ℕ) → speed ≡ speedOf baseSpeeds highest → 0 < speed
+  speed-above speed e =
+      subst (λ (x : ℕ). 0 < x) (sym (e ∙ ap (speedOf baseSpeeds) (p .good .nominal))) (nominal-above (decode bytes) ok)
+
+  module _ (count : ℕ) (n : count ≡ getD bytes 6 0) where
+    pub moving-few : count ≤ 16
+    moving-few = omega (arith, p .good .holds .few)
+
+    pub moving-keys : (i : ℕ) → i < count → (getD keys i 0 % 16 ≡ i) × (getD keys i 0 < noKey)
+    moving-keys i h =
+        let k : i < timingIn bytes .count = omega (arith, sound-count bytes (p .good .sound)) in
+        (key-task (timingIn bytes) (decode bytes .clock) keys (p .good .keyed) i k, key-below (timingIn bytes) (decode bytes .clock) keys (p .good .keyed) i k)
+
+    -- where the next arrival is not reached, no deadline is
+    pub moving-none :
+        (next clock : ℕ) → next ≡ nextArrival (timingIn bytes) (decode bytes .clock) → clock ≡ decode bytes .clock → eqb d next ≡ false →
+        (i : ℕ) → i < count → dueAt keys (clock + d) i ≡ false
+    moving-none next clock a t f i h =
+        let ne : d ≡ next → ⊥ = λ e. false≢true (sym f ∙ eq-eqb d next e) in
+        let k : i < timingIn bytes .count = omega (arith, sound-count bytes (p .good .sound)) in
+        ap (λ (x : ℕ). dueAt keys (x + d) i) t
+        ∙ due-none (timingIn bytes) (decode bytes .clock) keys (p .good .keyed) d (p .some) (p .within) (omega (arith, a, p .within, ne)) i k
+
+    module _ (clock : ℕ) (t : clock ≡ decode bytes .clock) (speed : ℕ) (fast : speed ≡ speedOf baseSpeeds highest) (b1 b2 b3 b4 : List ℕ)
+        (drains : (s : State) → bytes ≡ encode s → length (s .entries) ≡ count → ((i : ℕ) → i < count → remainingOf s i ≤ 65535) →
+        b1 ≡ encode (withJobs s (workOf s) (drainedBy keys (remainingOf s) count d)))
+        (works : (s : State) → b1 ≡ encode s → c .task ≡ s .task → c .level ≡ s .level → length (s .entries) ≤ 16 →
+        ((s .task ≡ 255 → ⊥) → (s .task < length (s .entries)) × (workOf s (s .task) ≤ 16777215)) →
+        b2 ≡ encode (withJobs s (workedOf baseSpeeds s d finished) (remainingOf s)))
+        (clocks : b3 ≡ sets b2 0 (digits 256 4 (clock + d)))
+        (arrives : (s : State) → b3 ≡ encode s → length (s .entries) ≡ count → ((i : ℕ) → i < count → getD (s .entries) i noEntry .worst ≤ 16777215) →
+        b4 ≡ encode (arrivedState keys (clock + d) speed s)) where
+      all : length (start .entries) ≡ count
+      all = count-in bytes ∙ sym n
+
+      after-drain : b1 ≡ encode (drained start keys count d finished)
+      after-drain =
+          drains start (sym (sound-back bytes (p .good .sound))) all (λ i h. remaining-most start ok i (omega (arith, all)))
+
+      running-fits : (start .task ≡ 255 → ⊥) →
+          (start .task < length (drained start keys count d finished .entries))
+          × (workOf (drained start keys count d finished) (start .task) ≤ 16777215)
+      running-fits ne =
+          let k : start .task < length (start .entries) = runnable start ok .task ne in (
+            omega (arith, drained-count start keys count d finished all, all),
+            omega (arith, drained-work start keys count d finished all (start .task) k, work-most start ok (start .task) k),
+          )
+
+      after-work : b2 ≡ encode (worked start keys count d finished)
+      after-work =
+          works (drained start keys count d finished) after-drain (o .task) (o .level)
+          (omega (arith, drained-count start keys count d finished all, moving-few)) running-fits
+
+      after-clock : b3 ≡ encode (timed start keys count d finished)
+      after-clock =
+          clocks
+          ∙ ap₂ (λ (l : List ℕ) (x : ℕ). sets l 0 (digits 256 4 (x + d))) after-work t
+          ∙ store-clock (worked start keys count d finished) (start .clock + d)
+
+      pub moved-on : b4 ≡ encode (movedState baseSpeeds (timingIn bytes) (decode bytes) d finished)
+      moved-on =
+          arrives (timed start keys count d finished) after-clock (timed-count start keys count d finished all)
+          (λ i h.
+          let k : i < length (start .entries) = omega (arith, all) in
+          omega (arith, timed-worst start keys count d finished all i k, worst-most start ok i k))
+          ∙ ap (λ (x : ℕ). encode (arrivedState keys (x + d) speed (timed start keys count d finished))) t
+          ∙ ap encode (arrived-moved start keys (p .good .keyed) d (p .some) (p .within) finished speed (fast ∙ ap (speedOf baseSpeeds) (p .good .nominal)) count all)

@@ -1,8 +1,7 @@
 -- An accepted plan is one that the plain schedule's theorem is about, and an allotment is at most its period.
 -- Assumes nothing.
-use Prim.Native.Nat.{ℕ, zero, suc, _+_, _*_, _/_, _%_, _<_, _≤_}
+use Prim.Native.Nat.{ℕ, zero, suc, _+_, _*_, _/_, _<_, _≤_}
 use mathlib.Core.Path.{_≡_, refl, sym, subst, ap, _∙_}
-use mathlib.Core.Bool.{true}
 use mathlib.Core.List.{List, [], _∷_}
 use native.Mathlib.Nat.{not-suc-le-zero, div-self, mod-eq-zero-of-dvd, mul-one}
 use native.Mathlib.Omega.{arith}
@@ -13,7 +12,7 @@ use Rattle.arith.specs.Sum.{sumTo, sumOf}
 use Rattle.arith.specs.Need.{need}
 use Rattle.arith.proofs.Needs.{need-zero-work}
 use Rattle.plan.specs.declared.Task.{Task}
-use Rattle.plan.specs.Levels.{Rising, speedOf, hyperperiod, demandWithin, admits, nominal}
+use Rattle.plan.specs.Levels.{Rising, hyperperiod, demandWithin, admits, nominal}
 use Rattle.plan.specs.Blocks.{noTask}
 use Rattle.plan.proofs.Facts.{FineList, InRange, range-at}
 use Rattle.plan.proofs.LevelLaws.{Positive, range-positive, hyperperiod-is-least, hyperperiod-positive, first-passes}

@@ -3,19 +3,18 @@
 use Prim.Native.Nat.{ℕ, zero, suc, _+_, _*_, _/_, _%_, _≤_, _<_}
 use mathlib.Core.Path.{_≡_, refl, sym, subst, ap, ap₂, _∙_}
 use mathlib.Core.Bool.{Bool, true, false}
-use mathlib.Core.List.{List, [], _∷_, _++_, map}
+use mathlib.Core.List.{List, [], _∷_, _++_}
 use native.Mathlib.Omega.{arith}
 use borrow.Author.Tests.{eq-eqb, ne-eqb, eqb-true, eqb-false}
 use lib.Dec.{eqb, lit<, lit≤}
 use lib.Arith.{digits-mod}
 use lib.ListN.{length, take, drop}
 use Rattle.arith.specs.Choice.{pick}
-use Rattle.arith.proofs.Tests.{TestEq, eq-yes, eq-not, testEq, Tested, passed, failed, tested}
-use Rattle.plan.specs.declared.Task.{Task}
+use Rattle.arith.proofs.Tests.{eq-yes, eq-not, testEq, passed, failed, tested}
 use Rattle.plan.specs.Levels.{baseSpeeds}
 use Rattle.plan.specs.Blocks.{tasksIn}
 use Rattle.plan.specs.Answers.{storedBy}
-use Rattle.plan.specs.Questions.{Question, firstNo, reading, roomQuestion}
+use Rattle.plan.specs.Questions.{Question, firstNo}
 use Rattle.plan.proofs.LevelLaws.{baseRising}
 use Rattle.plan.proofs.Facts.{FineList}
 use Rattle.schedule.specs.PlainSchedule.{Timing, opened}
@@ -25,10 +24,10 @@ use Rattle.dispatcher.specs.declared.Reply.the-variants as reply
 use Rattle.dispatcher.specs.StateBlock.{State, encode, decode, planIn, timing}
 use Rattle.dispatcher.specs.Orders.{orderWith, holdOf}
 use Rattle.dispatcher.specs.Passes.{startState, passedState, passedHold}
-use Rattle.dispatcher.specs.Questions.{passing, starting, passQuestions, sound, stateSound}
+use Rattle.dispatcher.specs.Questions.{passing, starting, passQuestions, stateSound}
 use Rattle.dispatcher.specs.Calls.{repliedBy, refusalOf, startNumber, startReply, startBuffer, startOrder, passNumber, passReply, passBytes, passOrder}
 use Rattle.dispatcher.specs.Run.{Pass, Answered, trace, bytesAfter, startedBytes, openedRecord, recordAfter, bookAfter}
-use Rattle.dispatcher.specs.Promises.{OnTime, Started, actualBook, plainBook}
+use Rattle.dispatcher.specs.Promises.{OnTime}
 use Rattle.dispatcher.specs.Entries.{replyNumber}
 use Rattle.dispatcher.specs.Play.{replyFrom, replyNumbers, answersFrom, leftBy, playedState, playedReplies, PlayedOnTime}
 use Rattle.dispatcher.proofs.Fine.{Fine, Accepted}

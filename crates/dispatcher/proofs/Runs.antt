@@ -1,39 +1,35 @@
 -- What ties the state's bytes to the two books, kept by every pass, refused or not.
 -- Assumes nothing.
-use Prim.Native.Nat.{ℕ, zero, suc, _+_, _-_, _*_, _/_, _%_, _≤_, _<_}
+use Prim.Native.Nat.{ℕ, zero, suc, _+_, _-_, _%_, _≤_, _<_}
 use mathlib.Core.Path.{_≡_, refl, sym, subst, ap, ap₂, _∙_}
 use mathlib.Core.Bool.{Bool, true, false}
-use mathlib.Core.List.{List, [], _∷_, _++_, append-nil, map}
-use mathlib.Core.Logic.{_⊎_, inl, inr, ⊎-elim, _≢_}
-use native.Mathlib.Nat.{not-suc-le-zero}
+use mathlib.Core.List.{List, _∷_, _++_, append-nil}
 use native.Mathlib.Omega.{arith}
-use native.Mathlib.Decide.{decLe, ℕ-discrete}
-use lib.Dec.{T, eqb}
-use lib.ListN.{length, getD, drop, take, length-map, drop-of-length-le}
-use Rattle.arith.specs.Choice.{pick, both}
+use native.Mathlib.Decide.{ℕ-discrete}
+use lib.Dec.{T}
+use lib.ListN.{length, getD, drop-of-length-le}
+use Rattle.arith.specs.Choice.{pick}
 use Rattle.arith.specs.Need.{need}
 use Rattle.arith.proofs.Needs.{need-zero-work}
-use Rattle.arith.proofs.Tests.{TestEq, eq-yes, eq-not, testEq, Tested, passed, failed, tested, both-true}
+use Rattle.arith.proofs.Tests.{eq-yes, eq-not, testEq, passed, failed, tested, both-true}
 use Rattle.plan.specs.declared.Task.{Task}
-use Rattle.plan.specs.Levels.{Rising, hyperperiod, speedOf, nominal}
+use Rattle.plan.specs.Levels.{Rising, hyperperiod, nominal}
 use Rattle.plan.specs.Questions.{firstNo}
 use Rattle.plan.specs.Blocks.{noTask}
 use Rattle.plan.specs.Answers.{storedBy}
 use Rattle.plan.proofs.Facts.{FineList, range-at}
-use Rattle.schedule.specs.PlainSchedule.{Timing, Job, Pending, Book, latest, deadline, canonicalAt, after, queueOf, leftIn, opened}
-use Rattle.schedule.specs.Feasibility.{In, Fitting}
-use Rattle.schedule.proofs.Feasible.{never-late}
+use Rattle.schedule.specs.PlainSchedule.{Timing, Job, Book, latest, deadline, canonicalAt, after, queueOf, opened}
+use Rattle.schedule.specs.Feasibility.{Fitting}
 use Rattle.schedule.proofs.Drain.{Quiet}
-use Rattle.schedule.proofs.Span.{canonical-span, canonical-start, after-add, renewed, nothing-old}
+use Rattle.schedule.proofs.Span.{canonical-span, after-add, renewed, nothing-old}
 use Rattle.schedule.proofs.Standing.{queueOf-cong}
 use Rattle.dispatcher.specs.declared.Reply.{Reply}
 use Rattle.dispatcher.specs.declared.Reply.the-variants as reply
-use Rattle.dispatcher.specs.declared.Entry.{Entry}
-use Rattle.dispatcher.specs.StateBlock.{State, encode, decode, laidOut, planIn, timing, workOf, remainingOf, noEntry}
-use Rattle.dispatcher.specs.Orders.{holdOf, orderWith, chooseOrder}
-use Rattle.dispatcher.specs.Passes.{passedState, passedHold, movedState, entryAfter, workedOf, drainedOf, listTo}
+use Rattle.dispatcher.specs.StateBlock.{State, encode, decode, laidOut, planIn, timing, workOf, remainingOf}
+use Rattle.dispatcher.specs.Orders.{holdOf, orderWith}
+use Rattle.dispatcher.specs.Passes.{passedState, passedHold, workedOf, drainedOf}
 use Rattle.dispatcher.specs.Questions.{sound, stateSound, passQuestions}
-use Rattle.dispatcher.specs.Calls.{repliedBy, passNumber, passReply, passBytes, passOrder}
+use Rattle.dispatcher.specs.Calls.{repliedBy, passNumber, passReply, passBytes}
 use Rattle.dispatcher.specs.Run.{Pass, Record, recorded, ran}
 use Rattle.dispatcher.specs.Promises.{holdIn, standing}
 use Rattle.dispatcher.proofs.Fine.{Fine, Accepted, nominalSpeed}

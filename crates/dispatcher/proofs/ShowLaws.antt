@@ -16,15 +16,17 @@ use Rattle.plan.specs.declared.Written.the-variants as written
 use Rattle.plan.specs.Levels.{baseSpeeds}
 use Rattle.plan.specs.Questions.{firstNo, roomQuestion}
 use Rattle.plan.proofs.Codec.{Leaves, leaves-refused, leaves-written}
-use Rattle.schedule.specs.PlainSchedule.{queueOf}
-use Rattle.dispatcher.specs.declared.Loaded.{Loaded}
+use Rattle.schedule.specs.PlainSchedule.{Timing, Pending, queueOf}
+use Rattle.schedule.proofs.Standing.{queueOf-cong}
 use Rattle.dispatcher.specs.declared.Ready.{Ready}
 use Rattle.dispatcher.specs.declared.Tested.{Tested}
-use Rattle.dispatcher.specs.StateBlock.{State, remainingOf, planIn}
-use Rattle.dispatcher.specs.Calls.{queueBytes, readyQueue, shownBytes, showNumber}
-use Rattle.dispatcher.specs.Code.{tasksBytes, stateOf, entryOf, timingOf, readyTo, Listed, Good, TestedAs}
+use Rattle.dispatcher.specs.declared.Entry.{Entry}
+use Rattle.dispatcher.specs.StateBlock.{remainingOf, decode}
+use Rattle.dispatcher.specs.Calls.{queueBytes, shownBytes, showNumber}
+use Rattle.dispatcher.specs.Code.{tasksBytes, entryIn, timingIn, readyTo, Listed, Good, TestedAs}
 use Rattle.dispatcher.proofs.Soundness.{length-planIn}
-use Rattle.dispatcher.proofs.UrgencyLaws.{ready-bytes}
+use Rattle.dispatcher.proofs.BlockLaws.{count-in, entry-at}
+use Rattle.dispatcher.proofs.KeyLaws.{ready-bytes}
 use Rattle.dispatcher.proofs.ReadySteps.{listed-below}
 
 -- how many bytes tasks take
@@ -48,13 +50,14 @@ abbrev pub shownTo : (ℕ → ℕ) → List ℕ → List ℕ → ℕ → List �
 shownTo left ts buffer k = tasksBytes left (take k ts) ++ drop (3 * k) buffer
 
 pub shown-more :
-    (left : ℕ → ℕ) (ts buffer : List ℕ) (k : ℕ) (m n : List ℕ) →
+    (left : ℕ → ℕ) (ts buffer : List ℕ) (k : ℕ) (m n : List ℕ) (x : ℕ) →
     k < length ts →
     3 * k + 3 ≤ length buffer →
+    x ≡ left (getD ts k 0) →
     m ≡ shownTo left ts buffer k →
-    n ≡ sets (set m (3 * k) (getD ts k 0)) (3 * k + 1) (digits 256 2 (left (getD ts k 0))) →
+    n ≡ sets (set m (3 * k) (getD ts k 0)) (3 * k + 1) (digits 256 2 x) →
     n ≡ shownTo left ts buffer (k + 1)
-shown-more left ts buffer k m n h room a b =
+shown-more left ts buffer k m n x h room d a b =
     let p : List ℕ = tasksBytes left (take k ts) in
     let v : List ℕ = getD ts k 0 ∷ digits 256 2 (left (getD ts k 0)) in
     let rest : List ℕ = drop (3 * k) buffer in
@@ -66,6 +69,7 @@ shown-more left ts buffer k m n h room a b =
     ∙ drop-drop 3 (3 * k) buffer
     ∙ ap (λ (x : ℕ). drop x buffer) on in
     b
+    ∙ ap (λ (y : ℕ). sets (set m (3 * k) (getD ts k 0)) (3 * k + 1) (digits 256 2 y)) d
     ∙ ap₂ (λ (x : List ℕ) (at : ℕ). sets (set x (3 * k) (getD ts k 0)) at (digits 256 2 (left (getD ts k 0)))) a (add-one (3 * k))
     ∙ sets-eq v (p ++ rest) (3 * k) (omega (arith, length-append p rest, length-drop (3 * k) buffer))
     ∙ ap₂ (λ (x y : List ℕ). x ++ v ++ y) (take-at p rest (3 * k) size) after
@@ -78,6 +82,10 @@ pub shown-all :
     m ≡ tasksBytes left (take len ts) ++ drop (3 * len) buffer
 shown-all left ts buffer k len m e a = a ∙ ap (λ (n : ℕ). shownTo left ts buffer n) e
 
+-- the remaining ticks of a block's tasks
+abbrev pub remainingIn : List ℕ → ℕ → ℕ
+remainingIn bytes i = entryIn bytes i .remaining
+
 -- showing a block, by what its test finds
 module _ (bytes buffer : List ℕ) (t : Tested) (found : TestedAs bytes t) where
   abbrev LeftByShow : Written → List ℕ → Type 0
@@ -88,49 +96,55 @@ module _ (bytes buffer : List ℕ) (t : Tested) (found : TestedAs bytes t) where
       leaves-refused (showNumber baseSpeeds bytes (length buffer)) 10 (shownBytes baseSpeeds bytes) buffer (omega arith)
       (ap (λ (b : Bool). pick b (firstNo (roomQuestion (length (shownBytes baseSpeeds bytes)) (length buffer) ∷ [])) 10) (sym (found .sound) ∙ h))
 
-  module _ (ok : t .sound ≡ true) (size : length (t .state .entries) ≡ 16) (q : Ready) (listed : Listed (readyTo (t .state) (t .times) (t .state .count)) q) where
-    good : Good (t .state) (t .times) (t .nominal)
+  module _ (ok : t .sound ≡ true) (n : ℕ) (counted : n ≡ getD bytes 6 0) where
+    good : Good bytes (t .keys) (t .nominal)
     good = found .good ok
 
-    -- the bytes to show
-    shown-are : shownBytes baseSpeeds bytes ≡ tasksBytes (λ i. entryOf (t .state) i .remaining) (take (q .len) (q .tasks))
-    shown-are =
-        let l : Loaded = t .state in
-        let n : length (planIn (stateOf l)) ≡ length (stateOf l .entries) = length-planIn (stateOf l) in
-        let same : l .count ≡ timingOf l .count =
-        sym (n ∙ length-take-le (l .count) (l .entries) (omega (arith, good .count))) in
-        ap (λ (s : State). queueBytes (readyQueue baseSpeeds s)) (sym (found .state ok))
-        ∙ ap (λ (k : ℕ). queueBytes (queueOf (timingOf l) (l .clock .ticks) (remainingOf (stateOf l)) k)) (sym n)
-        ∙ ready-bytes (timingOf l) l (t .times) (good .timed) same
-        ∙ ap (tasksBytes (λ i. entryOf l i .remaining)) (sym (listed .tasks))
+    -- the ready tasks can be asked for
+    pub show-few : n ≤ 16
+    show-few = omega (arith, good .holds .few)
 
-    wanted : length (shownBytes baseSpeeds bytes) ≡ 3 * q .len
-    wanted =
-        ap length shown-are
-        ∙ length-tasksBytes (λ i. entryOf (t .state) i .remaining) (take (q .len) (q .tasks))
-        ∙ ap (λ (x : List ℕ). 3 * length x) (listed .tasks)
-        ∙ ap (λ (k : ℕ). 3 * k) (sym (listed .len))
+    module _ (q : Ready) (listed : Listed (readyTo (t .keys) (remainingIn bytes) n) q) where
+      -- the bytes to show
+      shown-are : shownBytes baseSpeeds bytes ≡ tasksBytes (remainingIn bytes) (take (q .len) (q .tasks))
+      shown-are =
+          let τ : Timing = timingIn bytes in
+          let now : ℕ = decode bytes .clock in
+          let some : n ≤ τ .count = omega (arith, length-planIn (decode bytes), count-in bytes) in
+          ap (λ (k : ℕ). queueBytes (queueOf τ now (remainingOf (decode bytes)) k)) (count-in bytes ∙ sym counted)
+          ∙ ap (λ (x : List Pending). queueBytes x)
+          (queueOf-cong τ now (remainingOf (decode bytes)) (remainingIn bytes) n
+          (λ i h. ap (λ (e : Entry). e .remaining) (entry-at bytes i (omega arith))))
+          ∙ ready-bytes τ now (t .keys) (good .keyed) (remainingIn bytes) n some
+          ∙ ap (tasksBytes (remainingIn bytes)) (sym (listed .tasks))
 
-    asked : showNumber baseSpeeds bytes (length buffer) ≡ firstNo (roomQuestion (3 * q .len) (length buffer) ∷ [])
-    asked =
-        ap (λ (b : Bool). pick b (firstNo (roomQuestion (length (shownBytes baseSpeeds bytes)) (length buffer) ∷ [])) 10) (sym (found .sound) ∙ ok)
-        ∙ ap (λ (k : ℕ). firstNo (roomQuestion k (length buffer) ∷ [])) wanted
+      wanted : length (shownBytes baseSpeeds bytes) ≡ 3 * q .len
+      wanted =
+          ap length shown-are
+          ∙ length-tasksBytes (remainingIn bytes) (take (q .len) (q .tasks))
+          ∙ ap (λ (x : List ℕ). 3 * length x) (listed .tasks)
+          ∙ ap (λ (k : ℕ). 3 * k) (sym (listed .len))
 
-    pub show-below : (k : ℕ) → k < q .len → getD (q .tasks) k 0 < 16
-    show-below k h = omega (arith, listed-below (t .state) (t .times) (t .state .count) q listed k h, good .count)
+      asked : showNumber baseSpeeds bytes (length buffer) ≡ firstNo (roomQuestion (3 * q .len) (length buffer) ∷ [])
+      asked =
+          ap (λ (b : Bool). pick b (firstNo (roomQuestion (length (shownBytes baseSpeeds bytes)) (length buffer) ∷ [])) 10) (sym (found .sound) ∙ ok)
+          ∙ ap (λ (k : ℕ). firstNo (roomQuestion k (length buffer) ∷ [])) wanted
 
-    pub show-short : length buffer < 3 * q .len → LeftByShow (written.Refused 9) buffer
-    show-short h =
-        leaves-refused (showNumber baseSpeeds bytes (length buffer)) 9 (shownBytes baseSpeeds bytes) buffer (omega arith)
-        (asked ∙ ap (λ (b : Bool). pick {A = ℕ} b 0 9) (lt-leb (3 * q .len) (length buffer) h))
+      pub show-below : (k : ℕ) → k < q .len → getD (q .tasks) k 0 < 16
+      show-below k h = omega (arith, listed-below (t .keys) (remainingIn bytes) n q listed k h, show-few)
 
-    pub show-stored :
-        (m : List ℕ) →
-        3 * q .len ≤ length buffer →
-        m ≡ tasksBytes (λ i. entryOf (t .state) i .remaining) (take (q .len) (q .tasks)) ++ drop (3 * q .len) buffer →
-        LeftByShow (written.Bytes (3 * q .len)) m
-    show-stored m h e =
-        leaves-written (showNumber baseSpeeds bytes (length buffer)) (3 * q .len) (shownBytes baseSpeeds bytes) buffer m
-        (asked ∙ ap (λ (b : Bool). pick {A = ℕ} b 0 9) (le-leb (3 * q .len) (length buffer) h))
-        (sym wanted)
-        (e ∙ ap₂ (λ (x : List ℕ) (k : ℕ). x ++ drop k buffer) (sym shown-are) (sym wanted))
+      pub show-short : length buffer < 3 * q .len → LeftByShow (written.Refused 9) buffer
+      show-short h =
+          leaves-refused (showNumber baseSpeeds bytes (length buffer)) 9 (shownBytes baseSpeeds bytes) buffer (omega arith)
+          (asked ∙ ap (λ (b : Bool). pick {A = ℕ} b 0 9) (lt-leb (3 * q .len) (length buffer) h))
+
+      pub show-stored :
+          (m : List ℕ) →
+          3 * q .len ≤ length buffer →
+          m ≡ tasksBytes (remainingIn bytes) (take (q .len) (q .tasks)) ++ drop (3 * q .len) buffer →
+          LeftByShow (written.Bytes (3 * q .len)) m
+      show-stored m h e =
+          leaves-written (showNumber baseSpeeds bytes (length buffer)) (3 * q .len) (shownBytes baseSpeeds bytes) buffer m
+          (asked ∙ ap (λ (b : Bool). pick {A = ℕ} b 0 9) (le-leb (3 * q .len) (length buffer) h))
+          (sym wanted)
+          (e ∙ ap₂ (λ (x : List ℕ) (k : ℕ). x ++ drop k buffer) (sym shown-are) (sym wanted))

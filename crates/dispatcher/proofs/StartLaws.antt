@@ -1,24 +1,24 @@
--- Starting: the state in which every task has a new job, made entry by entry, and the order chosen in it.
+-- Starting: the image in which every task has a new job, made entry by entry, and the order chosen in it.
 -- Assumes nothing.
-use Prim.Native.Nat.{ℕ, zero, suc, _+_, _-_, _<_, _≤_, min}
+use Prim.Native.Nat.{ℕ, zero, suc, _+_, _-_, _*_, _/_, _<_, _≤_}
 use mathlib.Core.Path.{_≡_, refl, sym, subst, ap, ap₂, _∙_}
-use mathlib.Core.List.{List, [], _∷_, _++_}
-use native.Mathlib.Numerals.{add-one}
+use mathlib.Core.Bool.{Bool}
+use mathlib.Core.List.{List, [], _∷_, _++_, map}
+use native.Mathlib.Nat.{le-trans, mul-le-mul-left}
 use native.Mathlib.Omega.{arith}
 use borrow.Author.Tests.{le-leb, lt-leb}
-use lib.Dec.{eqb}
-use mathlib.Core.Bool.{Bool}
-use lib.ListN.{length, getD, take, drop, set, replicate}
-use lib.Seq.{length-take-le, getD-take, take-at, set-at, append-snoc}
+use lib.ListN.{length, getD, take, drop, replicate, length-append, length-replicate}
+use lib.Seq.{sets, length-take-le, getD-take, take-all}
+use Rattle.arith.specs.Bits.{unpacked}
 use Rattle.arith.specs.Choice.{pick}
 use Rattle.arith.specs.Need.{need}
+use Rattle.arith.proofs.Needs.{need-covers}
 use Rattle.plan.specs.declared.Task.{Task}
 use Rattle.plan.specs.declared.Plan.{Plan}
 use Rattle.plan.specs.declared.Judged.{Judged}
 use Rattle.plan.specs.declared.Verdict.the-variants as verdict
-use Rattle.plan.specs.Levels.{baseSpeeds, speedOf, nominal, hyperperiod}
+use Rattle.plan.specs.Levels.{baseSpeeds, speedOf, nominal}
 use Rattle.plan.specs.Blocks.{noTask, tasksOf, tasksIn, planOf, countIn}
-use Rattle.arith.specs.Bits.{unpacked}
 use Rattle.plan.specs.Questions.{firstNo, judging, reading, roomQuestion}
 use Rattle.plan.specs.Answers.{answered, beside, readBlock, storedBy}
 use Rattle.plan.proofs.Facts.{FineList, FineBlock, fine-list, fine-block, list-yes}
@@ -27,253 +27,271 @@ use Rattle.plan.proofs.BlockBits.{length-tasksFrom}
 use Rattle.plan.proofs.RoundTrip.{tasksOf-planOf}
 use Rattle.plan.proofs.Codec.{told-refused, told-admitted, no-before, yes-before}
 use Rattle.schedule.specs.PlainSchedule.{Timing}
-use Rattle.schedule.specs.Feasibility.{Fitting}
 use Rattle.dispatcher.specs.declared.Entry.{Entry}
-use Rattle.dispatcher.specs.declared.Loaded.{Loaded}
-use Rattle.dispatcher.specs.declared.Times.{Times}
 use Rattle.dispatcher.specs.declared.Reply.{Reply}
 use Rattle.dispatcher.specs.declared.Reply.the-variants as reply
-use Rattle.dispatcher.specs.StateBlock.{State, noEntry, timingAt, timing, planIn, workOf, encode}
-use Rattle.dispatcher.specs.Orders.{leastTo, nextArrival, chooseOrder, holdOf, orderWith}
-use Rattle.dispatcher.specs.Passes.{listTo, newEntry, startState}
+use Rattle.dispatcher.specs.StateBlock.{State, noEntry, taskOf, timingAt, timing, planIn, entryBytes, entriesBytes, encode, decode}
+use Rattle.dispatcher.specs.Orders.{chooseOrder, holdOf, orderWith}
+use Rattle.dispatcher.specs.Passes.{newEntry, startState}
 use Rattle.dispatcher.specs.Calls.{repliedBy, startNumber, startOrder, startReply, startBuffer}
-use Rattle.dispatcher.specs.Code.{stateOf, entryOf, newState, NewFrom, Timed, Fitted}
+use Rattle.dispatcher.specs.Code.{Holds, entryIn, timingIn, keyOf, Keyed, newState, Doable}
 use Rattle.dispatcher.proofs.Fine.{Fine, nominalSpeed}
-use Rattle.dispatcher.proofs.Plans.{plan-fits, task-range, allotment-short}
-use Rattle.dispatcher.proofs.StateCodec.{Storable, length-encode}
+use Rattle.dispatcher.proofs.Plans.{task-range}
+use Rattle.dispatcher.proofs.StateCodec.{Storable, StorableEntry, length-encode, length-entriesBytes, decode-encode}
 use Rattle.dispatcher.proofs.Soundness.{fine-storable}
 use Rattle.dispatcher.proofs.NextArrival.{length-listTo, getD-listTo}
-use Rattle.dispatcher.proofs.OrderFacts.{Ordered, idles, runs, order-facts}
+use Rattle.dispatcher.proofs.Moved.{choose-entries}
 use Rattle.dispatcher.proofs.PassSound.{start-fine}
-use Rattle.dispatcher.proofs.UrgencyLaws.{entry-is, next-loaded, deadlines-after}
+use Rattle.dispatcher.proofs.BlockLaws.{storedTo, stored-more, count-in, entry-at}
+use Rattle.dispatcher.proofs.NeedTests.{speed-positive, speed-most}
 
--- sixteen entries, of which the first i are new
-abbrev pub newTo : ℕ → List Task → ℕ → List Entry
-newTo speed ts i = listTo i (newEntry (timingAt speed ts) ts) ++ replicate (16 - i) noEntry
+-- the eight bytes in front of the entries of a new state
+abbrev pub newFront : ℕ → List ℕ
+newFront count = 0 ∷ 0 ∷ 0 ∷ 0 ∷ 255 ∷ 0 ∷ count ∷ 0 ∷ []
 
--- a new state on its way: its first i entries are made
-pub record Making (speed : ℕ) (p : Plan) (l : Loaded) (i : ℕ) : Type 0 where
+-- an image of which the first i entries are stored has 200 bytes
+stored-size :
+    (front : List ℕ) (es : List Entry) (i : ℕ) → length front ≡ 8 → i ≤ 16 → i ≤ length es → length (storedTo front es i) ≡ 200
+stored-size front es i f few h =
+    let zeros : List ℕ = replicate (12 * (16 - i)) 0 in
+    omega (
+      arith,
+      length-append front (entriesBytes (take i es) ++ zeros),
+      length-append (entriesBytes (take i es)) zeros,
+      length-entriesBytes (take i es),
+      length-take-le i es h,
+      length-replicate {A = ℕ} (12 * (16 - i)) 0,
+    )
+
+-- an image on its way: its first i entries are stored
+pub record Making (speed : ℕ) (p : Plan) (image : List ℕ) (i : ℕ) : Type 0 where
   pub below : i ≤ p .count
-  pub clock : l .clock .ticks ≡ 0
-  pub task : l .task ≡ 255
-  pub level : l .level ≡ 0
-  pub total : l .count ≡ p .count
-  pub entries : l .entries ≡ newTo speed (tasksOf p) i
+  pub size : length image ≡ 200
+  pub bytes : image ≡ storedTo (newFront (p .count)) (newState speed (tasksOf p) .entries) i
 
-module _ (speed : ℕ) (p : Plan) (size : length (p .tasks) ≡ 16) (few : p .count ≤ 16) (l : Loaded) (i : ℕ) (h : Making speed p l i) where
-  pub making-more :
-      (ticks : ℕ) →
-      i < p .count →
-      ticks ≡ need speed (getD (p .tasks) i noTask .worst) →
-      Making speed p
-      record {
-        clock = l .clock;
-        task = l .task;
-        level = l .level;
-        count = l .count;
-        entries =
-            set (l .entries) i
-            record {
-              period = getD (p .tasks) i noTask .period;
-              worst = getD (p .tasks) i noTask .worst;
-              work = getD (p .tasks) i noTask .worst;
-              remaining = ticks;
-            };
-      }
-      (i + 1)
-  making-more ticks q e =
-      let ts : List Task = tasksOf p in
-      let f : ℕ → Entry = newEntry (timingAt speed ts) ts in
-      let front : List Entry = listTo i f in
-      let rest : List Entry = replicate (16 - (i + 1)) noEntry in
-      let left : 16 - i ≡ suc (16 - (i + 1)) = omega arith in
-      let same : getD (p .tasks) i noTask ≡ getD ts i noTask = sym (getD-take (p .count) (p .tasks) i noTask q) in
-      let ticks-is : ticks ≡ need speed (getD ts i noTask .worst) = e ∙ ap (λ (t : Task). need speed (t .worst)) same in
-      let new :
-      _≡_ {A = Entry}
-      record {
-        period = getD (p .tasks) i noTask .period;
-        worst = getD (p .tasks) i noTask .worst;
-        work = getD (p .tasks) i noTask .worst;
-        remaining = ticks;
-      }
-      (f i) =
-      λ j. record { period = same j .period; worst = same j .worst; work = same j .worst; remaining = ticks-is j } in
-      record {
-        below = omega arith;
-        clock = h .clock;
-        task = h .task;
-        level = h .level;
-        total = h .total;
-        entries =
-            ap₂ (λ (x : List Entry) (y : Entry). set x i y) (h .entries ∙ ap (λ (k : ℕ). front ++ replicate k noEntry) left) new
-            ∙ set-at front noEntry rest (f i) i (length-listTo i f)
-            ∙ sym (append-snoc front (f i) rest)
-            ∙ sym (ap (λ (k : ℕ). listTo k f ++ rest) (add-one i));
-      }
+module _ (speed : ℕ) (p : Plan) (size : length (p .tasks) ≡ 16) (few : p .count ≤ 16) where
+  abbrev made : List Entry
+  made = newState speed (tasksOf p) .entries
 
-  pub making-all : i ≡ p .count → NewFrom speed (tasksOf p) l
-  making-all e =
-      let ts : List Task = tasksOf p in
-      let f : ℕ → Entry = newEntry (timingAt speed ts) ts in
-      let len : length ts ≡ p .count = length-take-le (p .count) (p .tasks) (omega arith) in
-      let count : l .count ≡ length ts = h .total ∙ sym len in
-      let whole : i ≡ length ts = e ∙ sym len in
-      let entries : take (l .count) (l .entries) ≡ listTo (length ts) f =
-      ap₂ (λ (k : ℕ) (x : List Entry). take k x) count (h .entries ∙ ap (newTo speed ts) whole)
-      ∙ take-at (listTo (length ts) f) (replicate (16 - length ts) noEntry) (length ts) (length-listTo (length ts) f) in
-      record {
-        state = λ j. record { clock = h .clock j; task = h .task j; level = h .level j; entries = entries j };
-        count = count;
-      }
+  plan-length : length (tasksOf p) ≡ p .count
+  plan-length = length-take-le (p .count) (p .tasks) (omega arith)
+
+  made-are : length made ≡ p .count
+  made-are = length-listTo (length (tasksOf p)) (newEntry (timingAt speed (tasksOf p)) (tasksOf p)) ∙ plan-length
+
+  making : (i : ℕ) (image : List ℕ) → i ≤ p .count → image ≡ storedTo (newFront (p .count)) made i → Making speed p image i
+  making i image h e = record {
+    below = h;
+    size = ap length e ∙ stored-size (newFront (p .count)) made i refl (omega arith) (omega (arith, made-are));
+    bytes = e;
+  }
+
+  pub making-none : (image : List ℕ) → image ≡ 0 ∷ 0 ∷ 0 ∷ 0 ∷ 255 ∷ 0 ∷ p .count ∷ replicate 193 0 → Making speed p image 0
+  making-none image e = making 0 image (omega arith) e
+
+  module _ (image : List ℕ) (i : ℕ) (h : Making speed p image i) where
+    pub making-more :
+        (ticks : ℕ) (m : List ℕ) →
+        i < p .count →
+        ticks ≡ need speed (getD (p .tasks) i noTask .worst) →
+        m
+        ≡ sets image (8 + 12 * i)
+        (take 10
+        (entryBytes
+        record {
+          period = getD (p .tasks) i noTask .period;
+          worst = getD (p .tasks) i noTask .worst;
+          work = getD (p .tasks) i noTask .worst;
+          remaining = ticks;
+        })) →
+        Making speed p m (i + 1)
+    making-more ticks m q e s =
+        let ts : List Task = tasksOf p in
+        let f : ℕ → Entry = newEntry (timingAt speed ts) ts in
+        let same : getD (p .tasks) i noTask ≡ getD ts i noTask = sym (getD-take (p .count) (p .tasks) i noTask q) in
+        let ticks-is : ticks ≡ need speed (getD ts i noTask .worst) = e ∙ ap (λ (t : Task). need speed (t .worst)) same in
+        let new :
+        _≡_ {A = Entry}
+        record {
+          period = getD (p .tasks) i noTask .period;
+          worst = getD (p .tasks) i noTask .worst;
+          work = getD (p .tasks) i noTask .worst;
+          remaining = ticks;
+        }
+        (f i) =
+        λ j. record { period = same j .period; worst = same j .worst; work = same j .worst; remaining = ticks-is j } in
+        let at : f i ≡ getD made i noEntry = sym (getD-listTo (length ts) f i noEntry (omega (arith, plan-length))) in
+        making (i + 1) m (omega arith)
+        (stored-more (newFront (p .count)) made i image m refl (omega arith) (omega (arith, made-are)) (h .bytes)
+        (s ∙ ap (λ (x : Entry). sets image (8 + 12 * i) (take 10 (entryBytes x))) (new ∙ at)))
+
+    pub making-all : i ≡ p .count → image ≡ encode (newState speed (tasksOf p))
+    making-all e =
+        let n : ℕ = length made in
+        h .bytes
+        ∙ ap₂ (λ (k j : ℕ). storedTo (newFront k) made j) (sym made-are) (e ∙ sym made-are)
+        ∙ ap (λ (x : List Entry). newFront n ++ (entriesBytes x ++ replicate (12 * (16 - n)) 0)) (take-all n made (omega arith))
 
 -- an accepted plan, with its nominal level
 module _ (p : Plan) (size : length (p .tasks) ≡ 16) (ok : firstNo (judging baseSpeeds (p .count) (tasksOf p)) ≡ 0) where
-  pub plan-good : FineList baseSpeeds (length (tasksOf p)) (tasksOf p)
-  plan-good =
-      let f : FineList baseSpeeds (p .count) (tasksOf p) = fine-list baseSpeeds (p .count) (tasksOf p) ok in
-      let n : length (tasksOf p) ≡ p .count = length-take-le (p .count) (p .tasks) (omega (arith, f .count-high)) in
-      record { count-low = omega (arith, f .count-low); count-high = omega (arith, f .count-high); tasks = f .tasks }
-
   pub plan-few : p .count ≤ 16
   plan-few = fine-list baseSpeeds (p .count) (tasksOf p) ok .count-high
+
+  pub plan-count : p .count ≡ length (tasksOf p)
+  plan-count = sym (plan-length 0 p size plan-few)
+
+  plan-good : FineList baseSpeeds (length (tasksOf p)) (tasksOf p)
+  plan-good =
+      let f : FineList baseSpeeds (p .count) (tasksOf p) = fine-list baseSpeeds (p .count) (tasksOf p) ok in
+      record { count-low = omega (arith, plan-count, f .count-low); count-high = omega (arith, plan-count, f .count-high); tasks = f .tasks }
 
   module _ (level : ℕ) (e : level ≡ nominal baseSpeeds (tasksOf p)) where
     pub level-below : level < 8
     level-below = omega (arith, plan-good .tasks .admitted)
 
     pub speed-some : (speed : ℕ) → speed ≡ speedOf baseSpeeds level → 0 < speed
-    speed-some speed s = subst (λ (x : ℕ). 0 < x) (sym s) (baseRising .positive level level-below)
+    speed-some speed s = speed-positive level speed level-below s
 
--- a new state of an accepted plan, at its nominal speed
-pub record Newly (ts : List Task) (l : Loaded) : Type 0 where
+-- the image of a new state of an accepted plan, at its nominal speed
+pub record Newly (ts : List Task) (image : List ℕ) : Type 0 where
   pub good : FineList baseSpeeds (length ts) ts
-  pub state : stateOf l ≡ newState (nominalSpeed baseSpeeds ts) ts
-  pub count : l .count ≡ length ts
+  pub bytes : image ≡ encode (newState (nominalSpeed baseSpeeds ts) ts)
 
 pub newly :
     (p : Plan) →
     length (p .tasks) ≡ 16 →
     firstNo (judging baseSpeeds (p .count) (tasksOf p)) ≡ 0 →
-    (level speed : ℕ) (l : Loaded) →
+    (level speed : ℕ) (image : List ℕ) →
     level ≡ nominal baseSpeeds (tasksOf p) →
     speed ≡ speedOf baseSpeeds level →
-    NewFrom speed (tasksOf p) l →
-    Newly (tasksOf p) l
-newly p size ok level speed l e s new = record {
+    image ≡ encode (newState speed (tasksOf p)) →
+    Newly (tasksOf p) image
+newly p size ok level speed image e s new = record {
   good = plan-good p size ok;
-  state = new .state ∙ ap (λ (x : ℕ). newState x (tasksOf p)) (s ∙ ap (speedOf baseSpeeds) e);
-  count = new .count;
+  bytes = new ∙ ap (λ (x : ℕ). encode (newState x (tasksOf p))) (s ∙ ap (speedOf baseSpeeds) e);
 }
 
-module _ (ts : List Task) (l : Loaded) (new : Newly ts l) where
-  pub new-few : l .count ≤ 16
-  new-few = omega (arith, new .count, new .good .count-high)
+module _ (ts : List Task) (image : List ℕ) (new : Newly ts image) where
+  abbrev speed : ℕ
+  speed = nominalSpeed baseSpeeds ts
 
-  pub new-clock : l .clock .ticks ≡ 0
-  new-clock = ap (λ (s : State). s .clock) (new .state)
+  abbrev τ : Timing
+  τ = timing baseSpeeds ts
 
-  new-entry : (i : ℕ) → i < l .count → entryOf l i ≡ newEntry (timing baseSpeeds ts) ts i
-  new-entry i h =
-      sym (entry-is l i h)
-      ∙ ap (λ (s : State). getD (s .entries) i noEntry) (new .state)
-      ∙ getD-listTo (length ts) (newEntry (timing baseSpeeds ts) ts) i noEntry (omega (arith, new .count))
+  abbrev N : State
+  N = newState speed ts
 
-  pub new-periods : (i : ℕ) → i < l .count → (1 ≤ entryOf l i .period) × (entryOf l i .period ≤ 65535)
+  abbrev S : State
+  S = startState baseSpeeds ts
+
+  fine : Fine baseSpeeds ts S
+  fine = start-fine baseSpeeds ts (new .good) baseRising
+
+  start-storable : Storable S
+  start-storable = fine-storable baseSpeeds ts S (new .good) baseRising (omega arith) fine
+
+  entries-are : S .entries ≡ N .entries
+  entries-are = choose-entries baseSpeeds τ N
+
+  new-length : length (N .entries) ≡ length ts
+  new-length = length-listTo (length ts) (newEntry τ ts)
+
+  storable : Storable N
+  storable = record {
+    clock = omega arith;
+    task = omega arith;
+    level = omega arith;
+    count = omega (arith, new-length, new .good .count-high);
+    entries = subst (λ (es : List Entry). (i : ℕ) → i < length es → StorableEntry (getD es i noEntry)) entries-are (start-storable .entries);
+  }
+
+  -- it is read back
+  new-read : decode image ≡ N
+  new-read = ap decode (new .bytes) ∙ decode-encode N storable
+
+  new-back : encode (decode image) ≡ image
+  new-back = ap encode new-read ∙ sym (new .bytes)
+
+  new-tasks : getD image 6 0 ≡ length ts
+  new-tasks = ap (λ (l : List ℕ). getD l 6 0) (new .bytes) ∙ new-length
+
+  pub new-size : length image ≡ 200
+  new-size = ap length (new .bytes) ∙ length-encode N (storable .count)
+
+  new-holds : Holds image
+  new-holds = record { size = new-size; few = omega (arith, new-tasks, new .good .count-high) }
+
+  new-timing : timingIn image ≡ τ
+  new-timing =
+      ap (λ (s : State). timing baseSpeeds (planIn s)) new-read
+      ∙ ap (timing baseSpeeds) (sym (ap (λ (es : List Entry). map taskOf es) entries-are) ∙ fine .plan)
+
+  module _ (i : ℕ) (h : i < length ts) where
+    new-at : getD (decode image .entries) i noEntry ≡ newEntry τ ts i
+    new-at = ap (λ (s : State). getD (s .entries) i noEntry) new-read ∙ getD-listTo (length ts) (newEntry τ ts) i noEntry h
+
+    new-in : entryIn image i ≡ newEntry τ ts i
+    new-in = sym (entry-at image i (omega (arith, new-tasks))) ∙ new-at
+
+  pub new-periods : (i : ℕ) → i < length ts → 1 ≤ entryIn image i .period
   new-periods i h =
-      let k : i < length ts = omega (arith, new .count) in
-      let r = task-range baseSpeeds ts (new .good) baseRising i k in
-      subst (λ (e : Entry). (1 ≤ e .period) × (e .period ≤ 65535)) (sym (new-entry i h)) (r .period-low, r .period-high)
+      subst (λ (e : Entry). 1 ≤ e .period) (sym (new-in i h)) (task-range baseSpeeds ts (new .good) baseRising i h .period-low)
 
-  pub new-remaining : (i : ℕ) → i < l .count → entryOf l i .remaining ≤ 65535
-  new-remaining i h =
-      subst (λ (e : Entry). e .remaining ≤ 65535) (sym (new-entry i h))
-      (allotment-short baseSpeeds ts (new .good) baseRising i (omega (arith, new .count)))
+  -- every job can be done in its ticks at the top speed
+  new-doable : Doable (decode image)
+  new-doable i h =
+      let k : i < length ts = omega (arith, count-in image, new-tasks) in
+      let level : nominal baseSpeeds ts < 8 = new .good .tasks .admitted in
+      let worst : ℕ = getD ts i noTask .worst in
+      subst (λ (e : Entry). e .work ≤ e .remaining * 100) (sym (new-at i k))
+      (le-trans (need-covers speed worst (speed-positive (nominal baseSpeeds ts) speed level refl))
+      (mul-le-mul-left (need speed worst) (speed-most (nominal baseSpeeds ts) speed level refl)))
 
-  pub new-timed :
-      (t : Times) →
-      ((τ : Timing) → τ .count ≡ l .count → ((i : ℕ) → i < l .count → τ .period i ≡ entryOf l i .period) → Timed τ (l .clock .ticks) t) →
-      Timed (timing baseSpeeds ts) (l .clock .ticks) t
-  new-timed t f =
-      f (timing baseSpeeds ts) (sym (new .count)) (λ i h. sym (ap (λ (e : Entry). e .period) (new-entry i h)))
+  -- with the keys that are found
+  module _ (keys : List ℕ) (found : (i : ℕ) → i < length ts → getD keys i 0 ≡ keyOf (0 / entryIn image i .period * entryIn image i .period + entryIn image i .period) (entryIn image i .period) i) where
+    keyed : Keyed τ 0 keys
+    keyed = record {
+      few = new .good .count-high;
+      low = λ i h. task-range baseSpeeds ts (new .good) baseRising i h .period-low;
+      high = λ i h. task-range baseSpeeds ts (new .good) baseRising i h .period-high;
+      in-range = omega arith;
+      each = λ i h. found i h ∙ ap (λ (e : Entry). keyOf (0 / e .period * e .period + e .period) (e .period) i) (new-in i h);
+    }
 
--- the state that starting makes, with its times
-pub record Chosen (ts : List Task) (s : Loaded) (t : Times) : Type 0 where
-  pub good : FineList baseSpeeds (length ts) ts
-  pub state : stateOf s ≡ startState baseSpeeds ts
-  pub count : s .count ≡ length ts
-  pub timed : Timed (timing baseSpeeds ts) (s .clock .ticks) t
+    new-keyed : Keyed (timingIn image) (decode image .clock) keys
+    new-keyed =
+        subst (λ (x : Timing). Keyed x (decode image .clock) keys) (sym new-timing)
+        (subst (λ (t : ℕ). Keyed τ t keys) (sym (ap (λ (s : State). s .clock) new-read)) keyed)
 
-pub chosen :
-    (ts : List Task) (l s : Loaded) (t : Times) →
-    Newly ts l →
-    Timed (timing baseSpeeds ts) (l .clock .ticks) t →
-    stateOf s ≡ chooseOrder baseSpeeds (timing baseSpeeds ts) (stateOf l) →
-    s .clock ≡ l .clock →
-    s .count ≡ l .count →
-    Chosen ts s t
-chosen ts l s t new timed e clock count = record {
-  good = new .good;
-  state = e ∙ ap (chooseOrder baseSpeeds (timing baseSpeeds ts)) (new .state);
-  count = count ∙ new .count;
-  timed = subst (λ c. Timed (timing baseSpeeds ts) (c .ticks) t) (sym clock) timed;
-}
+    pub new-ready :
+        (Holds image × (1 ≤ getD image 6 0) × (encode (decode image) ≡ image) × Doable (decode image))
+        × Keyed (timingIn image) (decode image .clock) keys
+    new-ready = ((new-holds, omega (arith, new-tasks, new .good .count-low), new-back, new-doable), new-keyed)
 
-module _ (ts : List Task) (s : Loaded) (t : Times) (c : Chosen ts s t) where
-  fits : Fitting (timing baseSpeeds ts) (hyperperiod ts)
-  fits = plan-fits baseSpeeds ts (c .good) baseRising
+  -- the order that is chosen in it is that of the start
+  chosen-is : chooseOrder baseSpeeds (timingIn image) (decode image) ≡ S
+  chosen-is = ap₂ (λ (x : Timing) (s : State). chooseOrder baseSpeeds x s) new-timing new-read
 
-  periods : (i : ℕ) → i < s .count → 0 < timing baseSpeeds ts .period i
-  periods i h = fits .periods i (omega (arith, c .count))
-
-  fine : Fine baseSpeeds ts (stateOf s)
-  fine = subst (Fine baseSpeeds ts) (sym (c .state)) (start-fine baseSpeeds ts (c .good) baseRising)
-
-  storable : Storable (stateOf s)
-  storable = fine-storable baseSpeeds ts (stateOf s) (c .good) baseRising (omega arith) fine
-
-  pub chosen-few : s .count ≤ 16
-  chosen-few = omega (arith, c .count, c .good .count-high)
-
-  pub chosen-some : 1 ≤ s .count
-  chosen-some = omega (arith, c .count, c .good .count-low)
-
-  pub chosen-deadlines : (i : ℕ) → i < s .count → s .clock .ticks ≤ getD (t .deadline) i 0
-  chosen-deadlines = deadlines-after (timing baseSpeeds ts) s t (c .timed) (c .count) periods
-
-  pub chosen-fitted : Fitted s
-  chosen-fitted = record { task = storable .task; level = storable .level; count = chosen-few }
-
-  pub chosen-runs : (s .task ≡ 255 → ⊥) → (s .task < s .count) × (s .level < 8)
-  chosen-runs h = go (order-facts baseSpeeds (timing baseSpeeds ts) (nominal baseSpeeds ts) (stateOf s) (fine .order))
-    where
-      go : Ordered baseSpeeds (timing baseSpeeds ts) (nominal baseSpeeds ts) (stateOf s) → (s .task < s .count) × (s .level < 8)
-      go (idles a b z) = absurd (h a)
-      go (runs r) = (omega (arith, r .below, c .count), omega (arith, r .level, c .good .tasks .admitted))
-
-  -- the reply, from the next arrival and the hold that are found
-  pub chosen-reply :
-      (next hold : ℕ) (r : Reply) →
-      next ≡ leastTo (s .count) (λ i. getD (t .deadline) i 0 - s .clock .ticks) →
-      hold ≡ pick (eqb (s .task) 255) next (min (need (speedOf baseSpeeds (s .level)) (workOf (stateOf s) (s .task))) next) →
-      r ≡ orderWith (stateOf s) hold →
-      r ≡ startOrder baseSpeeds (startState baseSpeeds ts)
-  chosen-reply next hold r n h e =
-      let arrives : next ≡ nextArrival (timing baseSpeeds ts) (s .clock .ticks) =
-      n ∙ next-loaded (timing baseSpeeds ts) s t (c .timed) (c .count) chosen-some periods in
-      let held : hold ≡ holdOf baseSpeeds (timing baseSpeeds (planIn (stateOf s))) (stateOf s) =
-      h
-      ∙ ap (λ (x : ℕ). pick (eqb (s .task) 255) x (min (need (speedOf baseSpeeds (s .level)) (workOf (stateOf s) (s .task))) x)) arrives
-      ∙ sym (ap (λ (us : List Task). holdOf baseSpeeds (timing baseSpeeds us) (stateOf s)) (fine .plan)) in
+  pub new-reply :
+      (r : Reply) →
+      r
+      ≡ orderWith (chooseOrder baseSpeeds (timingIn image) (decode image))
+      (holdOf baseSpeeds (timingIn image) (chooseOrder baseSpeeds (timingIn image) (decode image))) →
+      r ≡ startOrder baseSpeeds S
+  new-reply r e =
       e
-      ∙ ap (orderWith (stateOf s)) held
-      ∙ ap (startOrder baseSpeeds) (c .state)
+      ∙ ap₂ (λ (x : Timing) (s : State). orderWith s (holdOf baseSpeeds x s)) new-timing chosen-is
+      ∙ sym (ap (λ (us : List Task). orderWith S (holdOf baseSpeeds (timing baseSpeeds us) S)) (fine .plan))
 
-  pub chosen-stored : (buffer m : List ℕ) → m ≡ encode (stateOf s) ++ drop 200 buffer → m ≡ storedBy 0 (encode (startState baseSpeeds ts)) buffer
-  chosen-stored buffer m e =
+  pub new-stored :
+      (buffer l m : List ℕ) →
+      l ≡ encode (chooseOrder baseSpeeds (timingIn image) (decode image)) →
+      m ≡ l ++ drop 200 buffer →
+      m ≡ storedBy 0 (encode S) buffer
+  new-stored buffer l m a e =
       e
-      ∙ ap (λ (n : ℕ). encode (stateOf s) ++ drop n buffer) (sym (length-encode (stateOf s) (storable .count)))
-      ∙ ap (λ (x : State). storedBy 0 (encode x) buffer) (c .state)
+      ∙ ap (λ (x : List ℕ). x ++ drop 200 buffer) (a ∙ ap encode chosen-is)
+      ∙ ap (λ (n : ℕ). encode S ++ drop n buffer) (sym (length-encode S (start-storable .count)))
 
 -- what a call leaves: a reply, and the bytes of the state
 abbrev pub Left : ℕ → Reply → List ℕ → List ℕ → Reply → List ℕ → Type 0

@@ -1,14 +1,13 @@
 -- A state that fits its block is read back from it, and a block that is laid out is what its own fields are written as.
 -- Assumes nothing.
 use Prim.Native.Nat.{ℕ, zero, suc, _+_, _-_, _*_, _^_, _<_, _≤_}
-use mathlib.Core.Path.{_≡_, refl, sym, subst, ap, ap₂, _∙_}
-use mathlib.Core.Bool.{Bool, true, false}
+use mathlib.Core.Path.{_≡_, refl, sym, subst, ap, ap₂}
+use mathlib.Core.Bool.{true}
 use mathlib.Core.List.{List, [], _∷_, _++_}
 use native.Mathlib.Omega.{arith}
 use borrow.Author.Tests.{eqb-true, eq-eqb}
 use lib.Dec.{T, eqb}
 use lib.ListN.{length, getD, drop, replicate, length-append, length-replicate}
-use Rattle.arith.specs.Digits.{number, digits}
 use Rattle.arith.proofs.Tests.{both-left, both-right, both-true}
 use Rattle.arith.proofs.DigitLaws.{number-digits}
 use Rattle.dispatcher.specs.declared.Entry.{Entry}
@@ -30,7 +29,7 @@ pub record Storable (s : State) : Type 0 where
   pub entries : (i : ℕ) → i < length (s .entries) → StorableEntry (getD (s .entries) i noEntry)
 
 -- an entry is read back
-entry-back : (e : Entry) (rest : List ℕ) → StorableEntry e → entryFrom (entryBytes e ++ rest) ≡ e
+pub entry-back : (e : Entry) (rest : List ℕ) → StorableEntry e → entryFrom (entryBytes e ++ rest) ≡ e
 entry-back e rest h =
     let bytes : List ℕ = entryBytes e ++ rest in
     λ i. record {

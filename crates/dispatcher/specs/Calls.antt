@@ -10,7 +10,7 @@ use Rattle.plan.specs.declared.Written.{Written}
 use Rattle.plan.specs.Blocks.{tasksIn}
 use Rattle.plan.specs.Questions.{firstNo}
 use Rattle.plan.specs.Answers.{writtenBy, storedBy}
-use Rattle.schedule.specs.PlainSchedule.{Timing, Pending, queueOf}
+use Rattle.schedule.specs.PlainSchedule.{Pending, queueOf}
 use Rattle.dispatcher.specs.declared.Reply.{Reply}
 use Rattle.dispatcher.specs.declared.Reply.the-variants as reply
 use Rattle.dispatcher.specs.StateBlock.{State, remainingOf, planIn, timing, encode, decode}

@@ -1,95 +1,120 @@
--- What the code holds in structs, as the definitions see it.
+-- What the code finds in a state's bytes and holds in its structs, as the definitions see it.
 -- Assumes nothing.
-use Prim.Native.Nat.{ℕ, zero, suc, _+_, _<_, _≤_}
+use Prim.Native.Nat.{ℕ, zero, suc, _+_, _-_, _*_, _/_, _<_, _≤_, min}
 use mathlib.Core.Path.{_≡_}
 use mathlib.Core.Bool.{Bool, true}
 use mathlib.Core.List.{List, [], _∷_, _++_}
 use lib.Dec.{leb, ltb, eqb}
-use lib.ListN.{length, take, drop, getD, replicate}
-use Rattle.arith.specs.Choice.{pick, both, lex}
+use lib.ListN.{length, take, drop, getD}
+use Rattle.arith.specs.Choice.{pick, both}
+use Rattle.arith.specs.Sum.{sumTo}
+use Rattle.arith.specs.Need.{need}
 use Rattle.arith.specs.Digits.{number, digits}
 use Rattle.schedule.specs.PlainSchedule.{Timing, latest, deadline}
 use Rattle.dispatcher.specs.declared.Entry.{Entry}
-use Rattle.dispatcher.specs.declared.Loaded.{Loaded}
-use Rattle.dispatcher.specs.declared.Times.{Times}
+use Rattle.dispatcher.specs.declared.Choice.{Choice}
 use Rattle.dispatcher.specs.declared.Ready.{Ready}
 use Rattle.dispatcher.specs.declared.Tested.{Tested}
-use Rattle.dispatcher.specs.declared.Outcome.{Outcome}
-use Rattle.dispatcher.specs.StateBlock.{State, noEntry, decode, planIn, timing, timingAt}
+use Rattle.dispatcher.specs.StateBlock.{State, noEntry, workOf, remainingOf, entryFrom, decode, planIn, timing, timingAt}
 use Rattle.dispatcher.specs.Orders.{nextArrival}
-use Rattle.dispatcher.specs.Passes.{listTo, newEntry, movedState, passedState, passedHold}
-use Rattle.dispatcher.specs.Questions.{largestClock, sound, stateSound, running, runningTime}
+use Rattle.dispatcher.specs.Passes.{listTo, newEntry}
+use Rattle.dispatcher.specs.Questions.{largestClock, sound, running, runningTime}
 use Rattle.plan.specs.Questions.{Question, ask}
 use Rattle.plan.specs.Levels.{baseSpeeds, nominal}
 use Rattle.plan.specs.declared.Task.{Task}
 
--- the state that a loaded one is
-abbrev pub stateOf : Loaded → State
-stateOf l = record {
-  clock = l .clock .ticks;
-  task = l .task;
-  level = l .level;
-  entries = take (l .count) (l .entries);
-}
+-- bytes that may hold a state: 200 of them, of at most 16 tasks
+pub record Holds (bytes : List ℕ) : Type 0 where
+  pub size : length bytes ≡ 200
+  pub few : getD bytes 6 0 ≤ 16
 
--- what can be stored: a task and a level of one byte each, and at most 16 entries
-pub record Fitted (l : Loaded) : Type 0 where
-  pub task : l .task < 256
-  pub level : l .level < 256
-  pub count : l .count ≤ 16
-
--- a state loaded from a block's bytes: its first eight bytes with blank entries, and all of it
-pub record HeaderFrom (bytes : List ℕ) (l : Loaded) : Type 0 where
-  pub clock : l .clock .ticks ≡ number 256 4 bytes
-  pub task : l .task ≡ getD bytes 4 0
-  pub level : l .level ≡ getD bytes 5 0
-  pub count : l .count ≡ getD bytes 6 0
-  pub entries : l .entries ≡ replicate 16 noEntry
-
-pub record LoadedFrom (bytes : List ℕ) (l : Loaded) : Type 0 where
-  pub state : stateOf l ≡ decode bytes
-  pub count : l .count ≤ 16
+-- entry i of a block
+abbrev pub entryIn : List ℕ → ℕ → Entry
+entryIn bytes i = entryFrom (drop (8 + 12 * i) bytes)
 
 -- whether the two bytes past the fields of each of n entries are zero
 abbrev pub pairsZero : ℕ → List ℕ → Bool
 pairsZero zero bytes = true
 pairsZero (suc n) bytes = both (eqb (number 256 2 (drop 10 bytes)) 0) (pairsZero n (drop 12 bytes))
 
--- entry i of the array
-abbrev pub entryOf : Loaded → ℕ → Entry
-entryOf l i = getD (l .entries) i noEntry
+-- what the plain schedule sees of the plan in a block, at 01's speeds
+abbrev pub timingIn : List ℕ → Timing
+timingIn bytes = timing baseSpeeds (planIn (decode bytes))
 
--- the times of a schedule at a clock: of each task the arrival of its latest job, and that job's deadline
-pub record Timed (τ : Timing) (clock : ℕ) (times : Times) : Type 0 where
-  pub count : times .count ≡ τ .count
+-- a function with another value at one place
+abbrev pub changed : (ℕ → ℕ) → ℕ → ℕ → ℕ → ℕ
+changed f i x j = pick (eqb j i) x (f j)
+
+-- the same state with other work and other plain ticks left for each task
+abbrev pub withJobs : State → (ℕ → ℕ) → (ℕ → ℕ) → State
+withJobs s work remaining = record {
+  clock = s .clock;
+  task = s .task;
+  level = s .level;
+  entries = listTo (length (s .entries))
+      (λ i. record {
+        period = getD (s .entries) i noEntry .period;
+        worst = getD (s .entries) i noEntry .worst;
+        work = work i;
+        remaining = remaining i;
+      });
+}
+
+-- the same state at another clock
+abbrev pub withClock : State → ℕ → State
+withClock s clock = record { clock = clock; task = s .task; level = s .level; entries = s .entries }
+
+-- A job's urgency as one number, its key: the deadline, then 65,535 less the period, then the task. The lower is the more urgent, since
+-- of two jobs with one deadline that of the longer period arrived earlier.
+abbrev pub keyOf : ℕ → ℕ → ℕ → ℕ
+keyOf due period i = due * 1048576 + ((65535 - period) * 16 + i)
+
+-- more than any key
+abbrev pub noKey : ℕ
+noKey = 4503599627370496
+
+-- the deadline in a key
+abbrev pub deadlineIn : ℕ → ℕ
+deadlineIn key = key / 1048576
+
+-- the keys of the latest jobs of a schedule's tasks at a clock
+pub record Keyed (τ : Timing) (now : ℕ) (keys : List ℕ) : Type 0 where
   pub few : τ .count ≤ 16
-  pub arrivals : (i : ℕ) → i < τ .count → getD (times .arrival) i 0 ≡ latest τ clock i .arrival
-  pub deadlines : (i : ℕ) → i < τ .count → getD (times .deadline) i 0 ≡ deadline τ (latest τ clock i)
+  pub low : (i : ℕ) → i < τ .count → 1 ≤ τ .period i
+  pub high : (i : ℕ) → i < τ .count → τ .period i ≤ 65535
+  pub in-range : now ≤ largestClock
+  pub each : (i : ℕ) → i < τ .count → getD keys i 0 ≡ keyOf (deadline τ (latest τ now i)) (τ .period i) i
 
--- the urgency order, by such times
-abbrev pub urgentBy : Times → ℕ → ℕ → Bool
-urgentBy times i j =
-    lex (getD (times .deadline) i 0) (getD (times .deadline) j 0)
-    (lex (getD (times .arrival) i 0) (getD (times .arrival) j 0) (ltb i j))
+-- whether task i's job is more urgent than task j's, by their keys
+abbrev pub urgentBy : List ℕ → ℕ → ℕ → Bool
+urgentBy keys i j = ltb (getD keys i 0) (getD keys j 0)
 
--- the most urgent of the tasks below n that have work left, or 255
-abbrev pub better : Loaded → Times → ℕ → ℕ → ℕ
-better l times best i =
-    pick (eqb (entryOf l i .work) 0) best (pick (eqb best 255) i (pick (urgentBy times best i) best i))
+-- the least key of the tasks below n that have something left
+abbrev pub leastKey : List ℕ → (ℕ → ℕ) → ℕ → ℕ
+leastKey keys left zero = noKey
+leastKey keys left (suc i) = pick (eqb (left i) 0) (leastKey keys left i) (min (leastKey keys left i) (getD keys i 0))
 
-abbrev pub bestTo : Loaded → Times → ℕ → ℕ
-bestTo l times zero = 255
-bestTo l times (suc i) = better l times (bestTo l times i) i
+-- the number of some bytes at the same place of entry i, counted from the front of the block
+abbrev pub fieldIn : List ℕ → ℕ → ℕ → ℕ → ℕ
+fieldIn bytes at n i = number 256 n (drop (at + 12 * i) bytes)
+
+-- the plain ticks left, of n tasks, of all jobs at least as urgent as one with a key
+abbrev pub allowedBy : List ℕ → (ℕ → ℕ) → ℕ → ℕ → ℕ
+allowedBy keys left n key = sumTo n (λ j. pick (ltb key (getD keys j 0)) 0 (left j))
+
+-- what d ticks leave of task i's plain ticks, of n tasks: those past what all more urgent jobs take
+abbrev pub drainedBy : List ℕ → (ℕ → ℕ) → ℕ → ℕ → ℕ → ℕ
+drainedBy keys left n d i = left i - (d - sumTo n (λ j. pick (urgentBy keys j i) (left j) 0))
 
 -- task i takes its place among others: behind every more urgent one
-abbrev pub placed : Times → ℕ → List ℕ → List ℕ
-placed times i [] = i ∷ []
-placed times i (k ∷ q) = pick (urgentBy times k i) (k ∷ placed times i q) (i ∷ k ∷ q)
+abbrev pub placed : List ℕ → ℕ → List ℕ → List ℕ
+placed keys i [] = i ∷ []
+placed keys i (k ∷ q) = pick (urgentBy keys k i) (k ∷ placed keys i q) (i ∷ k ∷ q)
 
--- the tasks below n that have plain ticks left, most urgent first
-abbrev pub readyTo : Loaded → Times → ℕ → List ℕ
-readyTo l times zero = []
-readyTo l times (suc i) = pick (eqb (entryOf l i .remaining) 0) (readyTo l times i) (placed times i (readyTo l times i))
+-- the tasks below n that have something left, most urgent first
+abbrev pub readyTo : List ℕ → (ℕ → ℕ) → ℕ → List ℕ
+readyTo keys left zero = []
+readyTo keys left (suc i) = pick (eqb (left i) 0) (readyTo keys left i) (placed keys i (readyTo keys left i))
 
 -- a list of tasks in an array
 pub record Listed (q : List ℕ) (r : Ready) : Type 0 where
@@ -111,27 +136,32 @@ newState speed ts = record {
   entries = listTo (length ts) (newEntry (timingAt speed ts) ts);
 }
 
--- a loaded state that is new
-pub record NewFrom (speed : ℕ) (ts : List Task) (l : Loaded) : Type 0 where
-  pub state : stateOf l ≡ newState speed ts
-  pub count : l .count ≡ length ts
+-- an order that stands in a state, with the time needed of the job that it runs
+pub record OrderIn (s : State) (c : Choice) : Type 0 where
+  pub task : c .task ≡ s .task
+  pub level : c .level ≡ s .level
+  pub time : (c .task ≡ 255 → ⊥) → c .time ≡ runningTime baseSpeeds s
 
--- what the plain schedule sees of a loaded state's plan, at 01's speeds
-abbrev pub timingOf : Loaded → Timing
-timingOf l = timing baseSpeeds (planIn (stateOf l))
+-- the order of a state is to stay idle, or runs one of its tasks at one of the eight levels
+pub record Runnable (s : State) : Type 0 where
+  pub task : (s .task ≡ 255 → ⊥) → s .task < length (s .entries)
+  pub level : (s .task ≡ 255 → ⊥) → s .level < 8
 
--- a loaded state that is sound, with its times and its nominal level
-pub record Good (l : Loaded) (times : Times) (highest : ℕ) : Type 0 where
-  pub sound : stateSound baseSpeeds (stateOf l) ≡ true
-  pub count : l .count ≤ 16
-  pub timed : Timed (timingOf l) (l .clock .ticks) times
-  pub nominal : highest ≡ nominal baseSpeeds (planIn (stateOf l))
+-- every job's work can be done in its plain ticks left at the top speed
+abbrev pub Doable : State → Type 0
+Doable s = (i : ℕ) → i < length (s .entries) → workOf s i ≤ remainingOf s i * 100
 
--- what testing a block finds: whether it is sound and, if so, what it holds
+-- a block that is sound, with its keys and its nominal level
+pub record Good (bytes keys : List ℕ) (highest : ℕ) : Type 0 where
+  pub sound : sound baseSpeeds bytes ≡ true
+  pub holds : Holds bytes
+  pub keyed : Keyed (timingIn bytes) (decode bytes .clock) keys
+  pub nominal : highest ≡ nominal baseSpeeds (planIn (decode bytes))
+
+-- what testing a block finds: whether it is sound and, if so, its keys and its nominal level
 pub record TestedAs (bytes : List ℕ) (r : Tested) : Type 0 where
   pub sound : r .sound ≡ sound baseSpeeds bytes
-  pub state : r .sound ≡ true → stateOf (r .state) ≡ decode bytes
-  pub good : r .sound ≡ true → Good (r .state) (r .times) (r .nominal)
+  pub good : r .sound ≡ true → Good bytes (r .keys) (r .nominal)
 
 -- the questions 13 and 14 of a pass
 abbrev pub finishQuestions : State → ℕ → Bool → List Question
@@ -140,22 +170,20 @@ finishQuestions s d finished =
     ∷ ask 14 (pick (running s) (pick finished (leb d (runningTime baseSpeeds s)) (ltb d (runningTime baseSpeeds s))) true)
     ∷ []
 
--- d ticks that may pass from a sound state with its times: some, at most up to the next arrival, and within the largest clock
-pub record Stepping (l : Loaded) (times : Times) (d : ℕ) : Type 0 where
-  pub sound : stateSound baseSpeeds (stateOf l) ≡ true
-  pub count : l .count ≤ 16
-  pub timed : Timed (timingOf l) (l .clock .ticks) times
+-- d ticks that may pass from a sound block with its keys: some, at most up to the next arrival, and within the largest clock
+pub record Stepping (bytes keys : List ℕ) (highest d : ℕ) : Type 0 where
+  pub good : Good bytes keys highest
   pub some : 1 ≤ d
-  pub within : d ≤ nextArrival (timingOf l) (l .clock .ticks)
-  pub clock : l .clock .ticks + d ≤ largestClock
+  pub within : d ≤ nextArrival (timingIn bytes) (decode bytes .clock)
+  pub clock : decode bytes .clock + d ≤ largestClock
 
--- the state that these ticks make of one, before an order is chosen
-pub record MovedAs (l : Loaded) (d : ℕ) (finished : Bool) (r : Loaded) : Type 0 where
-  pub state : stateOf r ≡ movedState baseSpeeds (timingOf l) (stateOf l) d finished
-  pub count : r .count ≡ l .count
+-- whether a key's job has its deadline at a clock
+abbrev pub dueAt : List ℕ → ℕ → ℕ → Bool
+dueAt keys clock i = eqb (deadlineIn (getD keys i 0)) clock
 
--- what a pass makes of a state: the state after it, and the hold of its order
-pub record PassedAs (l : Loaded) (d : ℕ) (finished : Bool) (r : Outcome) : Type 0 where
-  pub state : stateOf (r .state) ≡ passedState baseSpeeds (timingOf l) (stateOf l) d finished
-  pub hold : r .hold ≡ passedHold baseSpeeds (timingOf l) (stateOf l) d finished
-  pub fitted : Fitted (r .state)
+-- the state in which each task whose deadline is the clock has a new job at a speed
+abbrev pub arrivedState : List ℕ → ℕ → ℕ → State → State
+arrivedState keys clock speed s =
+    withJobs s
+    (λ i. pick (dueAt keys clock i) (getD (s .entries) i noEntry .worst) (workOf s i))
+    (λ i. pick (dueAt keys clock i) (need speed (getD (s .entries) i noEntry .worst)) (remainingOf s i))

@@ -1,14 +1,13 @@
 -- 01, "Orders and passes": which order is chosen. A job's work, remaining ticks and urgency are given by task number.
 -- Assumes nothing.
 use Prim.Native.Nat.{ℕ, zero, suc, _-_, _%_, min}
-use mathlib.Core.Bool.{Bool}
 use mathlib.Core.List.{List, [], _∷_}
 use lib.Dec.{leb, eqb}
 use Rattle.arith.specs.Choice.{pick, first}
 use Rattle.arith.specs.Sum.{sumTo}
 use Rattle.arith.specs.Need.{need}
 use Rattle.plan.specs.Levels.{speedOf}
-use Rattle.schedule.specs.PlainSchedule.{Timing, Pending, deadline, moreUrgent, latest, queueOf}
+use Rattle.schedule.specs.PlainSchedule.{Timing, Pending, moreUrgent, latest, queueOf}
 use Rattle.dispatcher.specs.declared.Reply.{Reply}
 use Rattle.dispatcher.specs.declared.Reply.the-variants as reply
 use Rattle.dispatcher.specs.StateBlock.{State, workOf, remainingOf}

@@ -1,13 +1,13 @@
 -- What is promised of the dispatcher as a whole, each as a type that a proof has.
 -- Assumes nothing.
-use Prim.Native.Nat.{ℕ, _+_, _≤_, _<_}
+use Prim.Native.Nat.{ℕ, _+_, _≤_}
 use mathlib.Core.Path.{_≡_}
-use mathlib.Core.Bool.{Bool, true}
+use mathlib.Core.Bool.{true}
 use mathlib.Core.List.{List, [], _∷_}
 use lib.Dec.{eqb}
 use lib.ListN.{length}
 use Rattle.plan.specs.Blocks.{tasksIn}
-use Rattle.schedule.specs.PlainSchedule.{Timing, Job, Pending, Book, deadline, opened}
+use Rattle.schedule.specs.PlainSchedule.{Timing, Job, Book, deadline, opened}
 use Rattle.schedule.specs.Feasibility.{In}
 use Rattle.dispatcher.specs.declared.Reply.{Reply}
 use Rattle.dispatcher.specs.declared.Reply.the-variants as reply

@@ -1,12 +1,12 @@
 -- 01, "The run in demand 3": a list of passes, the replies to them, and the two books, which take nothing from the state block.
 -- Assumes nothing.
-use Prim.Native.Nat.{ℕ, _+_, _*_, _%_, _≤_, _<_}
+use Prim.Native.Nat.{ℕ, _+_, _%_, _≤_, _<_}
 use mathlib.Core.Path.{_≡_}
 use mathlib.Core.Bool.{Bool}
 use mathlib.Core.List.{List, [], _∷_}
 use lib.ListN.{take}
 use Rattle.arith.specs.Choice.{pick}
-use Rattle.schedule.specs.PlainSchedule.{Timing, Job, Pending, Book, latest, opened, after}
+use Rattle.schedule.specs.PlainSchedule.{Timing, Job, Book, latest, after}
 use Rattle.dispatcher.specs.declared.Reply.{Reply}
 use Rattle.dispatcher.specs.declared.Reply.the-variants as reply
 use Rattle.dispatcher.specs.Calls.{startBuffer, passReply, passBytes}

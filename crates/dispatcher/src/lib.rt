@@ -1,4 +1,4 @@
-// The dispatcher: the state block, orders and passes.
+// The dispatcher: the state block, orders and passes. A state is read and changed in its bytes; nothing of it is copied.
 pub mod clock;
 pub mod entries;
 pub mod image;
@@ -9,8 +9,6 @@ pub mod show;
 pub mod sound;
 pub mod start;
 pub mod urgency;
-
-use crate::clock::Clock;
 
 // A task's entry in the state: its plan, the work left of its job and the remaining ticks of that job in the plain schedule.
 pub struct Entry {
@@ -27,20 +25,11 @@ pub enum Reply {
     Refused(u32),
 }
 
-// A state that was loaded from its block: the first `count` entries are the tasks'.
-pub struct Loaded {
-    pub clock: Clock,
+// An order without its hold: the task (255 for idle), the level, and the time that the work left needs there.
+pub struct Choice {
     pub task: u32,
     pub level: u32,
-    pub count: usize,
-    pub entries: [Entry; 16],
-}
-
-// When each task's latest job arrived, and its deadline.
-pub struct Times {
-    pub count: usize,
-    pub arrival: [u32; 16],
-    pub deadline: [u32; 16],
+    pub time: u32,
 }
 
 // The tasks that have remaining ticks, most urgent first: the first `len` of the array.
@@ -49,16 +38,9 @@ pub struct Ready {
     pub tasks: [u8; 16],
 }
 
-// A block that was tested: whether it is sound and, if so, the state in it, its times and its nominal level.
+// A block that was tested: whether it is sound and, if so, its nominal level and the keys of its jobs.
 pub struct Tested {
     pub sound: bool,
-    pub nominal: u32,
-    pub state: Loaded,
-    pub times: Times,
-}
-
-// A state that a pass has made, and the hold of its order.
-pub struct Outcome {
-    pub state: Loaded,
-    pub hold: u32,
+    pub nominal: usize,
+    pub keys: [u64; 16],
 }

@@ -1,93 +1,144 @@
 // Choosing an order: the task, the level and the hold.
-use crate::Loaded;
+use crate::Choice;
 use crate::Reply;
-use crate::Times;
+use crate::image::clock_at;
+use crate::image::count_at;
+use crate::image::work_at;
+use crate::urgency::NO_KEY;
 use crate::urgency::allowance_of;
 use crate::urgency::most_urgent;
+use crate::urgency::next_arrival;
+use crate::urgency::task_in;
 ghost use mathlib.Core.Path.{_≡_};
-ghost use Prim.Native.Nat.{ℕ, _<_, _≤_, min};
+ghost use Prim.Native.Nat.{_<_, _≤_, min};
 ghost use lib.Dec.{eqb};
+ghost use lib.ListN.{length, getD};
+ghost use lib.Seq.{sets};
 ghost use Rattle.arith.specs.Choice.{pick};
-ghost use Rattle.plan.specs.Levels.{baseSpeeds};
-ghost use Rattle.schedule.specs.PlainSchedule.{Timing};
-ghost use Rattle.dispatcher.specs.Orders.{lowestLevel, chooseOrder, orderWith};
-ghost use Rattle.dispatcher.specs.Questions.{runningTime};
-ghost use Rattle.dispatcher.specs.Code.{stateOf, entryOf, Timed};
+ghost use Rattle.arith.specs.Need.{need};
+ghost use Rattle.arith.specs.Digits.{digits};
+ghost use Rattle.plan.specs.Levels.{baseSpeeds, speedOf};
+ghost use Rattle.dispatcher.specs.StateBlock.{State, encode, decode};
+ghost use Rattle.dispatcher.specs.Orders.{lowestLevel, holdOf, chooseOrder, orderWith};
+ghost use Rattle.dispatcher.specs.Code.{Holds, timingIn, Keyed, OrderIn, Runnable, Doable};
 
-// The lowest level at which the work needs no more than is allowed, or 8. A faster level never needs more, so the table is halved.
-pub fn level_for(work: u32, allowed: u32) -> u32
-    ensures { λ r. ⌜ r ≡ lowestLevel baseSpeeds work allowed ⌝ }
+// The lowest level at which the work needs no more than is allowed, or 8: at which the ticks that are allowed do the work. A faster
+// level does no less, so the table is halved.
+pub fn level_for(work: u32, allowed: u32) -> usize
+    requires { ⌜ allowed ≤ 1048560 ⌝ }
+    ensures { λ r. ⌜ (r ≡ lowestLevel baseSpeeds work allowed) × (r ≤ 8) ⌝ }
 {
     let mut low: usize = 0;
     let mut high: usize = 8;
     while low < high {
         let middle = (low + high) / 2;
         let speed = plan::judging::speed_of(middle);
-        if arith::time_needed(speed, work) <= allowed {
+        if work <= speed * allowed {
             high = middle;
         } else {
             low = middle + 1;
         }
     }
-    low as u32
+    low
 }
 
-// The same state with the order that is chosen in it.
-pub fn choose(l: Loaded, t: Times) -> Loaded
-    requires { ⌜ l .count ≤ 16 ⌝ }
-    requires { ⌜ ((j : ℕ) → j < l .count → entryOf l j .remaining ≤ 65535) ⌝ }
-    ensures { λ r. ⌜ ((τ : Timing) → τ .count ≡ l .count → Timed τ (l .clock .ticks) t → stateOf r ≡ chooseOrder baseSpeeds τ (stateOf l)) ⌝ }
-    ensures { λ r. ⌜ (r .clock ≡ l .clock) × (r .count ≡ l .count) × (r .entries ≡ l .entries) ⌝ }
+// A run order of task i, with the time that the work needs.
+fn running_order(i: usize, level: usize, work: u32) -> Choice
+    requires { ⌜ (i < 16) × (level < 8) ⌝ }
+    ensures { λ r. ⌜ (r .task ≡ i) × (r .level ≡ level) × (r .time ≡ need (speedOf baseSpeeds level) work) ⌝ }
 {
-    let x = most_urgent(l, t);
-    let mut r = l;
-    r.task = x;
-    if x == 255 {
-        r.level = 0;
-        return r;
+    let speed = plan::judging::speed_of(level);
+    Choice {
+        task: i as u32,
+        level: level as u32,
+        time: arith::time_needed(speed, work),
     }
-    let i = x as usize;
-    let e = l.entries[i];
-    r.level = level_for(e.work, allowance_of(l, t, i));
-    r
 }
 
-// The time that the running job's work left needs at the order's level.
-pub fn running_time(l: Loaded) -> u32
-    requires { ⌜ (l .count ≤ 16) × (l .task < l .count) × (l .level < 8) ⌝ }
-    ensures { λ r. ⌜ r ≡ runningTime baseSpeeds (stateOf l) ⌝ }
+// The order that is chosen in a state.
+pub fn chosen(block: &[u8], keys: &[u64; 16], count: usize) -> Choice
+    requires { ⌜ Holds (now block) × (count ≡ getD (now block) 6 0) × Doable (decode (now block)) ⌝ }
+    requires { ⌜ Keyed (timingIn (now block)) (decode (now block) .clock) (now keys) ⌝ }
+    ensures { λ r. ⌜ OrderIn (chooseOrder baseSpeeds (timingIn (now (block .entry))) (decode (now (block .entry)))) r ⌝ }
+    ensures { λ r. ⌜ (r .task < 256) × (r .level < 256) ⌝ }
 {
-    let i = l.task as usize;
-    let e = l.entries[i];
-    let speed = plan::judging::speed_of(l.level as usize);
-    arith::time_needed(speed, e.work)
+    let best = most_urgent(block, keys, count, 13, 3);
+    if best == NO_KEY {
+        return Choice {
+            task: 255,
+            level: 0,
+            time: 0,
+        };
+    }
+    let i = task_in(best);
+    let work = work_at(block, i);
+    let level = level_for(work, allowance_of(block, keys, count, best));
+    running_order(i, level, work)
 }
 
-// The hold of the order that stands, where the next arrival is so many ticks away.
-pub fn hold_of(l: Loaded, next: u32) -> u32
-    requires { ⌜ (l .count ≤ 16) × ((l .task ≡ 255 → ⊥) → (l .task < l .count) × (l .level < 8)) ⌝ }
-    ensures { λ r. ⌜ r ≡ pick (eqb (l .task) 255) next (min (runningTime baseSpeeds (stateOf l)) next) ⌝ }
+// The order that stands in a state.
+pub fn standing(block: &[u8]) -> Choice
+    requires { ⌜ Holds (now block) × Runnable (decode (now block)) ⌝ }
+    ensures { λ r. ⌜ OrderIn (decode (now (block .entry))) r ⌝ }
 {
-    if l.task == 255 {
+    let task = block[4] as usize;
+    let level = block[5] as usize;
+    if task == 255 {
+        return Choice {
+            task: 255,
+            level: level as u32,
+            time: 0,
+        };
+    }
+    running_order(task, level, work_at(block, task))
+}
+
+// Stores an order.
+pub fn put_order(block: &mut [u8], c: Choice)
+    requires { ⌜ length (now block) ≡ 200 ⌝ }
+    ensures { λ _. ⌜ now (block .exit) ≡ sets (sets (now (block .entry)) 4 (digits 256 1 (c .task))) 5 (digits 256 1 (c .level)) ⌝ }
+{
+    arith::put_number(block, 4, 1, c.task);
+    arith::put_number(block, 5, 1, c.level);
+}
+
+// The hold of an order, where the next arrival is so many ticks away.
+pub fn hold_of(c: Choice, next: u32) -> u32
+    ensures { λ r. ⌜ r ≡ pick (eqb (c .task) 255) next (min (c .time) next) ⌝ }
+{
+    if c.task == 255 {
         return next;
     }
-    let time = running_time(l);
-    if time < next {
-        return time;
+    if c.time < next {
+        return c.time;
     }
     next
 }
 
-// The order that stands, with a hold.
-pub fn order_of(l: Loaded, hold: u32) -> Reply
-    ensures { λ r. ⌜ r ≡ orderWith (stateOf l) hold ⌝ }
+// An order, with a hold.
+pub fn order_of(c: Choice, hold: u32) -> Reply
+    ensures { λ r. ⌜ ((s : State) → c .task ≡ s .task → c .level ≡ s .level → r ≡ orderWith s hold) ⌝ }
 {
-    if l.task == 255 {
+    if c.task == 255 {
         return Reply::Idle { hold };
     }
     Reply::Run {
-        task: l.task,
-        level: l.level,
+        task: c.task,
+        level: c.level,
         hold,
     }
+}
+
+// Chooses an order, stores it, and answers it with its hold.
+pub fn choose(block: &mut [u8], keys: &[u64; 16]) -> Reply
+    requires { ⌜ Holds (now block) × (1 ≤ getD (now block) 6 0) × (encode (decode (now block)) ≡ now block) × Doable (decode (now block)) ⌝ }
+    requires { ⌜ Keyed (timingIn (now block)) (decode (now block) .clock) (now keys) ⌝ }
+    ensures { λ r. ⌜ r ≡ orderWith (chooseOrder baseSpeeds (timingIn (now (block .entry))) (decode (now (block .entry)))) (holdOf baseSpeeds (timingIn (now (block .entry))) (chooseOrder baseSpeeds (timingIn (now (block .entry))) (decode (now (block .entry))))) ⌝ }
+    ensures { λ _. ⌜ now (block .exit) ≡ encode (chooseOrder baseSpeeds (timingIn (now (block .entry))) (decode (now (block .entry)))) ⌝ }
+{
+    let count = count_at(block);
+    let next = next_arrival(keys, count, clock_at(block));
+    let c = chosen(block, keys, count);
+    put_order(block, c);
+    order_of(c, hold_of(c, next))
 }

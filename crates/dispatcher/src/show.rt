@@ -1,6 +1,7 @@
 // Showing the queue: the tasks that have remaining ticks, most urgent first.
-use crate::Loaded;
 use crate::Ready;
+use crate::image::count_at;
+use crate::image::remaining_at;
 use crate::sound::test_block;
 use crate::urgency::ready;
 use plan::Written;
@@ -10,21 +11,21 @@ ghost use Prim.Native.Nat.{ℕ, _*_, _<_, _≤_};
 ghost use lib.ListN.{length, getD, take, drop};
 ghost use Rattle.plan.specs.Levels.{baseSpeeds};
 ghost use Rattle.dispatcher.specs.Calls.{showReply, showBuffer};
-ghost use Rattle.dispatcher.specs.Code.{entryOf, tasksBytes};
+ghost use Rattle.dispatcher.specs.Code.{entryIn, tasksBytes};
 
 // Stores three bytes for each task of a list: its number, then its remaining ticks.
-fn put_queue(buffer: &mut [u8], l: Loaded, q: Ready)
-    requires { ⌜ (q .len ≤ 16) × (3 * q .len ≤ length (now buffer)) ⌝ }
+fn put_queue(buffer: &mut [u8], state: &[u8], q: Ready)
+    requires { ⌜ (length (now state) ≡ 200) × (q .len ≤ 16) × (3 * q .len ≤ length (now buffer)) ⌝ }
     requires { ⌜ ((k : ℕ) → k < q .len → getD (q .tasks) k 0 < 16) ⌝ }
-    ensures { λ _. ⌜ now (buffer .exit) ≡ tasksBytes (λ i. entryOf l i .remaining) (take (q .len) (q .tasks)) ++ drop (3 * q .len) (now (buffer .entry)) ⌝ }
+    ensures { λ _. ⌜ now (buffer .exit) ≡ tasksBytes (λ i. entryIn (now (state .entry)) i .remaining) (take (q .len) (q .tasks)) ++ drop (3 * q .len) (now (buffer .entry)) ⌝ }
 {
     let len = q.len;
     let mut k: usize = 0;
     while k < len {
         let task = q.tasks[k];
-        let e = l.entries[task as usize];
         buffer[3 * k] = task;
-        arith::put_number(buffer, 3 * k + 1, 2, e.remaining);
+        let left = remaining_at(state, task as usize);
+        arith::put_number(buffer, 3 * k + 1, 2, left);
         k += 1;
     }
 }
@@ -38,12 +39,12 @@ pub fn show(state: &[u8], buffer: &mut [u8]) -> Written
     if !tested.sound {
         return Written::Refused(10);
     }
-    let l = tested.state;
-    let q = ready(l, tested.times);
+    let keys = tested.keys;
+    let q = ready(state, &keys, count_at(state));
     let wanted = 3 * q.len;
     if buffer.len() < wanted {
         return Written::Refused(9);
     }
-    put_queue(buffer, l, q);
+    put_queue(buffer, state, q);
     Written::Bytes(wanted)
 }

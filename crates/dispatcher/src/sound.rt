@@ -1,74 +1,77 @@
 // Whether a state block is sound.
-use crate::Entry;
-use crate::Loaded;
 use crate::Tested;
-use crate::Times;
 use crate::clock::Clock;
+use crate::image::clock_at;
 use crate::image::laid_out;
-use crate::image::load;
+use crate::image::period_at;
+use crate::image::remaining_at;
+use crate::image::work_at;
+use crate::image::worst_at;
+use crate::urgency::NO_KEY;
 use crate::urgency::allowance_of;
+use crate::urgency::keys_of;
 use crate::urgency::most_urgent;
-use crate::urgency::times_of;
+use crate::urgency::task_in;
 use plan::Plan;
 use plan::Task;
 use plan::Verdict;
 ghost use mathlib.Core.Path.{_≡_};
 ghost use mathlib.Core.Bool.{true, false};
-ghost use Prim.Native.Nat.{ℕ, _<_, _≤_};
+ghost use Prim.Native.Nat.{_<_, _≤_};
+ghost use lib.ListN.{length, getD};
 ghost use Rattle.arith.specs.Choice.{every};
 ghost use Rattle.plan.specs.Levels.{baseSpeeds, nominal};
 ghost use Rattle.plan.specs.Questions.{firstNo, taskQuestions};
 ghost use Rattle.plan.specs.Blocks.{tasksOf};
-ghost use Rattle.dispatcher.specs.StateBlock.{planIn};
+ghost use Rattle.dispatcher.specs.StateBlock.{planIn, decode};
 ghost use Rattle.dispatcher.specs.Orders.{openJobs};
 ghost use Rattle.dispatcher.specs.Questions.{largestClock, entrySound, orderSound, stateSound};
-ghost use Rattle.dispatcher.specs.Code.{stateOf, entryOf, Timed, timingOf, Good, TestedAs};
+ghost use Rattle.dispatcher.specs.Code.{Holds, entryIn, timingIn, Keyed, TestedAs};
 
-// The plan in a loaded state.
-pub fn plan_of(l: Loaded) -> Plan
-    requires { ⌜ l .count ≤ 16 ⌝ }
-    ensures { λ r. ⌜ (r .count ≡ l .count) × (tasksOf r ≡ planIn (stateOf l)) ⌝ }
+// The plan in a block.
+fn plan_of(block: &[u8], count: usize) -> Plan
+    requires { ⌜ Holds (now block) × (count ≡ getD (now block) 6 0) ⌝ }
+    ensures { λ r. ⌜ (r .count ≡ count) × (tasksOf r ≡ planIn (decode (now (block .entry)))) ⌝ }
 {
-    let count = l.count;
     let mut p = plan::judging::empty_plan();
     p.count = count;
     let mut i: usize = 0;
     while i < count {
-        let e = l.entries[i];
-        let t = Task {
-            period: e.period,
-            worst: e.worst,
+        p.tasks[i] = Task {
+            period: period_at(block, i),
+            worst: worst_at(block, i),
         };
-        p.tasks[i] = t;
         i += 1;
     }
     p
 }
 
-// Whether an entry's work and remaining ticks are sound, at the nominal speed.
-fn entry_sound(e: Entry, speed: u32) -> bool
-    requires { ⌜ 0 < speed ⌝ }
-    ensures { λ r. ⌜ r ≡ entrySound speed e ⌝ }
+// Whether the work and the remaining ticks of task i's entry are sound, at the nominal speed. What remains at most the time needed, and
+// what is needed at most the time that remains, are told by the work that the remaining ticks do.
+fn entry_sound(block: &[u8], i: usize, speed: u32) -> bool
+    requires { ⌜ (i < 16) × (length (now block) ≡ 200) × (0 < speed) × (speed ≤ 100) ⌝ }
+    ensures { λ r. ⌜ r ≡ entrySound speed (entryIn (now (block .entry)) i) ⌝ }
 {
-    if e.work > e.worst {
+    let work = work_at(block, i);
+    let worst = worst_at(block, i);
+    if work > worst {
         return false;
     }
-    if e.remaining > arith::time_needed(speed, e.worst) {
+    let most = remaining_at(block, i) * speed;
+    if worst + speed <= most {
         return false;
     }
-    arith::time_needed(speed, e.work) <= e.remaining
+    work <= most
 }
 
 // Whether every task's entry is sound, at the nominal speed.
-fn entries_sound(l: Loaded, speed: u32) -> bool
-    requires { ⌜ (l .count ≤ 16) × (0 < speed) ⌝ }
-    ensures { λ r. ⌜ r ≡ every (entrySound speed) (stateOf l .entries) ⌝ }
+fn entries_sound(block: &[u8], count: usize, speed: u32) -> bool
+    requires { ⌜ Holds (now block) × (count ≡ getD (now block) 6 0) × (0 < speed) × (speed ≤ 100) ⌝ }
+    ensures { λ r. ⌜ r ≡ every (entrySound speed) (decode (now (block .entry)) .entries) ⌝ }
 {
-    let count = l.count;
     let mut i: usize = 0;
     while i < count {
-        let e = l.entries[i];
-        if !entry_sound(e, speed) {
+        if !entry_sound(block, i, speed) {
             return false;
         }
         i += 1;
@@ -78,116 +81,94 @@ fn entries_sound(l: Loaded, speed: u32) -> bool
 
 // Whether the order that stands is sound: idle exactly if no job is open, else the most urgent open job at a level no higher than
 // nominal that meets its allowance.
-fn order_sound(l: Loaded, t: Times, highest: u32) -> bool
-    requires { ⌜ (l .count ≤ 16) × (highest < 8) ⌝ }
-    requires { ⌜ ((j : ℕ) → j < l .count → entryOf l j .remaining ≤ 65535) ⌝ }
-    requires { ⌜ Timed (timingOf l) (l .clock .ticks) t ⌝ }
-    ensures { λ r. ⌜ r ≡ orderSound baseSpeeds (timingOf l) highest (stateOf l) (openJobs (timingOf l) (stateOf l)) ⌝ }
+fn order_sound(block: &[u8], keys: &[u64; 16], count: usize, highest: usize) -> bool
+    requires { ⌜ Holds (now block) × (count ≡ getD (now block) 6 0) × (highest < 8) ⌝ }
+    requires { ⌜ Keyed (timingIn (now block)) (decode (now block) .clock) (now keys) ⌝ }
+    ensures { λ r. ⌜ r ≡ orderSound baseSpeeds (timingIn (now (block .entry))) highest (decode (now (block .entry))) (openJobs (timingIn (now (block .entry))) (decode (now (block .entry)))) ⌝ }
 {
-    let best = most_urgent(l, t);
-    if l.task != best {
+    let task = block[4] as usize;
+    let level = block[5] as usize;
+    let best = most_urgent(block, keys, count, 13, 3);
+    if best == NO_KEY {
+        if task != 255 {
+            return false;
+        }
+        return level == 0;
+    }
+    if task != task_in(best) {
         return false;
     }
-    if best == 255 {
-        return l.level == 0;
-    }
-    if l.level > highest {
+    if level > highest {
         return false;
     }
-    let x = best as usize;
-    let e = l.entries[x];
-    let speed = plan::judging::speed_of(l.level as usize);
-    let time = arith::time_needed(speed, e.work);
-    time <= allowance_of(l, t, x)
+    let work = work_at(block, task);
+    let speed = plan::judging::speed_of(level);
+    work <= speed * allowance_of(block, keys, count, best)
 }
 
 // The answer to a block that is not sound: nothing is in it.
 fn not_sound() -> Tested
     ensures { λ r. ⌜ r .sound ≡ false ⌝ }
 {
-    let clock = Clock::new(0);
-    let blank = Entry {
-        period: 0,
-        worst: 0,
-        work: 0,
-        remaining: 0,
-    };
-    let entries = [blank; 16];
-    let state = Loaded {
-        clock,
-        task: 0,
-        level: 0,
-        count: 0,
-        entries,
-    };
-    let times = Times {
-        count: 0,
-        arrival: [0; 16],
-        deadline: [0; 16],
-    };
     Tested {
         sound: false,
         nominal: 0,
-        state,
-        times,
+        keys: [0; 16],
     }
 }
 
-// A loaded state whose clock is in range and whose plan is admitted at a nominal level.
-fn test_admitted(l: Loaded, level: usize) -> Tested
-    requires { ⌜ (1 ≤ l .count) × (l .count ≤ 16) × (l .clock .ticks ≤ largestClock) ⌝ }
-    requires { ⌜ ((j : ℕ) → j < l .count → entryOf l j .remaining ≤ 65535) ⌝ }
-    requires { ⌜ (firstNo (taskQuestions baseSpeeds (planIn (stateOf l))) ≡ 0) × (level ≡ nominal baseSpeeds (planIn (stateOf l))) ⌝ }
-    ensures { λ r. ⌜ r .sound ≡ stateSound baseSpeeds (stateOf l) ⌝ }
-    ensures { λ r. ⌜ (r .sound ≡ true → (stateOf (r .state) ≡ stateOf l) × Good (r .state) (r .times) (r .nominal)) ⌝ }
+// A block that is laid out, whose clock is in range and whose plan is admitted at a nominal level.
+fn test_admitted(block: &[u8], count: usize, clock: u32, level: usize) -> Tested
+    requires { ⌜ Holds (now block) × (count ≡ getD (now block) 6 0) × (1 ≤ count) ⌝ }
+    requires { ⌜ (clock ≡ decode (now block) .clock) × (clock ≤ largestClock) ⌝ }
+    requires { ⌜ (firstNo (taskQuestions baseSpeeds (planIn (decode (now block)))) ≡ 0) × (level ≡ nominal baseSpeeds (planIn (decode (now block)))) ⌝ }
+    ensures { λ r. ⌜ r .sound ≡ stateSound baseSpeeds (decode (now (block .entry))) ⌝ }
+    ensures { λ r. ⌜ (r .sound ≡ true → Keyed (timingIn (now (block .entry))) (decode (now (block .entry)) .clock) (r .keys) × (r .nominal ≡ nominal baseSpeeds (planIn (decode (now (block .entry)))))) ⌝ }
 {
     let speed = plan::judging::speed_of(level);
-    if !entries_sound(l, speed) {
+    if !entries_sound(block, count, speed) {
         return not_sound();
     }
-    let times = times_of(l);
-    let highest = level as u32;
-    if !order_sound(l, times, highest) {
+    let keys = keys_of(block, count, clock);
+    if !order_sound(block, &keys, count, level) {
         return not_sound();
     }
     Tested {
         sound: true,
-        nominal: highest,
-        state: l,
-        times,
+        nominal: level,
+        keys,
     }
 }
 
-// A loaded state of at least one task.
-fn test_loaded(l: Loaded) -> Tested
-    requires { ⌜ (1 ≤ l .count) × (l .count ≤ 16) ⌝ }
-    requires { ⌜ ((j : ℕ) → j < l .count → entryOf l j .remaining ≤ 65535) ⌝ }
-    ensures { λ r. ⌜ r .sound ≡ stateSound baseSpeeds (stateOf l) ⌝ }
-    ensures { λ r. ⌜ (r .sound ≡ true → (stateOf (r .state) ≡ stateOf l) × Good (r .state) (r .times) (r .nominal)) ⌝ }
+// A block that is laid out, of at least one task.
+fn test_state(block: &[u8], count: usize) -> Tested
+    requires { ⌜ Holds (now block) × (count ≡ getD (now block) 6 0) × (1 ≤ count) ⌝ }
+    ensures { λ r. ⌜ r .sound ≡ stateSound baseSpeeds (decode (now (block .entry))) ⌝ }
+    ensures { λ r. ⌜ (r .sound ≡ true → Keyed (timingIn (now (block .entry))) (decode (now (block .entry)) .clock) (r .keys) × (r .nominal ≡ nominal baseSpeeds (planIn (decode (now (block .entry)))))) ⌝ }
 {
-    let clock = l.clock;
+    let clock = Clock::new(clock_at(block));
     if !clock.in_range() {
         return not_sound();
     }
-    let p = plan_of(l);
+    let p = plan_of(block, count);
     let v = plan::judging::verdict_of(p);
     match v {
         Verdict::Refused(_) => not_sound(),
         Verdict::Admitted {
             nominal,
             hyperperiod: _,
-        } => test_admitted(l, nominal),
+        } => test_admitted(block, count, clock.ticks, nominal),
     }
 }
 
-// A block tested: whether it is sound and, if so, what it holds.
+// A block tested: whether it is sound and, if so, its nominal level and its keys.
 pub fn test_block(block: &[u8]) -> Tested
     ensures { λ r. ⌜ TestedAs (now (block .entry)) r ⌝ }
 {
     if block.len() != 200 {
         return not_sound();
     }
-    let count = block[6];
+    let count = block[6] as usize;
     if count < 1 {
         return not_sound();
     }
@@ -197,6 +178,5 @@ pub fn test_block(block: &[u8]) -> Tested
     if !laid_out(block) {
         return not_sound();
     }
-    let l = load(block);
-    test_loaded(l)
+    test_state(block, count)
 }

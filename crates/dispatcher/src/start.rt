@@ -1,20 +1,16 @@
 // Starting: a state in which every task of a plan has a new job, with an order chosen in it.
 use crate::Entry;
-use crate::Loaded;
 use crate::Reply;
-use crate::clock::Clock;
+use crate::image::put_entry;
 use crate::image::store;
 use crate::order::choose;
-use crate::order::hold_of;
-use crate::order::order_of;
-use crate::urgency::next_arrival;
-use crate::urgency::times_of;
+use crate::urgency::keys_of;
 use plan::Plan;
 use plan::Verdict;
 ghost use mathlib.Core.Path.{_≡_};
 ghost use mathlib.Core.List.{[], _∷_};
 ghost use Prim.Native.Nat.{_<_, _≤_};
-ghost use lib.ListN.{length};
+ghost use lib.ListN.{length, replicate};
 ghost use Rattle.plan.specs.Levels.{baseSpeeds, nominal};
 ghost use Rattle.plan.specs.Blocks.{tasksOf};
 ghost use Rattle.plan.specs.Questions.{firstNo, judging, roomQuestion};
@@ -23,40 +19,40 @@ ghost use Rattle.dispatcher.specs.StateBlock.{encode};
 ghost use Rattle.dispatcher.specs.Passes.{startState};
 ghost use Rattle.dispatcher.specs.Questions.{stateLength};
 ghost use Rattle.dispatcher.specs.Calls.{repliedBy, startOrder, startReply, startBuffer};
-ghost use Rattle.dispatcher.specs.Code.{NewFrom};
+ghost use Rattle.dispatcher.specs.Code.{newState};
 
-// The state in which every task of a plan has a new job at a speed, before an order is chosen.
-fn fresh(p: Plan, speed: u32) -> Loaded
+// The image of a state at clock 0, with no entries yet.
+fn blank(count: usize) -> [u8; 200]
+    requires { ⌜ count ≤ 16 ⌝ }
+    ensures { λ r. ⌜ r ≡ 0 ∷ 0 ∷ 0 ∷ 0 ∷ 255 ∷ 0 ∷ count ∷ replicate 193 0 ⌝ }
+{
+    let mut image = [0u8; 200];
+    image[4] = 255;
+    image[6] = count as u8;
+    image
+}
+
+// A fresh image, filled at its offsets: every task of a plan has a new job at a speed, and no order is chosen.
+fn fresh(p: Plan, speed: u32) -> [u8; 200]
     requires { ⌜ (p .count ≤ 16) × (0 < speed) ⌝ }
-    ensures { λ r. ⌜ NewFrom speed (tasksOf p) r ⌝ }
+    ensures { λ r. ⌜ r ≡ encode (newState speed (tasksOf p)) ⌝ }
 {
     let count = p.count;
-    let blank = Entry {
-        period: 0,
-        worst: 0,
-        work: 0,
-        remaining: 0,
-    };
-    let mut l = Loaded {
-        clock: Clock::new(0),
-        task: 255,
-        level: 0,
-        count,
-        entries: [blank; 16],
-    };
+    let mut image = blank(count);
     let mut i: usize = 0;
     while i < count {
         let t = p.tasks[i];
         let remaining = arith::time_needed(speed, t.worst);
-        l.entries[i] = Entry {
+        let e = Entry {
             period: t.period,
             worst: t.worst,
             work: t.worst,
             remaining,
         };
+        put_entry(&mut image, i, e);
         i += 1;
     }
-    l
+    image
 }
 
 // Starting an accepted plan of which the nominal level is known: 9 for the 200 bytes.
@@ -69,13 +65,11 @@ fn started(p: Plan, highest: usize, state: &mut [u8]) -> Reply
         return Reply::Refused(9);
     }
     let speed = plan::judging::speed_of(highest);
-    let l = fresh(p, speed);
-    let t = times_of(l);
-    let s = choose(l, t);
-    let next = next_arrival(s, t);
-    let hold = hold_of(s, next);
-    store(state, s);
-    order_of(s, hold)
+    let mut image = fresh(p, speed);
+    let keys = keys_of(&image, p.count, 0);
+    let r = choose(&mut image, &keys);
+    store(state, &image);
+    r
 }
 
 // Starting: the questions 1 to 8 of the block, then 9 for the 200 bytes.

@@ -5,13 +5,13 @@ use mathlib.Core.Path.{_≡_, refl, sym, subst, ap, ap₂, _∙_}
 use mathlib.Core.Bool.{Bool, true, false}
 use mathlib.Core.List.{List, [], _∷_, _++_}
 use native.Mathlib.Omega.{arith}
-use borrow.Author.Tests.{le-leb, lt-leb, le-ltb, lt-ltb}
 use native.Mathlib.Numerals.{add-one}
+use borrow.Author.Tests.{le-leb, lt-leb, le-ltb, lt-ltb}
 use native.Mathlib.Nat.{mul-le-mul, le-trans, div-le-self, not-suc-le-zero}
 use lib.Dec.{leb}
 use lib.ListN.{length, getD, take, drop, replicate}
 use lib.Seq.{length-take-le}
-use Rattle.arith.specs.Choice.{both, every}
+use Rattle.arith.specs.Choice.{both, every, first}
 use Rattle.plan.specs.declared.Task.{Task}
 use Rattle.plan.specs.declared.Plan.{Plan}
 use Rattle.plan.specs.declared.Judged.{Judged}
@@ -19,12 +19,14 @@ use Rattle.plan.specs.declared.Verdict.{Verdict}
 use Rattle.plan.specs.declared.Verdict.the-variants as verdict
 use Rattle.plan.specs.Answers.{judgedBy, answered}
 use Rattle.arith.specs.Need.{need}
+use Rattle.arith.specs.Sum.{sumTo}
+use Rattle.arith.proofs.Sums.{sumTo-eq}
 use Rattle.arith.specs.Divisor.{lcm}
 use Rattle.plan.specs.Levels.{hyperperiod, demandWithin, baseSpeeds, speedOf, nominal, admits}
 use Rattle.plan.specs.Blocks.{noTask, planOf}
 use Rattle.plan.specs.Questions.{inRange, taskQuestions, firstNo, judging}
 use Rattle.plan.proofs.Lists.{rest-cons, filled}
-use Rattle.plan.proofs.LevelLaws.{admits-from-nominal, admits-higher, first-after, baseRising}
+use Rattle.plan.proofs.LevelLaws.{admits-covers, first-found, first-next, first-none, first-weaker, sumOf-taken, baseRising}
 
 -- a task's four limits, in the order in which they are tested
 pub both-false : (a : Bool) → both a false ≡ false
@@ -57,21 +59,30 @@ module _ (l : List Task) (count i : ℕ) (le : count ≤ length l) (pos : 0 < i)
       ∙ ap (λ (x : ℕ). lcm (getD l (i - 1) noTask .period) x) inv
       ∙ sym (ap hyperperiod down)
 
-  pub demand-more :
-      (span speed total ticks : ℕ) →
-      total ≡ demandWithin span speed (drop i (take count l)) →
-      ticks ≡ need speed (getD l (i - 1) noTask .worst) →
-      total + ticks * (span / getD l (i - 1) noTask .period) ≡ demandWithin span speed (drop (i - 1) (take count l))
-  demand-more span speed total ticks inv e =
-      let t : Task = getD l (i - 1) noTask in
-      let c : total + ticks * (span / t .period) ≡ ticks * (span / t .period) + total = omega arith in
-      c
-      ∙ ap₂ (λ (x y : ℕ). x * (span / t .period) + y) e inv
-      ∙ sym (ap (demandWithin span speed) down)
+-- one job's time and the jobs of a task are bounded, so their product is
+pub product-bound : (w ticks n : ℕ) → ticks ≤ w → w ≤ 1048575 → n ≤ 1000000 → ticks * n ≤ 1048575 * 1000000
+product-bound w ticks n a b m = mul-le-mul (le-trans a b) m
 
--- one job's time and the jobs within a span are bounded, so their product is
-pub product-bound : (w ticks span p : ℕ) → ticks ≤ w → w ≤ 1048575 → span ≤ 1000000 → ticks * (span / p) ≤ 1048575 * 1000000
-product-bound w ticks span p a b s = mul-le-mul (le-trans a b) (le-trans (div-le-self span p) s)
+-- one term more of a sum, as a loop takes it
+pub sum-more : (f : ℕ → ℕ) (i total x : ℕ) → total ≡ sumTo i f → x ≡ f i → total + x ≡ sumTo (i + 1) f
+sum-more f i total x e d = rw add-one (ap₂ (λ (y z : ℕ). y + z) e d)
+
+-- the jobs of each task within a span: how many they are at most, and the time that they all take
+module _ (l : List Task) (jobs : List ℕ) (count span : ℕ)
+    (h : (i : ℕ) → i < count → getD jobs i 0 ≡ span / getD l i noTask .period) where
+  pub jobs-most : span ≤ 1000000 → (i : ℕ) → i < count → getD jobs i 0 ≤ 1000000
+  jobs-most m i k = subst (λ (x : ℕ). x ≤ 1000000) (sym (h i k)) (le-trans (div-le-self span (getD l i noTask .period)) m)
+
+  pub demand-all :
+      (speed total : ℕ) →
+      count ≤ length l →
+      total ≡ sumTo count (λ i. need speed (getD l i noTask .worst) * getD jobs i 0) →
+      total ≡ demandWithin span speed (take count l)
+  demand-all speed total le e =
+      e
+      ∙ sumTo-eq count (λ i. need speed (getD l i noTask .worst) * getD jobs i 0) (λ i. need speed (getD l i noTask .worst) * (span / getD l i noTask .period))
+      (λ i k. ap (λ (x : ℕ). need speed (getD l i noTask .worst) * x) (h i k))
+      ∙ sumOf-taken (λ (t : Task). need speed (t .worst) * (span / t .period)) l noTask count le
 
 -- a hyperperiod above the limit, seen on the way, and one that is not
 pub span-over : (whole part : ℕ) → part ≤ whole → 1000000 < part → 1000001 ≡ min whole 1000001
@@ -98,21 +109,50 @@ filled-plan q l count i le e c t =
     let counts : q .count ≡ length (take count l) = c ∙ sym len in
     λ j. record { count = counts j; tasks = tasks j }
 
--- a level that admits, or does not, bounds the nominal one
-module _ (ts : List Task) (level speed span total : ℕ) (h : level < 8)
+-- the search for the lowest level that does so much work within a span
+module _ (work span : ℕ) where
+  abbrev pub does : ℕ → Bool
+  does speed = leb work (span * speed)
+
+  pub slowest-found : (level speed : ℕ) → level ≤ first does baseSpeeds → level < 8 → speed ≡ speedOf baseSpeeds level → work ≤ span * speed → level ≡ first does baseSpeeds
+  slowest-found level speed low h s le =
+      first-found does baseSpeeds level 0 low h (ap does (sym s) ∙ le-leb work (span * speed) le)
+
+  pub slowest-next : (level speed : ℕ) → level ≤ first does baseSpeeds → level < 8 → speed ≡ speedOf baseSpeeds level → span * speed < work → level + 1 ≤ first does baseSpeeds
+  slowest-next level speed low h s lt =
+      first-next does baseSpeeds level 0 low h (ap does (sym s) ∙ lt-leb work (span * speed) lt)
+
+  pub slowest-none : (level : ℕ) → level ≤ first does baseSpeeds → 8 ≤ level → level ≡ first does baseSpeeds
+  slowest-none level low h = first-none does baseSpeeds level low h
+
+-- no level below it admits, where the work is all that a plan has within its hyperperiod
+pub nominal-from :
+    (ts : List Task) (span work level : ℕ) →
+    span ≡ hyperperiod ts →
+    work ≡ demandWithin span 1 ts →
+    level ≡ first (does work span) baseSpeeds →
+    level ≤ nominal baseSpeeds ts
+nominal-from ts span work level e d l =
+    subst (λ (x : ℕ). x ≤ nominal baseSpeeds ts) (sym l)
+    (first-weaker (admits ts) (does work span) baseSpeeds 0
+    (λ k h a. le-leb work (span * getD baseSpeeds k 0) (admits-covers ts span work (getD baseSpeeds k 0) (baseRising .positive k h) e d a)))
+
+-- a level that admits is the nominal one, where none below does; one that does not is below it
+module _ (ts : List Task) (level speed span total : ℕ) (low : level ≤ nominal baseSpeeds ts) (h : level < 8)
     (s : speed ≡ speedOf baseSpeeds level) (e : span ≡ hyperperiod ts) (d : total ≡ demandWithin span speed ts) where
   tested-sum : leb total span ≡ admits ts (speedOf baseSpeeds level)
   tested-sum =
       ap (λ (x : ℕ). leb x span) d
       ∙ ap₂ (λ (x y : ℕ). leb (demandWithin x y ts) x) e s
 
-  pub nominal-high : total ≤ span → nominal baseSpeeds ts ≤ level
-  nominal-high le = admits-from-nominal baseSpeeds baseRising ts level h .0 (sym tested-sum ∙ le-leb total span le)
+  pub nominal-found : total ≤ span → level ≡ nominal baseSpeeds ts
+  nominal-found le = first-found (admits ts) baseSpeeds level 0 low h (sym tested-sum ∙ le-leb total span le)
 
-  pub nominal-low : span < total → level + 1 ≤ nominal baseSpeeds ts
-  nominal-low lt =
-      rw add-one
-      (first-after (admits ts) baseSpeeds 0 (admits-higher baseSpeeds baseRising ts) level h (sym tested-sum ∙ lt-leb total span lt))
+  pub nominal-next : span < total → level + 1 ≤ nominal baseSpeeds ts
+  nominal-next lt = first-next (admits ts) baseSpeeds level 0 low h (sym tested-sum ∙ lt-leb total span lt)
+
+pub nominal-none : (ts : List Task) (level : ℕ) → level ≤ nominal baseSpeeds ts → 8 ≤ level → level ≡ nominal baseSpeeds ts
+nominal-none ts level low h = first-none (admits ts) baseSpeeds level low h
 
 -- a refusal, whatever the tasks are
 pub refused-is : (n : ℕ) (q : Plan) (speeds : List ℕ) (ts : List Task) → 0 < n → q ≡ planOf [] → _≡_ {A = Judged} (record { verdict = verdict.Refused n; plan = q }) (judgedBy n speeds ts)

@@ -1,19 +1,20 @@
 -- Laws of the levels and of the hyperperiod.
 -- Assumes nothing.
-use Prim.Native.Nat.{ℕ, zero, suc, _*_, _/_, _<_, _≤_, _∣_}
+use Prim.Native.Nat.{ℕ, zero, suc, _+_, _*_, _/_, _<_, _≤_, _∣_}
 use mathlib.Core.Bool.{Bool, true, false}
-use mathlib.Core.Path.{_≡_, refl, sym, subst, _∙_}
-use mathlib.Core.List.{List, [], _∷_}
-use native.Mathlib.Nat.{not-suc-le-zero, add-le-add, mul-le-mul-right, le-trans, dvd-refl, dvd-trans, one-dvd, le-of-dvd}
+use mathlib.Core.Path.{_≡_, refl, sym, subst, ap, _∙_}
+use mathlib.Core.List.{List, [], _∷_, _++_}
+use native.Mathlib.Nat.{not-suc-le-zero, add-le-add, add-mul, mul-le-mul-right, mul-right-comm, le-trans, dvd-refl, dvd-trans, one-dvd, le-of-dvd}
 use native.Mathlib.Omega.{arith}
 use native.Mathlib.Decide.{decLe}
 use lib.Dec.{T, ltb}
-use lib.ListN.{length, getD, drop}
+use lib.ListN.{length, getD, take, drop}
+use lib.Seq.{take-suc}
 use Rattle.arith.specs.Choice.{pick, both, every, first}
-use Rattle.arith.specs.Sum.{sumOf}
+use Rattle.arith.specs.Sum.{sumTo, sumOf}
 use Rattle.arith.specs.Need.{need}
 use Rattle.arith.proofs.Tests.{passed, failed, tested, both-left, both-right}
-use Rattle.arith.proofs.Needs.{need-faster}
+use Rattle.arith.proofs.Needs.{need-covers, need-least, need-faster}
 use Rattle.arith.proofs.Divisors.{lcm-left, lcm-right, lcm-least, lcm-positive}
 use Rattle.plan.specs.declared.Task.{Task}
 use Rattle.plan.specs.Levels.{baseSpeeds, Rising, speedOf, hyperperiod, demandWithin, admits, nominal}
@@ -64,6 +65,24 @@ module _ {ℓ} {A : Type ℓ} (f : A → Bool) where
         | failed ↦ λ e. refl
       ] refl
 
+  -- a search from the front: where it stops, where it goes on, and at the end
+  pub first-found :
+      (l : List A) (k : ℕ) (d : A) → k ≤ first f l → k < length l → f (getD l k d) ≡ true → k ≡ first f l
+  first-found l k d le h e = omega (arith, first-le l k d h e)
+
+  pub first-next :
+      (l : List A) (k : ℕ) (d : A) → k ≤ first f l → k < length l → f (getD l k d) ≡ false → k + 1 ≤ first f l
+  first-next l k d le h e =
+      elim (decLe (first f l) k) [
+        | yes p ↦ let same : first f l ≡ k = omega arith in
+            let passes : f (getD l k d) ≡ true = subst (λ (j : ℕ). f (getD l j d) ≡ true) same (first-passes l d (omega arith)) in
+            absurd (subst T (sym passes ∙ e) tt)
+        | no p ↦ omega arith
+      ]
+
+  pub first-none : (l : List A) (k : ℕ) → k ≤ first f l → length l ≤ k → k ≡ first f l
+  first-none l k le h = omega (arith, first-most l)
+
   -- where a pass at one place gives a pass at every later one, all that fail stand before it
   pub first-after :
       (l : List A) (d : A) →
@@ -78,10 +97,34 @@ module _ {ℓ} {A : Type ℓ} (f : A → Bool) where
         | no p ↦ omega arith
       ]
 
+-- a test that passes wherever another does passes no later
+pub first-weaker {ℓ} :
+    {A : Type ℓ} (f g : A → Bool) (l : List A) (d : A) →
+    ((k : ℕ) → k < length l → f (getD l k d) ≡ true → g (getD l k d) ≡ true) →
+    first g l ≤ first f l
+first-weaker f g l d h =
+    elim (decLe (length l) (first f l)) [
+      | yes p ↦ le-trans (first-most g l) p
+      | no p ↦ first-le g l (first f l) d (omega arith) (h (first f l) (omega arith) (first-passes f l d (omega arith)))
+    ]
+
 -- a smaller value at each element makes a smaller sum
 pub sumOf-le {ℓ} : {A : Type ℓ} (f g : A → ℕ) (l : List A) → ((x : A) → f x ≤ g x) → sumOf f l ≤ sumOf g l
 sumOf-le f g [] h = omega arith
 sumOf-le f g (x ∷ xs) h = add-le-add (h x) (sumOf-le f g xs h)
+
+-- the sum over a list's first elements, index by index
+sumOf-snoc {ℓ} : {A : Type ℓ} (f : A → ℕ) (l : List A) (x : A) → sumOf f (l ++ (x ∷ [])) ≡ sumOf f l + f x
+sumOf-snoc f [] x = omega arith
+sumOf-snoc f (y ∷ l) x = omega (arith, sumOf-snoc f l x)
+
+pub sumOf-taken {ℓ} :
+    {A : Type ℓ} (f : A → ℕ) (l : List A) (d : A) (n : ℕ) → n ≤ length l → sumTo n (λ i. f (getD l i d)) ≡ sumOf f (take n l)
+sumOf-taken f l d zero h = refl
+sumOf-taken f l d (suc n) h =
+    ap (λ (x : ℕ). x + f (getD l n d)) (sumOf-taken f l d n (omega arith))
+    ∙ sym (sumOf-snoc f (take n l) (getD l n d))
+    ∙ ap (λ x. sumOf f x) (sym (take-suc l n d h))
 
 -- a faster speed demands no more, so it admits what a slower one does
 pub demand-faster :
@@ -89,6 +132,32 @@ pub demand-faster :
 demand-faster span r s ts h le =
     sumOf-le (λ (t : Task). need s (t .worst) * (span / t .period)) (λ (t : Task). need r (t .worst) * (span / t .period)) ts
     (λ t. mul-le-mul-right (span / t .period) (need-faster r s (t .worst) h le))
+
+-- the plain work is the demand at speed 1, and the demand at a speed covers it
+pub demand-covers : (span s : ℕ) (ts : List Task) → 0 < s → demandWithin span 1 ts ≤ demandWithin span s ts * s
+demand-covers span s [] h = omega arith
+demand-covers span s (t ∷ ts) h =
+    let w : ℕ = t .worst in
+    let j : ℕ = span / t .period in
+    let plain : need 1 w ≤ need s w * s =
+    need-least 1 w (need s w * s) (omega arith) (omega (arith, need-covers s w h)) in
+    let one : need 1 w * j ≤ need s w * j * s =
+    subst (λ (x : ℕ). need 1 w * j ≤ x) (mul-right-comm (need s w) s j) (mul-le-mul-right j plain) in
+    subst (λ (x : ℕ). demandWithin span 1 (t ∷ ts) ≤ x) (sym (add-mul (need s w * j) (demandWithin span s ts) s))
+    (add-le-add one (demand-covers span s ts h))
+
+-- a speed that admits does the plain work within the hyperperiod
+pub admits-covers :
+    (ts : List Task) (span work s : ℕ) →
+    0 < s →
+    span ≡ hyperperiod ts →
+    work ≡ demandWithin span 1 ts →
+    admits ts s ≡ true →
+    work ≤ span * s
+admits-covers ts span work s h e d a =
+    let most : demandWithin span s ts ≤ span =
+    subst (λ (x : ℕ). demandWithin x s ts ≤ x) (sym e) (leb-true (demandWithin (hyperperiod ts) s ts) (hyperperiod ts) a) in
+    subst (λ (x : ℕ). x ≤ span * s) (sym d) (le-trans (demand-covers span s ts h) (mul-le-mul-right s most))
 
 pub admits-faster : (ts : List Task) (r s : ℕ) → 0 < r → r ≤ s → admits ts r ≡ true → admits ts s ≡ true
 admits-faster ts r s h le a =

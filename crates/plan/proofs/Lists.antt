@@ -1,13 +1,14 @@
 -- Laws of lists that the loops over a plan's tasks use.
 -- Assumes nothing.
-use Prim.Native.Nat.{ℕ, zero, suc, _+_, _-_, _<_, _≤_}
-use mathlib.Core.Path.{_≡_, refl, sym, subst, ap, ap₂, _∙_}
+use Prim.Native.Nat.{ℕ, suc, _+_, _-_, _<_, _≤_}
+use mathlib.Core.Path.{_≡_, sym, subst, ap, _∙_}
 use mathlib.Core.Bool.{Bool, true, false}
 use mathlib.Core.List.{List, [], _∷_, _++_, map}
 use native.Mathlib.Numerals.{add-one}
 use native.Mathlib.Omega.{arith}
+use native.Mathlib.Decide.{decLe}
 use lib.ListN.{length, getD, take, drop, set, replicate, length-map, length-replicate, length-append}
-use lib.Seq.{drop-cons, drop-length, getD-take, length-take-le, take-suc, set-at, append-snoc}
+use lib.Seq.{drop-cons, drop-length, getD-take, length-take-le, take-suc, set-at, append-snoc, getD-set-same, getD-set-other}
 use Rattle.arith.specs.Choice.{both, every}
 use Rattle.plan.proofs.General.{every-at}
 
@@ -76,3 +77,18 @@ unfolding filled
 length-filled n d l i h q =
     length-append (take i l) (replicate (n - i) d)
     ∙ omega (arith, length-take-le i l q, length-replicate (n - i) d)
+
+-- an array filled with a function's values, from the front
+pub values-more :
+    (f : ℕ → ℕ) (l : List ℕ) (i : ℕ) →
+    i < length l →
+    ((k : ℕ) → k < i → getD l k 0 ≡ f k) →
+    (k : ℕ) →
+    k < i + 1 →
+    getD (set l i (f i)) k 0 ≡ f k
+values-more f l i h inv k q =
+    elim (decLe i k) [
+      | yes p ↦ let same : i ≡ k = omega arith in
+          subst (λ (j : ℕ). getD (set l i (f i)) j 0 ≡ f j) same (getD-set-same l i (f i) 0 h)
+      | no p ↦ getD-set-other l i k (f i) 0 (λ e. omega arith) ∙ inv k (omega arith)
+    ]

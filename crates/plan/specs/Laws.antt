@@ -1,14 +1,14 @@
 -- What is promised of plans as a whole, each as a type that a proof has.
 -- Assumes nothing.
-use Prim.Native.Nat.{ℕ, zero, suc, _<_, _≤_, _∣_}
+use Prim.Native.Nat.{ℕ, _<_, _≤_, _∣_}
 use mathlib.Core.Path.{_≡_}
 use mathlib.Core.Bool.{true}
 use mathlib.Core.Logic.{_↔_}
-use mathlib.Core.List.{List, [], _∷_}
+use mathlib.Core.List.{List}
 use lib.ListN.{length, getD}
 use Rattle.plan.specs.declared.Task.{Task}
 use Rattle.plan.specs.declared.Plan.{Plan}
-use Rattle.plan.specs.Levels.{Rising, speedOf, hyperperiod, admits, nominal}
+use Rattle.plan.specs.Levels.{speedOf, hyperperiod, admits, nominal}
 use Rattle.plan.specs.Blocks.{noTask, tasksOf, planBlock}
 use Rattle.plan.specs.Questions.{firstNo, judging, reading}
 use Rattle.plan.specs.Answers.{judgedPlan, readBlock}

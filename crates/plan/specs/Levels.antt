@@ -1,7 +1,7 @@
 -- 01, "Plan, levels, plain schedule": levels, the hyperperiod, admission, the nominal level and allotments. A table of speeds is a
 -- parameter of everything here; 01's eight are one value of it.
 -- Assumes nothing.
-use Prim.Native.Nat.{ℕ, zero, suc, _+_, _*_, _/_, _<_, _≤_}
+use Prim.Native.Nat.{ℕ, _*_, _/_, _<_}
 use mathlib.Core.Bool.{Bool}
 use mathlib.Core.List.{List, [], _∷_}
 use lib.Dec.{leb}

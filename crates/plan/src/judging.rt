@@ -6,11 +6,15 @@ use crate::Verdict;
 ghost use mathlib.Core.Path.{_≡_};
 ghost use mathlib.Core.Bool.{true};
 ghost use mathlib.Core.List.{[]};
-ghost use Prim.Native.Nat.{_<_, _≤_, min};
-ghost use Rattle.arith.specs.Choice.{every};
-ghost use Rattle.plan.specs.Levels.{baseSpeeds, speedOf, hyperperiod, demandWithin, nominal};
+ghost use Prim.Native.Nat.{ℕ, _*_, _/_, _<_, _≤_, min};
+ghost use lib.Dec.{leb};
+ghost use lib.ListN.{getD};
+ghost use Rattle.arith.specs.Choice.{every, first};
+ghost use Rattle.arith.specs.Need.{need};
+ghost use Rattle.arith.specs.Sum.{sumTo};
+ghost use Rattle.plan.specs.Levels.{baseSpeeds, speedOf, hyperperiod, nominal};
 ghost use Rattle.plan.specs.Questions.{inRange, taskQuestions, firstNo};
-ghost use Rattle.plan.specs.Blocks.{tasksOf, planOf};
+ghost use Rattle.plan.specs.Blocks.{noTask, tasksOf, planOf};
 ghost use Rattle.plan.specs.Answers.{judgedBy, judgedPlan, answered};
 
 const SPEEDS: [u32; 8] = [10, 20, 30, 40, 50, 60, 80, 100];
@@ -73,42 +77,73 @@ fn hyperperiod_of(p: Plan) -> u32
     h
 }
 
-// The time that the worst cases of all jobs within a span take at a speed.
-fn demand(p: Plan, span: u32, speed: u32) -> u64
+// How many jobs each task has within a span.
+fn jobs_within(p: Plan, span: u32) -> [u32; 16]
     requires { ⌜ (p .count ≤ 16) × (every inRange (tasksOf p) ≡ true) ⌝ }
-    requires { ⌜ (span ≤ 1000000) × (0 < speed) ⌝ }
-    ensures { λ r. ⌜ r ≡ demandWithin span speed (tasksOf p) ⌝ }
+    ensures { λ r. ⌜ ((i : ℕ) → i < p .count → getD r i 0 ≡ span / getD (p .tasks) i noTask .period) ⌝ }
 {
+    let count = p.count;
+    let mut jobs = [0u32; 16];
+    let mut i: usize = 0;
+    while i < count {
+        let t = p.tasks[i];
+        jobs[i] = span / t.period;
+        i += 1;
+    }
+    jobs
+}
+
+// The time that the worst cases of so many jobs of each task take at a speed.
+fn demand(p: Plan, jobs: &[u32; 16], speed: u32) -> u64
+    requires { ⌜ (p .count ≤ 16) × (every inRange (tasksOf p) ≡ true) × (0 < speed) ⌝ }
+    requires { ⌜ ((i : ℕ) → i < p .count → getD (now jobs) i 0 ≤ 1000000) ⌝ }
+    ensures { λ r. ⌜ r ≡ sumTo (p .count) (λ i. need speed (getD (p .tasks) i noTask .worst) * getD (now (jobs .entry)) i 0) ⌝ }
+{
+    let count = p.count;
     let mut total: u64 = 0;
-    let mut i = p.count;
-    while 0 < i {
-        i -= 1;
+    let mut i: usize = 0;
+    while i < count {
         let t = p.tasks[i];
         let ticks = arith::time_needed(speed, t.worst);
-        let jobs = span / t.period;
-        total += (ticks as u64) * (jobs as u64);
+        let n = jobs[i];
+        total += (ticks as u64) * (n as u64);
+        i += 1;
     }
     total
 }
 
-// The lowest level that admits a plan of this hyperperiod, or 8. A faster level never demands more, so the table is halved.
+// The lowest level whose speed does so much work within a span, or 8.
+fn slowest_for(work: u64, span: u32) -> usize
+    ensures { λ r. ⌜ r ≡ first (λ (speed : ℕ). leb work (span * speed)) baseSpeeds ⌝ }
+{
+    let mut lowest: usize = 0;
+    while lowest < 8 {
+        let speed = speed_of(lowest);
+        if work <= (span as u64) * (speed as u64) {
+            return lowest;
+        }
+        lowest += 1;
+    }
+    lowest
+}
+
+// The lowest level that admits a plan of this hyperperiod, or 8. A level too slow for the plain work is passed over at once.
 fn nominal_of(p: Plan, span: u32) -> usize
     requires { ⌜ (p .count ≤ 16) × (every inRange (tasksOf p) ≡ true) ⌝ }
     requires { ⌜ (span ≡ hyperperiod (tasksOf p)) × (span ≤ 1000000) ⌝ }
     ensures { λ r. ⌜ r ≡ nominal baseSpeeds (tasksOf p) ⌝ }
 {
-    let mut low: usize = 0;
-    let mut high: usize = 8;
-    while low < high {
-        let middle = (low + high) / 2;
-        let speed = speed_of(middle);
-        if demand(p, span, speed) <= (span as u64) {
-            high = middle;
-        } else {
-            low = middle + 1;
+    let jobs = jobs_within(p, span);
+    let work = demand(p, &jobs, 1);
+    let mut level = slowest_for(work, span);
+    while level < 8 {
+        let speed = speed_of(level);
+        if demand(p, &jobs, speed) <= (span as u64) {
+            return level;
         }
+        level += 1;
     }
-    low
+    level
 }
 
 // The questions 6, 7 and 8.

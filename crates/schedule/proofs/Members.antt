@@ -1,5 +1,5 @@
 -- Membership in a list, and what holds of all members. Assumes nothing.
-use mathlib.Core.Path.{_≡_, refl, sym, subst}
+use mathlib.Core.Path.{refl, sym, subst}
 use mathlib.Core.List.{List, [], _∷_}
 use mathlib.Core.Logic.{inl, inr}
 use Rattle.schedule.specs.Feasibility.{All, In}

@@ -17,31 +17,31 @@ Inv-loop s₀ at n x i₀ rest₀ s i rest = (i ≤ n) × (length s ≡ length s
 abbrev μ-loop : tie.MeasureT-loop
 μ-loop s₀ at n x i₀ rest₀ s i rest = i
 
--- src/lib.rt:71:5
+-- src/lib.rt:74:5
 loop-holds : tie.Need-loop-holds Inv-loop μ-loop
 loop-holds c = (omega arith, refl, refl)
 
--- src/lib.rt:72:9
+-- src/lib.rt:75:9
 sub-i : tie.Need-sub-i Inv-loop μ-loop
 sub-i c = omega arith
 
--- src/lib.rt:73:21
+-- src/lib.rt:76:21
 cast-s : tie.Need-cast-s Inv-loop μ-loop
 cast-s c = search needs
 
--- src/lib.rt:73:11
+-- src/lib.rt:76:11
 add-s : tie.Need-add-s Inv-loop μ-loop
 add-s c = omega arith
 
--- src/lib.rt:73:9
+-- src/lib.rt:76:9
 slice-write-s : tie.Need-slice-write-s Inv-loop μ-loop
 slice-write-s c = omega arith
 
--- src/lib.rt:71:5
+-- src/lib.rt:74:5
 loop-less : tie.Need-loop-less Inv-loop μ-loop
 loop-less c = omega arith
 
--- src/lib.rt:71:5
+-- src/lib.rt:74:5
 loop-again : tie.Need-loop-again Inv-loop μ-loop
 loop-again c = (
   omega arith,
@@ -49,11 +49,11 @@ loop-again c = (
   sym (digits-stored 256 (c .before .loop .i) (c .before .before .args .at) (c .before .loop .rest) (c .before .loop .s) (omega arith)) ∙ c .before .loop .inv .2,
 )
 
--- src/lib.rt:65:1
+-- src/lib.rt:68:1
 same-length : tie.Need-same-length Inv-loop μ-loop
 same-length c = c .before .loop .inv .1
 
--- src/lib.rt:65:1
+-- src/lib.rt:68:1
 returns : tie.Need-returns Inv-loop μ-loop
 returns c =
     let done : c .before .loop .i ≡ 0 = omega arith in

@@ -6,19 +6,19 @@ use Rattle.arith.proofs.time_needed.Tie as tie
 use Rattle.arith.proofs.time_needed.Reads as reads
 use Rattle.arith.proofs.time_needed.Lts as lts
 
--- src/lib.rt:15:17
+-- src/lib.rt:16:17
 div-whole : tie.Need-div-whole
 div-whole c = search needs
 
--- src/lib.rt:16:8
+-- src/lib.rt:17:8
 rem-if1 : tie.Need-rem-if1
 rem-if1 c = search needs
 
--- src/lib.rt:17:9
+-- src/lib.rt:18:9
 returns : tie.Need-returns
 returns c = need-exact (c .before .args .speed) (c .before .args .work) (c .before .pre) (c .if1 .taken)
 
--- src/lib.rt:19:5
+-- src/lib.rt:20:5
 add-result : tie.Need-add-result
 add-result c =
     omega (
@@ -27,7 +27,7 @@ add-result c =
       need-le (c .before .args .speed) (c .before .args .work) (c .before .pre),
     )
 
--- src/lib.rt:11:1
+-- src/lib.rt:12:1
 returns-2 : tie.Need-returns-2
 returns-2 c = need-more (c .before .args .speed) (c .before .args .work) (c .before .pre) (c .if1 .left)
 

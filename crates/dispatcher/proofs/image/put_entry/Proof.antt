@@ -1,5 +1,5 @@
 use Prim.Native.Nat.{_+_, _*_}
-use Rattle.dispatcher.proofs.ImageLaws.{entry-stored}
+use Rattle.dispatcher.proofs.BlockLaws.{entry-stored}
 use borrow.Author.Needs.{needs}
 use Rattle.dispatcher.proofs.image.put_entry.Statement.{statement}
 use Rattle.dispatcher.proofs.image.put_entry.Tie as tie

@@ -1,57 +1,55 @@
--- `choose` meets its contract.
+-- `choose` meets its contract: the next arrival, the order that is chosen, stored, and its hold.
 -- Assumes nothing.
 use borrow.Author.Needs.{needs}
-use mathlib.Core.Path.{refl}
-use Rattle.dispatcher.specs.Code.{entryOf}
-use Rattle.dispatcher.proofs.OrderLaws.{best-small, chosen-none, chosen-some}
+use Rattle.dispatcher.proofs.OrderLaws.{choose-next, choose-stored, choose-reply}
 use Rattle.dispatcher.proofs.order.choose.Statement.{statement}
 use Rattle.dispatcher.proofs.order.choose.Tie as tie
 
-most-urgent-requires : tie.Need-most-urgent-requires
-most-urgent-requires c κs = search needs
+count-at-requires : tie.Need-count-at-requires
+count-at-requires c κs = search needs
+
+clock-at-requires : tie.Need-clock-at-requires
+clock-at-requires c κs = search needs
+
+next-arrival-requires : tie.Need-next-arrival-requires
+next-arrival-requires c κs =
+    choose-next (c .before .before .before .before .before .args .block .now) (c .before .before .before .before .before .args .keys .now) (c .before .before .before .before .before .pre .0 .0) (c .before .before .before .before .before .pre .0 .1) (c .before .before .before .before .before .pre .0 .2) (c .before .before .before .before .before .pre .1) (c .before .before .count-at .result) (c .before .before .count-at .ensures) (c .clock-at .result) (c .clock-at .ensures)
+
+chosen-requires : tie.Need-chosen-requires
+chosen-requires c κs = search needs
+
+put-order-requires : tie.Need-put-order-requires
+put-order-requires c κs = search needs
+
+hold-of-requires : tie.Need-hold-of-requires
+hold-of-requires c κs = search needs
+
+order-of-requires : tie.Need-order-of-requires
+order-of-requires c κs = search needs
+
+same-length : tie.Need-same-length
+same-length c = search needs
 
 returns : tie.Need-returns
 returns c = (
-  λ τ same timed. chosen-none (c .before .before .args .t1) (c .before .before .args .t) (c .before .most-urgent .result) (c .before .most-urgent .ensures) τ same timed (c .if1 .taken),
-  (refl, refl, refl),
-)
-
-cast-i : tie.Need-cast-i
-cast-i c = search needs
-
-mul-e : tie.Need-mul-e
-mul-e c = search needs
-
-element-copy-out-e : tie.Need-element-copy-out-e
-element-copy-out-e c = best-small (c .before .before .args .t1) (c .before .before .args .t) (c .before .most-urgent .result) (c .before .before .pre .0) (c .before .most-urgent .ensures) (c .if1 .left)
-
-allowance-of-requires : tie.Need-allowance-of-requires
-allowance-of-requires c κs = (
-  (c .before .before .before .pre .0, best-small (c .before .before .before .args .t1) (c .before .before .before .args .t) (c .before .before .most-urgent .result) (c .before .before .before .pre .0) (c .before .before .most-urgent .ensures) (c .before .if1 .left)),
-  c .before .before .before .pre .1,
-)
-
-level-for-requires : tie.Need-level-for-requires
-level-for-requires c κs = search needs
-
-returns-2 : tie.Need-returns-2
-returns-2 c = (
-  λ τ same timed.
-      chosen-some (c .before .before .before .before .before .args .t1) (c .before .before .before .before .before .args .t) (c .before .before .before .before .most-urgent .result) (c .before .before .before .before .most-urgent .ensures) τ same timed (c .before .before .before .if1 .left)
-      (entryOf (c .before .before .before .before .before .args .t1) (c .before .before .before .before .most-urgent .result) .work) (c .before .allowance-of .result) (c .level-for .result)
-      refl (c .before .allowance-of .ensures) (c .level-for .ensures),
-  (refl, refl, refl),
+  choose-reply (c .before .before .before .before .before .before .before .before .before .before .before .before .before .before .args .block .now) (c .before .before .before .before .before .before .before .before .before .before .before .before .before .before .args .keys .now) (c .before .before .before .before .before .before .before .before .before .before .before .before .before .before .pre .0 .0) (c .before .before .before .before .before .before .before .before .before .before .before .before .before .before .pre .0 .1) (c .before .before .before .before .before .before .before .before .before .before .before .before .before .before .pre .0 .2) (c .before .before .before .before .before .before .before .before .before .before .before .before .before .before .pre .1) (c .before .before .before .before .before .before .before .before .before .before .before .count-at .result) (c .before .before .before .before .before .before .before .before .before .before .before .count-at .ensures) (c .before .before .before .before .before .before .before .before .before .clock-at .result) (c .before .before .before .before .before .before .before .before .before .clock-at .ensures)
+      (c .before .before .before .before .before .before .before .before .next-arrival .result) (c .before .before .before .before .before .before .before .before .next-arrival .ensures) (c .before .before .before .before .before .before .chosen .result) (c .before .before .before .before .before .before .chosen .ensures)
+      (c .before .hold-of .result) (c .order-of .result) (c .before .hold-of .ensures) (c .order-of .ensures),
+  choose-stored (c .before .before .before .before .before .before .before .before .before .before .before .before .before .before .args .block .now) (c .before .before .before .before .before .before .before .before .before .before .before .before .before .before .args .keys .now) (c .before .before .before .before .before .before .before .before .before .before .before .before .before .before .pre .0 .0) (c .before .before .before .before .before .before .before .before .before .before .before .before .before .before .pre .0 .1) (c .before .before .before .before .before .before .before .before .before .before .before .before .before .before .pre .0 .2) (c .before .before .before .before .before .before .before .before .before .before .before .before .before .before .pre .1) (c .before .before .before .before .before .before .before .before .before .before .before .count-at .result) (c .before .before .before .before .before .before .before .before .before .before .before .count-at .ensures) (c .before .before .before .before .before .before .before .before .before .clock-at .result) (c .before .before .before .before .before .before .before .before .before .clock-at .ensures)
+      (c .before .before .before .before .before .before .before .before .next-arrival .result) (c .before .before .before .before .before .before .before .before .next-arrival .ensures) (c .before .before .before .before .before .before .chosen .result) (c .before .before .before .before .before .before .chosen .ensures)
+      (c .before .before .before .before .put-order .last .0) (c .before .before .before .before .put-order .ensures),
 )
 
 pub choose-spec : {M : Type 1} → statement M
 choose-spec =
     tie.close
     (tie.spec
-    most-urgent-requires
-    returns
-    cast-i
-    mul-e
-    element-copy-out-e
-    allowance-of-requires
-    level-for-requires
-    returns-2)
+    count-at-requires
+    clock-at-requires
+    next-arrival-requires
+    chosen-requires
+    put-order-requires
+    hold-of-requires
+    order-of-requires
+    same-length
+    returns)

@@ -4,7 +4,8 @@ use Prim.Native.Nat.{_≤_, _-_, _+_, _/_}
 use native.Mathlib.Omega.{arith}
 use Rattle.plan.specs.Levels.{baseSpeeds}
 use Rattle.dispatcher.specs.Orders.{lowestLevel}
-use Rattle.dispatcher.proofs.OrderLaws.{level-most, level-high, level-low, speed-positive}
+use Rattle.dispatcher.proofs.OrderLaws.{level-most, level-high, level-low}
+use Rattle.dispatcher.proofs.NeedTests.{allowed-fits}
 use Rattle.dispatcher.proofs.order.level_for.Statement.{statement}
 use Rattle.dispatcher.proofs.order.level_for.Tie as tie
 
@@ -23,16 +24,20 @@ add-middle c = omega arith
 speed-of-requires : tie.Need-speed-of-requires Inv-loop μ-loop
 speed-of-requires c κs = omega arith
 
-time-needed-requires : tie.Need-time-needed-requires Inv-loop μ-loop
-time-needed-requires c κs = speed-positive ((c .before .before .loop .low + c .before .before .loop .high) / 2) (c .speed-of .result) (omega arith) (c .speed-of .ensures)
+mul-if1 : tie.Need-mul-if1 Inv-loop μ-loop
+mul-if1 c =
+    omega (
+      arith,
+      allowed-fits ((c .before .before .loop .low + c .before .before .loop .high) / 2) (c .speed-of .result) (omega arith) (c .speed-of .ensures) (c .before .before .before .args .allowed) (c .before .before .before .pre),
+    )
 
 loop-less : tie.Need-loop-less Inv-loop μ-loop
 loop-less c = omega arith
 
 loop-again : tie.Need-loop-again Inv-loop μ-loop
 loop-again c = (
-  c .before .before .before .before .loop .inv .0,
-  level-high (c .before .before .before .before .before .args .work) (c .before .before .before .before .before .args .allowed) ((c .before .before .before .before .loop .low + c .before .before .before .before .loop .high) / 2) (c .before .before .speed-of .result) (c .before .time-needed .result) (omega arith) (c .before .before .speed-of .ensures) (c .before .time-needed .ensures) (c .if1 .taken),
+  c .before .before .before .loop .inv .0,
+  level-high (c .before .before .before .before .args .work) (c .before .before .before .before .args .allowed) ((c .before .before .before .loop .low + c .before .before .before .loop .high) / 2) (c .before .speed-of .result) (omega arith) (c .before .speed-of .ensures) (c .if1 .taken),
   omega arith,
 )
 
@@ -44,16 +49,13 @@ loop-less-2 c = omega arith
 
 loop-again-2 : tie.Need-loop-again-2 Inv-loop μ-loop
 loop-again-2 c = (
-  level-low (c .before .before .before .before .before .args .work) (c .before .before .before .before .before .args .allowed) ((c .before .before .before .before .loop .low + c .before .before .before .before .loop .high) / 2) (c .before .before .speed-of .result) (c .before .time-needed .result) (omega arith) (c .before .before .speed-of .ensures) (c .before .time-needed .ensures) (c .if1 .left),
-  c .before .before .before .before .loop .inv .1,
+  level-low (c .before .before .before .before .args .work) (c .before .before .before .before .args .allowed) ((c .before .before .before .loop .low + c .before .before .before .loop .high) / 2) (c .before .speed-of .result) (omega arith) (c .before .speed-of .ensures) (c .if1 .left),
+  c .before .before .before .loop .inv .1,
   omega arith,
 )
 
-cast-result : tie.Need-cast-result Inv-loop μ-loop
-cast-result c = omega arith
-
 returns : tie.Need-returns Inv-loop μ-loop
-returns c = omega arith
+returns c = (omega arith, omega arith)
 
 pub level-for-spec : {M : Type 1} → statement M
 level-for-spec =
@@ -64,11 +66,10 @@ level-for-spec =
     loop-holds
     add-middle
     speed-of-requires
-    time-needed-requires
+    mul-if1
     loop-less
     loop-again
     add-low
     loop-less-2
     loop-again-2
-    cast-result
     returns)

@@ -1,36 +1,30 @@
 -- `pass` meets its contract.
 -- Assumes nothing.
 use mathlib.Core.Path.{_≡_, sym, _∙_}
-use mathlib.Core.Bool.{true}
 use native.Mathlib.Omega.{arith}
-use borrow.Author.Tests.{not-true, not-false}
-use lib.ListN.{length}
-use Rattle.plan.specs.Levels.{baseSpeeds}
-use Rattle.plan.proofs.Lists.{length-mapped}
-use Rattle.dispatcher.specs.Orders.{nextArrival}
-use Rattle.dispatcher.specs.Calls.{passNumber}
-use Rattle.dispatcher.specs.Code.{timingOf, Good}
-use Rattle.dispatcher.proofs.PassLaws.{good-some, good-after, good-next, refused-reply, refused-bytes, number-10, number-is, sound-length, accepted-reply, accepted-bytes}
 use borrow.Author.Needs.{needs}
+use borrow.Author.Tests.{not-true, not-false}
+use Rattle.plan.specs.Levels.{baseSpeeds}
+use Rattle.plan.specs.Questions.{firstNo}
+use Rattle.dispatcher.specs.StateBlock.{decode}
+use Rattle.dispatcher.specs.Orders.{nextArrival}
+use Rattle.dispatcher.specs.Questions.{passQuestions}
+use Rattle.dispatcher.specs.Code.{timingIn, Good}
+use Rattle.dispatcher.proofs.PassSteps.{runnable, sound-state}
+use Rattle.dispatcher.proofs.PassLaws.{good-few, good-after, good-clock, good-next, refused-reply, refused-bytes, number-10, number-is, accepted-reply, accepted-bytes}
 use Rattle.dispatcher.proofs.pass.pass.Statement.{statement}
 use Rattle.dispatcher.proofs.pass.pass.Tie as tie
 
-size : (c : tie.After-test-block) → length (c .test-block .result .state .entries) ≡ 16
-size c = search (length-mapped, needs)
+-- past the first test the block is sound
+good : (c : tie.Else1) → Good (c .before .before .before .before .before .args .state .now) (c .before .before .test-block .result .keys) (c .before .before .test-block .result .nominal)
+good c = c .before .before .test-block .ensures .good (not-false (c .before .before .test-block .result .sound) (c .if1 .left))
 
--- past the first test the block is sound, and so is what it holds
-sound : (c : tie.Else1) → c .before .before .test-block .result .sound ≡ true
-sound c = not-false (c .before .before .test-block .result .sound) (c .if1 .left)
+-- the ticks to the next arrival, and the first no of the questions
+next : (c : tie.After-next-arrival) → c .next-arrival .result ≡ nextArrival (timingIn (c .before .before .before .before .before .before .before .before .before .before .before .before .args .state .now)) (decode (c .before .before .before .before .before .before .before .before .before .before .before .before .args .state .now) .clock)
+next c = good-next (c .before .before .before .before .before .before .before .before .before .before .before .before .args .state .now) (c .before .before .before .before .before .before .before .before .before .test-block .result .keys) (c .before .before .before .before .before .before .before .before .before .test-block .result .nominal) (good (c .before .before .before .before .before .before .before)) (c .before .count-at .result) (c .before .before .before .before .clock-at .result) (c .before .count-at .ensures) (c .before .before .before .before .clock-at .ensures) (c .next-arrival .result) (c .next-arrival .ensures)
 
-good : (c : tie.Else1) → Good (c .before .before .test-block .result .state) (c .before .before .test-block .result .times) (c .before .before .test-block .result .nominal)
-good c = c .before .before .test-block .ensures .good (sound c)
-
--- the ticks to the next arrival, and the pass's number
-next : (c : tie.After-next-arrival) → c .next-arrival .result ≡ nextArrival (timingOf (c .before .before .before .test-block .result .state)) (c .before .before .before .test-block .result .state .clock .ticks)
-next c = good-next (c .before .before .before .test-block .result .state) (c .before .before .before .test-block .result .times) (c .before .before .before .test-block .result .nominal) (good (c .before)) (size (c .before .before .before)) (c .next-arrival .result) (c .next-arrival .ensures)
-
-number : (c : tie.After-pass-number) → c .pass-number .result ≡ passNumber baseSpeeds (c .before .before .before .before .before .before .before .args .state .now) (c .before .before .before .before .before .before .before .args .d) (c .before .before .before .before .before .before .before .args .finished)
-number c = number-is (c .before .before .before .before .before .before .before .args .state .now) (c .before .before .before .before .before .before .before .args .d) (c .before .before .before .before .before .before .before .args .finished) (c .before .before .before .before .test-block .result) (c .before .before .before .before .test-block .ensures) (sound (c .before .before)) (c .pass-number .result) (c .pass-number .ensures)
+number : (c : tie.After-pass-number) → c .pass-number .result ≡ firstNo (passQuestions baseSpeeds (decode (c .before .before .before .before .before .before .before .before .before .before .before .before .before .before .before .before .args .state .now)) (c .before .before .before .before .before .before .before .before .before .before .before .before .before .before .before .before .args .d) (c .before .before .before .before .before .before .before .before .before .before .before .before .before .before .before .before .args .finished))
+number c = c .pass-number .ensures (decode (c .before .before .before .before .before .before .before .before .before .before .before .before .before .before .before .before .args .state .now)) (c .before .new .ensures ∙ c .before .before .before .before .before .before .before .before .clock-at .ensures) (c .before .before .standing .ensures) (next (c .before .before .before .before))
 
 test-block-requires : tie.Need-test-block-requires
 test-block-requires c κs = search needs
@@ -44,37 +38,43 @@ returns c = (
   refused-bytes (c .before .before .before .before .before .args .state .now) (c .before .before .before .before .before .args .d) (c .before .before .before .before .before .args .finished) 10 (number-10 (c .before .before .before .before .before .args .state .now) (c .before .before .before .before .before .args .d) (c .before .before .before .before .before .args .finished) (c .before .before .test-block .result) (c .before .before .test-block .ensures) (not-true (c .before .before .test-block .result .sound) (c .if1 .taken))) (λ e. omega arith),
 )
 
+clock-at-requires : tie.Need-clock-at-requires
+clock-at-requires c κs = good (c .before .before) .holds .size
+
+count-at-requires : tie.Need-count-at-requires
+count-at-requires c κs = good (c .before .before .before .before .before) .holds
+
 next-arrival-requires : tie.Need-next-arrival-requires
-next-arrival-requires c κs = ((good c .count, good-some (c .before .before .test-block .result .state) (c .before .before .test-block .result .times) (c .before .before .test-block .result .nominal) (good c) (size (c .before .before))), good-after (c .before .before .test-block .result .state) (c .before .before .test-block .result .times) (c .before .before .test-block .result .nominal) (good c) (size (c .before .before)))
+next-arrival-requires c κs = (good-few (c .before .before .before .before .before .before .before .before .before .before .before .args .state .now) (c .before .before .before .before .before .before .before .before .test-block .result .keys) (c .before .before .before .before .before .before .before .before .test-block .result .nominal) (good (c .before .before .before .before .before .before)) (c .count-at .result) (c .before .before .before .clock-at .result) (c .count-at .ensures) (c .before .before .before .clock-at .ensures), good-after (c .before .before .before .before .before .before .before .before .before .before .before .args .state .now) (c .before .before .before .before .before .before .before .before .test-block .result .keys) (c .before .before .before .before .before .before .before .before .test-block .result .nominal) (good (c .before .before .before .before .before .before)) (c .count-at .result) (c .before .before .before .clock-at .result) (c .count-at .ensures) (c .before .before .before .clock-at .ensures))
+
+standing-requires : tie.Need-standing-requires
+standing-requires c κs = (good (c .before .before .before .before .before .before .before .before) .holds, runnable (decode (c .before .before .before .before .before .before .before .before .before .before .before .before .before .args .state .now)) (sound-state (c .before .before .before .before .before .before .before .before .before .before .before .before .before .args .state .now) (good (c .before .before .before .before .before .before .before .before) .sound)))
+
+new-requires : tie.Need-new-requires
+new-requires c κs = search needs
 
 pass-number-requires : tie.Need-pass-number-requires
-pass-number-requires c κs = ((good (c .before) .sound, good (c .before) .count), next c)
+pass-number-requires c κs = good-clock (c .before .before .before .before .before .before .before .before .before .before .before .before .before .before .before .args .state .now) (c .before .before .before .before .before .before .before .before .before .before .before .before .test-block .result .keys) (c .before .before .before .before .before .before .before .before .before .before .before .before .test-block .result .nominal) (good (c .before .before .before .before .before .before .before .before .before .before)) (c .before .before .before .before .count-at .result) (c .new .result .ticks) (c .before .before .before .before .count-at .ensures) (c .new .ensures ∙ c .before .before .before .before .before .before .before .clock-at .ensures)
 
 same-length-2 : tie.Need-same-length-2
 same-length-2 c = search needs
 
 returns-2 : tie.Need-returns-2
 returns-2 c = (
-  refused-reply (c .before .before .before .before .before .before .before .before .args .state .now) (c .before .before .before .before .before .before .before .before .args .d) (c .before .before .before .before .before .before .before .before .args .finished) (c .before .pass-number .result) (number (c .before)) (c .if2 .taken),
-  refused-bytes (c .before .before .before .before .before .before .before .before .args .state .now) (c .before .before .before .before .before .before .before .before .args .d) (c .before .before .before .before .before .before .before .before .args .finished) (c .before .pass-number .result) (number (c .before)) (c .if2 .taken),
+  refused-reply (c .before .before .before .before .before .before .before .before .before .before .before .before .before .before .before .before .before .args .state .now) (c .before .before .before .before .before .before .before .before .before .before .before .before .before .before .before .before .before .args .d) (c .before .before .before .before .before .before .before .before .before .before .before .before .before .before .before .before .before .args .finished) (c .before .pass-number .result) (number-is (c .before .before .before .before .before .before .before .before .before .before .before .before .before .before .before .before .before .args .state .now) (c .before .before .before .before .before .before .before .before .before .before .before .before .before .before .before .before .before .args .d) (c .before .before .before .before .before .before .before .before .before .before .before .before .before .before .before .before .before .args .finished) (good (c .before .before .before .before .before .before .before .before .before .before .before .before) .sound) (c .before .pass-number .result) (number (c .before))) (c .if2 .taken),
+  refused-bytes (c .before .before .before .before .before .before .before .before .before .before .before .before .before .before .before .before .before .args .state .now) (c .before .before .before .before .before .before .before .before .before .before .before .before .before .before .before .before .before .args .d) (c .before .before .before .before .before .before .before .before .before .before .before .before .before .before .before .before .before .args .finished) (c .before .pass-number .result) (number-is (c .before .before .before .before .before .before .before .before .before .before .before .before .before .before .before .before .before .args .state .now) (c .before .before .before .before .before .before .before .before .before .before .before .before .before .before .before .before .before .args .d) (c .before .before .before .before .before .before .before .before .before .before .before .before .before .before .before .before .before .args .finished) (good (c .before .before .before .before .before .before .before .before .before .before .before .before) .sound) (c .before .pass-number .result) (number (c .before))) (c .if2 .taken),
 )
 
 passed-requires : tie.Need-passed-requires
-passed-requires c κs = (good (c .before .before .before), (next (c .before .before), sym (c .before .pass-number .ensures) ∙ c .if2 .left))
-
-store-requires : tie.Need-store-requires
-store-requires c κs = (c .before .passed .ensures .fitted, omega (arith, sound-length (c .before .before .before .before .before .before .before .before .before .before .args .state .now) (c .before .before .before .before .before .before .before .before .before .before .args .d) (c .before .before .before .before .before .before .before .before .before .before .args .finished) (c .before .before .before .before .before .before .before .test-block .result) (c .before .before .before .before .before .before .before .test-block .ensures) (sound (c .before .before .before .before .before))))
-
-order-of-requires : tie.Need-order-of-requires
-order-of-requires c κs = search needs
+passed-requires c κs = ((good (c .before .before .before .before .before .before .before .before .before .before .before .before .before .before), c .before .before .before .before .before .standing .ensures), (next (c .before .before .before .before .before .before .before), sym (number (c .before .before .before)) ∙ c .before .before .if2 .left))
 
 same-length-3 : tie.Need-same-length-3
 same-length-3 c = search needs
 
 returns-3 : tie.Need-returns-3
 returns-3 c = (
-  accepted-reply (c .before .before .before .before .before .before .before .before .before .before .before .before .before .before .args .state .now) (c .before .before .before .before .before .before .before .before .before .before .before .before .before .before .args .d) (c .before .before .before .before .before .before .before .before .before .before .before .before .before .before .args .finished) (c .before .before .before .before .before .before .before .before .before .before .before .test-block .result) (c .before .before .before .before .before .before .before .before .before .before .before .test-block .ensures) (sound (c .before .before .before .before .before .before .before .before .before)) (sym (c .before .before .before .before .before .before .if2 .left) ∙ number (c .before .before .before .before .before .before .before)) (c .before .before .before .before .before .passed .result) (c .before .before .before .before .before .passed .ensures) (c .order-of .result) (c .order-of .ensures),
-  accepted-bytes (c .before .before .before .before .before .before .before .before .before .before .before .before .before .before .args .state .now) (c .before .before .before .before .before .before .before .before .before .before .before .before .before .before .args .d) (c .before .before .before .before .before .before .before .before .before .before .before .before .before .before .args .finished) (c .before .before .before .before .before .before .before .before .before .before .before .test-block .result) (c .before .before .before .before .before .before .before .before .before .before .before .test-block .ensures) (sound (c .before .before .before .before .before .before .before .before .before)) (sym (c .before .before .before .before .before .before .if2 .left) ∙ number (c .before .before .before .before .before .before .before)) (c .before .before .before .before .before .passed .result) (c .before .before .before .before .before .passed .ensures) (c .before .before .before .store .last .0) (c .before .before .before .store .ensures),
+  accepted-reply (c .before .before .before .before .before .before .before .before .before .before .before .before .before .before .before .before .before .before .before .before .before .before .args .state .now) (c .before .before .before .before .before .before .before .before .before .before .before .before .before .before .before .before .before .before .before .before .before .before .args .d) (c .before .before .before .before .before .before .before .before .before .before .before .before .before .before .before .before .before .before .before .before .before .before .args .finished) (good (c .before .before .before .before .before .before .before .before .before .before .before .before .before .before .before .before .before) .sound) (sym (number (c .before .before .before .before .before .before)) ∙ c .before .before .before .before .before .if2 .left) (c .before .before .passed .result) (c .before .before .passed .ensures .0),
+  accepted-bytes (c .before .before .before .before .before .before .before .before .before .before .before .before .before .before .before .before .before .before .before .before .before .before .args .state .now) (c .before .before .before .before .before .before .before .before .before .before .before .before .before .before .before .before .before .before .before .before .before .before .args .d) (c .before .before .before .before .before .before .before .before .before .before .before .before .before .before .before .before .before .before .before .before .before .before .args .finished) (good (c .before .before .before .before .before .before .before .before .before .before .before .before .before .before .before .before .before) .sound) (sym (number (c .before .before .before .before .before .before)) ∙ c .before .before .before .before .before .if2 .left) (c .before .before .passed .last .0) (c .before .before .passed .ensures .1),
 )
 
 pub pass-spec : {M : Type 1} → statement M
@@ -84,12 +84,14 @@ pass-spec =
     test-block-requires
     same-length
     returns
+    clock-at-requires
+    count-at-requires
     next-arrival-requires
+    standing-requires
+    new-requires
     pass-number-requires
     same-length-2
     returns-2
     passed-requires
-    store-requires
-    order-of-requires
     same-length-3
     returns-3)

@@ -1,14 +1,10 @@
 use mathlib.Core.List.{List}
-use Prim.Native.Nat.{ℕ, _≤_}
-use mathlib.Core.Path.{_≡_, refl, sym, ap, _∙_, subst}
-use mathlib.Core.Bool.{Bool, true, false}
-use lib.Dec.{eqb}
+use mathlib.Core.Path.{sym, ap, _∙_}
 use lib.ListN.{length}
 use lib.Seq.{length-take-le}
-use borrow.Author.Tests.{eqb-true, eqb-false, not-true, not-false}
-use Rattle.dispatcher.specs.declared.Reply.{Reply}
+use borrow.Author.Tests.{not-true, not-false}
 use Rattle.plan.specs.Levels.{baseSpeeds}
-use Rattle.dispatcher.specs.Calls.{refusalOf, startReply}
+use Rattle.dispatcher.specs.Calls.{startReply}
 use Rattle.dispatcher.specs.Run.{Pass}
 use Rattle.dispatcher.specs.Entries.{replyNumber}
 use Rattle.dispatcher.specs.Play.{playedPasses}

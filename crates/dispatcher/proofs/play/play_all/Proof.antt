@@ -1,9 +1,9 @@
 use Rattle.dispatcher.specs.Play.{playedPasses}
-use Prim.Native.Nat.{ℕ, _+_, _-_, _<_, _≤_}
-use mathlib.Core.Path.{_≡_, refl, sym, ap, _∙_}
+use Prim.Native.Nat.{_-_, _≤_}
+use mathlib.Core.Path.{_≡_, refl, ap, _∙_}
 use native.Mathlib.Omega.{arith}
 use borrow.Author.Needs.{needs}
-use lib.ListN.{length, length-set, getD}
+use lib.ListN.{length, length-set}
 use Rattle.plan.specs.Levels.{baseSpeeds}
 use Rattle.dispatcher.specs.Run.{bytesAfter}
 use Rattle.dispatcher.proofs.PlaySteps.{playedTo, repliesTo, state-more, replies-more, all-played, room-played, replies-end}

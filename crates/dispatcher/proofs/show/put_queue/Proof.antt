@@ -1,48 +1,43 @@
 -- `put_queue` meets its contract. The loop has stored the first k tasks.
 -- Assumes nothing.
-use Prim.Native.Nat.{ℕ, _-_, _≤_, _<_}
+use Prim.Native.Nat.{_-_, _≤_, _<_}
 use mathlib.Core.Path.{_≡_, refl, _∙_}
 use native.Mathlib.Omega.{arith}
 use borrow.Author.Needs.{needs}
 use lib.ListN.{length, getD, length-set}
-use Rattle.dispatcher.specs.Code.{entryOf}
-use Rattle.dispatcher.proofs.ShowLaws.{shownTo, shown-more, shown-all}
+use Rattle.dispatcher.proofs.ShowLaws.{remainingIn, shownTo, shown-more, shown-all}
 use Rattle.dispatcher.proofs.show.put_queue.Statement.{statement}
 use Rattle.dispatcher.proofs.show.put_queue.Tie as tie
 
 abbrev Inv-loop : tie.InvT-loop
-Inv-loop buffer₀ l q len k₀ buffer k =
-    (k ≤ len) × (length buffer ≡ length buffer₀) × (buffer ≡ shownTo (λ i. entryOf l i .remaining) (q .tasks) buffer₀ k)
+Inv-loop buffer₀ state q len k₀ buffer k = (k ≤ len) × (length buffer ≡ length buffer₀) × (buffer ≡ shownTo (remainingIn state) (q .tasks) buffer₀ k)
 
 abbrev μ-loop : tie.MeasureT-loop
-μ-loop buffer₀ l q len k₀ buffer k = len - k
+μ-loop buffer₀ state q len k₀ buffer k = len - k
 
 size : (c : tie.Start Inv-loop μ-loop) → length (c .args .t3 .tasks) ≡ 16
 size c = search needs
 
-below : (c : tie.In-loop Inv-loop μ-loop) → getD (c .before .before .before .args .t3 .tasks) (c .before .loop .k) 0 < 16
-below c = c .before .before .before .pre .1 (c .before .loop .k) (c .loop-test .taken)
+below : (c : tie.In-loop Inv-loop μ-loop) → getD (c .before .before .before .before .args .t3 .tasks) (c .before .loop .k) 0 < 16
+below c = c .before .before .before .before .pre .1 (c .before .loop .k) (c .loop-test .taken)
 
 loop-holds : tie.Need-loop-holds Inv-loop μ-loop
 loop-holds c = (omega arith, refl, refl)
 
 element-copy-out-task : tie.Need-element-copy-out-task Inv-loop μ-loop
-element-copy-out-task c = omega (arith, size (c .before .before .before))
-
-cast-e : tie.Need-cast-e Inv-loop μ-loop
-cast-e c = omega (arith, below (c .before))
-
-mul-e : tie.Need-mul-e Inv-loop μ-loop
-mul-e c = omega (arith, below (c .before))
-
-element-copy-out-e : tie.Need-element-copy-out-e Inv-loop μ-loop
-element-copy-out-e c = omega (arith, below (c .before))
+element-copy-out-task c = omega (arith, size (c .before .before .before .before))
 
 mul-buffer : tie.Need-mul-buffer Inv-loop μ-loop
 mul-buffer c = omega arith
 
 slice-write-buffer : tie.Need-slice-write-buffer Inv-loop μ-loop
 slice-write-buffer c = omega arith
+
+cast-remaining-at : tie.Need-cast-remaining-at Inv-loop μ-loop
+cast-remaining-at c = omega (arith, below (c .before))
+
+remaining-at-requires : tie.Need-remaining-at-requires Inv-loop μ-loop
+remaining-at-requires c κs = (below (c .before), c .before .before .before .before .before .pre .0 .0)
 
 mul-put-number : tie.Need-mul-put-number Inv-loop μ-loop
 mul-put-number c = omega arith
@@ -63,8 +58,8 @@ loop-again : tie.Need-loop-again Inv-loop μ-loop
 loop-again c = (
   omega arith,
   c .before .before .put-number .kept .0 ∙ simp length-set (c .before .before .before .before .before .before .before .loop .inv .1),
-  shown-more (λ i. entryOf (c .before .before .before .before .before .before .before .before .before .args .t2) i .remaining) (c .before .before .before .before .before .before .before .before .before .args .t3 .tasks) (c .before .before .before .before .before .before .before .before .before .args .buffer .now) (c .before .before .before .before .before .before .before .loop .k) (c .before .before .before .before .before .before .before .loop .buffer) (c .before .before .put-number .last .0)
-      (omega (arith, size (c .before .before .before .before .before .before .before .before .before))) (omega arith) (c .before .before .before .before .before .before .before .loop .inv .2) (c .before .before .put-number .ensures),
+  shown-more (remainingIn (c .before .before .before .before .before .before .before .before .before .before .args .state .now)) (c .before .before .before .before .before .before .before .before .before .before .args .t3 .tasks) (c .before .before .before .before .before .before .before .before .before .before .args .buffer .now) (c .before .before .before .before .before .before .before .loop .k) (c .before .before .before .before .before .before .before .loop .buffer) (c .before .before .put-number .last .0) (c .before .before .before .before .remaining-at .result)
+      (omega (arith, size (c .before .before .before .before .before .before .before .before .before .before))) (omega arith) (c .before .before .before .before .remaining-at .ensures .0) (c .before .before .before .before .before .before .before .loop .inv .2) (c .before .before .put-number .ensures),
 )
 
 same-length : tie.Need-same-length Inv-loop μ-loop
@@ -72,7 +67,7 @@ same-length c = c .before .loop .inv .1
 
 returns : tie.Need-returns Inv-loop μ-loop
 returns c =
-    shown-all (λ i. entryOf (c .before .before .before .args .t2) i .remaining) (c .before .before .before .args .t3 .tasks) (c .before .before .before .args .buffer .now) (c .before .loop .k) (c .before .before .before .args .t3 .len) (c .before .loop .buffer) (omega arith) (c .before .loop .inv .2)
+    shown-all (remainingIn (c .before .before .before .before .args .state .now)) (c .before .before .before .before .args .t3 .tasks) (c .before .before .before .before .args .buffer .now) (c .before .loop .k) (c .before .before .before .before .args .t3 .len) (c .before .loop .buffer) (omega arith) (c .before .loop .inv .2)
 
 pub put-queue-spec : {M : Type 1} → statement M
 put-queue-spec =
@@ -82,11 +77,10 @@ put-queue-spec =
     μ-loop
     loop-holds
     element-copy-out-task
-    cast-e
-    mul-e
-    element-copy-out-e
     mul-buffer
     slice-write-buffer
+    cast-remaining-at
+    remaining-at-requires
     mul-put-number
     add-put-number
     put-number-requires

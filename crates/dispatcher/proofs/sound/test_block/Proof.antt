@@ -1,22 +1,16 @@
 -- `test_block` meets its contract, by each way out.
 -- Assumes nothing.
-use Prim.Native.Nat.{ℕ, _<_}
-use mathlib.Core.Path.{_≡_}
+use mathlib.Core.Path.{refl}
 use native.Mathlib.Omega.{arith}
 use borrow.Author.Needs.{needs}
 use borrow.Author.Tests.{not-true, not-false}
-use lib.ListN.{length, getD}
-use Rattle.plan.proofs.Lists.{length-mapped}
-use Rattle.dispatcher.proofs.ImageLaws.{loaded-count}
-use Rattle.dispatcher.proofs.SoundLaws.{length-not, count-none, count-above, layout-not, loaded-tested, remaining-fits}
+use Rattle.dispatcher.specs.Code.{Holds}
+use Rattle.dispatcher.proofs.SoundLaws.{length-not, count-none, count-above, layout-not, state-tested}
 use Rattle.dispatcher.proofs.sound.test_block.Statement.{statement}
 use Rattle.dispatcher.proofs.sound.test_block.Tie as tie
 
-bytes : (c : tie.After-shared-slice-known) (k : ℕ) → getD (c .before .args .block .now) k 0 < 256
-bytes c k = omega (arith, c .shared-slice-known .given k)
-
-size : (c : tie.After-load) → length (c .load .result .entries) ≡ 16
-size c = search (length-mapped, needs)
+holds : (c : tie.Else3) → Holds (c .before .before .before .before .before .args .block .now)
+holds c = record { size = c .before .before .before .if1 .left; few = c .if3 .left }
 
 not-sound-requires : tie.Need-not-sound-requires
 not-sound-requires c κs = search needs
@@ -26,6 +20,9 @@ returns c = length-not (c .before .before .before .args .block .now) (c .not-sou
 
 shared-slice-read-count : tie.Need-shared-slice-read-count
 shared-slice-read-count c = search needs
+
+cast-count : tie.Need-cast-count
+cast-count c = omega (arith, c .shared-slice-known2 .given 6)
 
 not-sound-requires-2 : tie.Need-not-sound-requires-2
 not-sound-requires-2 c κs = search needs
@@ -48,17 +45,11 @@ not-sound-requires-4 c κs = search needs
 returns-4 : tie.Need-returns-4
 returns-4 c = layout-not (c .before .before .before .before .before .before .before .before .args .block .now) (c .not-sound4 .result) (c .before .before .laid-out .result) (c .before .before .laid-out .ensures) (not-true _ (c .before .if4 .taken)) (c .not-sound4 .ensures)
 
-load-requires : tie.Need-load-requires
-load-requires c κs = search needs
-
-test-loaded-requires : tie.Need-test-loaded-requires
-test-loaded-requires c κs = (
-  (omega (arith, loaded-count (c .before .before .before .before .before .before .before .before .args .block .now) (c .load .result) (c .load .ensures) (size c)), c .load .ensures .count),
-  remaining-fits (c .before .before .before .before .before .before .before .before .args .block .now) (c .load .result) (bytes (c .before .before .before .before .before .before .before)) (c .load .ensures) (size c),
-)
+test-state-requires : tie.Need-test-state-requires
+test-state-requires c κs = (holds (c .before .before), refl, omega (arith, c .before .before .before .if2 .left))
 
 returns-5 : tie.Need-returns-5
-returns-5 c = loaded-tested (c .before .before .before .before .before .before .before .before .before .args .block .now) (c .test-loaded .result) (c .before .before .before .laid-out .result) (c .before .before .before .laid-out .ensures) (not-false _ (c .before .before .if4 .left)) (c .before .load .result) (c .before .load .ensures) (c .test-loaded .ensures .0) (c .test-loaded .ensures .1)
+returns-5 c = state-tested (c .before .before .before .before .before .before .before .before .args .block .now) (c .test-state .result) (c .before .before .laid-out .result) (c .before .before .laid-out .ensures) (not-false _ (c .before .if4 .left)) (holds (c .before .before .before)) (c .test-state .ensures .0) (c .test-state .ensures .1)
 
 pub test-block-spec : {M : Type 1} → statement M
 test-block-spec =
@@ -67,6 +58,7 @@ test-block-spec =
     not-sound-requires
     returns
     shared-slice-read-count
+    cast-count
     not-sound-requires-2
     returns-2
     not-sound-requires-3
@@ -74,6 +66,5 @@ test-block-spec =
     laid-out-requires
     not-sound-requires-4
     returns-4
-    load-requires
-    test-loaded-requires
+    test-state-requires
     returns-5)

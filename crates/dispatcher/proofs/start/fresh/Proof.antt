@@ -1,36 +1,29 @@
--- `fresh` meets its contract. The loop has made the entries of the first i tasks.
+-- `fresh` meets its contract. The loop has stored the entries of the first i tasks.
 -- Assumes nothing.
-use Prim.Native.Nat.{_-_, _≤_}
-use mathlib.Core.Path.{_≡_, refl}
+use Prim.Native.Nat.{_-_}
+use mathlib.Core.Path.{_≡_}
 use native.Mathlib.Omega.{arith}
 use borrow.Author.Needs.{needs}
 use lib.ListN.{length}
 use Rattle.plan.proofs.Lists.{length-mapped}
-use Rattle.dispatcher.proofs.StartLaws.{Making, making-more, making-all}
+use Rattle.dispatcher.proofs.StartLaws.{Making, making-none, making-more, making-all}
 use Rattle.dispatcher.proofs.start.fresh.Statement.{statement}
 use Rattle.dispatcher.proofs.start.fresh.Tie as tie
 
 abbrev Inv-loop : tie.InvT-loop
-Inv-loop speed p count l₀ i₀ l i = Making speed p l i
+Inv-loop speed p count image₀ i₀ image i = Making speed p image i
 
 abbrev μ-loop : tie.MeasureT-loop
-μ-loop speed p count l₀ i₀ l i = count - i
+μ-loop speed p count image₀ i₀ image i = count - i
 
 size : (c : tie.Start Inv-loop μ-loop) → length (c .args .t1 .tasks) ≡ 16
 size c = search (length-mapped, needs)
 
-new-requires : tie.Need-new-requires Inv-loop μ-loop
-new-requires c κs = search needs
+blank-requires : tie.Need-blank-requires Inv-loop μ-loop
+blank-requires c κs = c .pre .0
 
 loop-holds : tie.Need-loop-holds Inv-loop μ-loop
-loop-holds c = record {
-  below = omega arith;
-  clock = c .new .ensures;
-  task = refl;
-  level = refl;
-  total = refl;
-  entries = refl;
-}
+loop-holds c = making-none (c .before .args .speed) (c .before .args .t1) (size (c .before)) (c .before .pre .0) (c .blank .result) (c .blank .ensures)
 
 mul-t : tie.Need-mul-t Inv-loop μ-loop
 mul-t c = omega arith
@@ -39,13 +32,13 @@ element-copy-out-t : tie.Need-element-copy-out-t Inv-loop μ-loop
 element-copy-out-t c = omega arith
 
 time-needed-requires : tie.Need-time-needed-requires Inv-loop μ-loop
-time-needed-requires c κs = search needs
+time-needed-requires c κs = c .before .before .before .before .pre .1
 
-mul-t13 : tie.Need-mul-t13 Inv-loop μ-loop
-mul-t13 c = omega arith
+slice-aggregate-put-entry : tie.Need-slice-aggregate-put-entry Inv-loop μ-loop
+slice-aggregate-put-entry c = search needs
 
-element-set-from-l : tie.Need-element-set-from-l Inv-loop μ-loop
-element-set-from-l c = omega arith
+put-entry-requires : tie.Need-put-entry-requires Inv-loop μ-loop
+put-entry-requires c κs = (omega arith, c .before .before .before .before .loop .inv .size)
 
 add-i : tie.Need-add-i Inv-loop μ-loop
 add-i c = omega arith
@@ -55,11 +48,12 @@ loop-less c = omega arith
 
 loop-again : tie.Need-loop-again Inv-loop μ-loop
 loop-again c =
-    making-more (c .before .before .before .before .before .args .speed) (c .before .before .before .before .before .args .t1) (size (c .before .before .before .before .before)) (c .before .before .before .before .before .pre .0) (c .before .before .before .loop .l) (c .before .before .before .loop .i) (c .before .before .before .loop .inv) (c .time-needed .result) (c .before .before .loop-test .taken) (c .time-needed .ensures)
+    making-more (c .before .before .before .before .before .before .before .before .args .speed) (c .before .before .before .before .before .before .before .before .args .t1) (size (c .before .before .before .before .before .before .before .before)) (c .before .before .before .before .before .before .before .before .pre .0) (c .before .before .before .before .before .before .loop .image) (c .before .before .before .before .before .before .loop .i) (c .before .before .before .before .before .before .loop .inv)
+    (c .before .before .before .time-needed .result) (c .before .put-entry .last .0) (c .before .before .before .before .before .loop-test .taken) (c .before .before .before .time-needed .ensures) (c .before .put-entry .ensures)
 
 returns : tie.Need-returns Inv-loop μ-loop
 returns c =
-    making-all (c .before .before .before .args .speed) (c .before .before .before .args .t1) (size (c .before .before .before)) (c .before .before .before .pre .0) (c .before .loop .l) (c .before .loop .i) (c .before .loop .inv) (omega arith)
+    making-all (c .before .before .before .args .speed) (c .before .before .before .args .t1) (size (c .before .before .before)) (c .before .before .before .pre .0) (c .before .loop .image) (c .before .loop .i) (c .before .loop .inv) (omega arith)
 
 pub fresh-spec : {M : Type 1} → statement M
 fresh-spec =
@@ -67,13 +61,13 @@ fresh-spec =
     (tie.spec
     Inv-loop
     μ-loop
-    new-requires
+    blank-requires
     loop-holds
     mul-t
     element-copy-out-t
     time-needed-requires
-    mul-t13
-    element-set-from-l
+    slice-aggregate-put-entry
+    put-entry-requires
     add-i
     loop-less
     loop-again

@@ -1,15 +1,16 @@
--- `started` meets its contract: the new state, its times, the order chosen in it, and its hold.
+-- `started` meets its contract: the new image, its keys, and the order chosen in it, stored.
 -- Assumes nothing.
-use mathlib.Core.Path.{_≡_, sym}
+use Prim.Native.Nat.{ℕ, _<_}
+use mathlib.Core.Path.{_≡_}
 use native.Mathlib.Omega.{arith}
 use lib.ListN.{length}
 use Rattle.plan.specs.Levels.{baseSpeeds}
 use Rattle.plan.specs.Blocks.{tasksOf}
 use Rattle.plan.proofs.Lists.{length-mapped}
-use Rattle.dispatcher.specs.StateBlock.{encode, timing}
+use Rattle.dispatcher.specs.StateBlock.{encode}
 use Rattle.dispatcher.specs.Passes.{startState}
 use Rattle.dispatcher.specs.Calls.{startOrder}
-use Rattle.dispatcher.proofs.StartLaws.{plan-few, level-below, speed-some, Newly, newly, new-few, new-clock, new-periods, new-remaining, new-timed, Chosen, chosen, chosen-few, chosen-some, chosen-deadlines, chosen-fitted, chosen-runs, chosen-reply, chosen-stored, left-short, left-stored}
+use Rattle.dispatcher.proofs.StartLaws.{plan-few, plan-count, level-below, speed-some, Newly, newly, new-size, new-periods, new-ready, new-reply, new-stored, left-short, left-stored}
 use borrow.Author.Needs.{needs}
 use Rattle.dispatcher.proofs.start.started.Statement.{statement}
 use Rattle.dispatcher.proofs.start.started.Tie as tie
@@ -17,16 +18,17 @@ use Rattle.dispatcher.proofs.start.started.Tie as tie
 size : (c : tie.Start) → length (c .args .p .tasks) ≡ 16
 size c = search (length-mapped, needs)
 
--- the new state, and the one with an order in it
+-- the tasks of the plan
+below : (c : tie.Start) (i : ℕ) → i < c .args .p .count → i < length (tasksOf (c .args .p))
+below c i h = omega (arith, plan-count (c .args .p) (size c) (c .pre .0))
+
+within : (c : tie.Start) (i : ℕ) → i < length (tasksOf (c .args .p)) → i < c .args .p .count
+within c i h = omega (arith, plan-count (c .args .p) (size c) (c .pre .0))
+
+-- the new image
 made : (c : tie.After-fresh) → Newly (tasksOf (c .before .before .before .before .args .p)) (c .fresh .result)
 made c =
     newly (c .before .before .before .before .args .p) (size (c .before .before .before .before)) (c .before .before .before .before .pre .0) (c .before .before .before .before .args .highest) (c .before .speed-of .result) (c .fresh .result) (c .before .before .before .before .pre .1) (c .before .speed-of .ensures) (c .fresh .ensures)
-
-settled : (c : tie.After-choose) → Chosen (tasksOf (c .before .before .before .before .before .before .args .p)) (c .choose .result) (c .before .times-of .result)
-settled c =
-    let timed = new-timed (tasksOf (c .before .before .before .before .before .before .args .p)) (c .before .before .fresh .result) (made (c .before .before)) (c .before .times-of .result) (c .before .times-of .ensures) in
-    chosen (tasksOf (c .before .before .before .before .before .before .args .p)) (c .before .before .fresh .result) (c .choose .result) (c .before .times-of .result) (made (c .before .before)) timed
-    (c .choose .ensures .0 (timing baseSpeeds (tasksOf (c .before .before .before .before .before .before .args .p))) (sym (made (c .before .before) .count)) timed) (c .choose .ensures .1 .0) (c .choose .ensures .1 .1)
 
 returns : tie.Need-returns
 returns c =
@@ -41,51 +43,42 @@ fresh-requires c κs = (
   speed-some (c .before .before .before .args .p) (size (c .before .before .before)) (c .before .before .before .pre .0) (c .before .before .before .args .highest) (c .before .before .before .pre .1) (c .speed-of .result) (c .speed-of .ensures),
 )
 
-times-of-requires : tie.Need-times-of-requires
-times-of-requires c κs = (
-  (new-few (tasksOf (c .before .before .before .before .args .p)) (c .fresh .result) (made c), omega (arith, new-clock (tasksOf (c .before .before .before .before .args .p)) (c .fresh .result) (made c))),
-  new-periods (tasksOf (c .before .before .before .before .args .p)) (c .fresh .result) (made c),
+slice-aggregate-keys-of : tie.Need-slice-aggregate-keys-of
+slice-aggregate-keys-of c = search needs
+
+keys-of-requires : tie.Need-keys-of-requires
+keys-of-requires c κs = (
+  (
+    plan-few (c .before .before .before .before .before .args .p) (size (c .before .before .before .before .before)) (c .before .before .before .before .before .pre .0),
+    new-size (tasksOf (c .before .before .before .before .before .args .p)) (c .before .fresh .result) (made (c .before)),
+    omega arith,
+  ),
+  λ i h. new-periods (tasksOf (c .before .before .before .before .before .args .p)) (c .before .fresh .result) (made (c .before)) i (below (c .before .before .before .before .before) i h),
 )
+
+slice-aggregate-choose : tie.Need-slice-aggregate-choose
+slice-aggregate-choose c = search needs
 
 choose-requires : tie.Need-choose-requires
-choose-requires c κs = (
-  new-few (tasksOf (c .before .before .before .before .before .args .p)) (c .before .fresh .result) (made (c .before)),
-  new-remaining (tasksOf (c .before .before .before .before .before .args .p)) (c .before .fresh .result) (made (c .before)),
-)
+choose-requires c κs =
+    new-ready (tasksOf (c .before .before .before .before .before .before .before .before .args .p)) (c .before .before .before .before .fresh .result) (made (c .before .before .before .before)) (c .before .before .keys-of .result)
+    (λ i h. c .before .before .keys-of .ensures i (within (c .before .before .before .before .before .before .before .before) i h))
 
-next-arrival-requires : tie.Need-next-arrival-requires
-next-arrival-requires c κs = (
-  (
-    chosen-few (tasksOf (c .before .before .before .before .before .before .args .p)) (c .choose .result) (c .before .times-of .result) (settled c),
-    chosen-some (tasksOf (c .before .before .before .before .before .before .args .p)) (c .choose .result) (c .before .times-of .result) (settled c),
-  ),
-  chosen-deadlines (tasksOf (c .before .before .before .before .before .before .args .p)) (c .choose .result) (c .before .times-of .result) (settled c),
-)
-
-hold-of-requires : tie.Need-hold-of-requires
-hold-of-requires c κs = (
-  chosen-few (tasksOf (c .before .before .before .before .before .before .before .args .p)) (c .before .choose .result) (c .before .before .times-of .result) (settled (c .before)),
-  chosen-runs (tasksOf (c .before .before .before .before .before .before .before .args .p)) (c .before .choose .result) (c .before .before .times-of .result) (settled (c .before)),
-)
+slice-aggregate-store : tie.Need-slice-aggregate-store
+slice-aggregate-store c = search needs
 
 store-requires : tie.Need-store-requires
-store-requires c κs = (
-  chosen-fitted (tasksOf (c .before .before .before .before .before .before .before .before .before .args .p)) (c .before .before .before .choose .result) (c .before .before .before .before .times-of .result) (settled (c .before .before .before)),
-  c .before .before .before .before .before .before .before .if1 .left,
-)
-
-order-of-requires : tie.Need-order-of-requires
-order-of-requires c κs = search needs
+store-requires c κs = search needs
 
 same-length : tie.Need-same-length
 same-length c = search needs
 
 returns-2 : tie.Need-returns-2
 returns-2 c =
-    left-stored (startOrder baseSpeeds (startState baseSpeeds (tasksOf (c .before .before .before .before .before .before .before .before .before .before .before .before .before .args .p)))) (encode (startState baseSpeeds (tasksOf (c .before .before .before .before .before .before .before .before .before .before .before .before .before .args .p)))) (c .before .before .before .before .before .before .before .before .before .before .before .before .before .args .state .now) (c .before .before .before .before .before .before .before .before .before .before .before .if1 .left)
-    (c .order-of .result) (c .before .before .before .store .last .0)
-    (chosen-reply (tasksOf (c .before .before .before .before .before .before .before .before .before .before .before .before .before .args .p)) (c .before .before .before .before .before .before .before .choose .result) (c .before .before .before .before .before .before .before .before .times-of .result) (settled (c .before .before .before .before .before .before .before)) (c .before .before .before .before .before .before .next-arrival .result) (c .before .before .before .before .before .hold-of .result) (c .order-of .result) (c .before .before .before .before .before .before .next-arrival .ensures) (c .before .before .before .before .before .hold-of .ensures) (c .order-of .ensures))
-    (chosen-stored (tasksOf (c .before .before .before .before .before .before .before .before .before .before .before .before .before .args .p)) (c .before .before .before .before .before .before .before .choose .result) (c .before .before .before .before .before .before .before .before .times-of .result) (settled (c .before .before .before .before .before .before .before)) (c .before .before .before .before .before .before .before .before .before .before .before .before .before .args .state .now) (c .before .before .before .store .last .0) (c .before .before .before .store .ensures))
+    left-stored (startOrder baseSpeeds (startState baseSpeeds (tasksOf (c .before .before .before .before .before .before .before .before .before .before .before .before .before .before .before .args .p)))) (encode (startState baseSpeeds (tasksOf (c .before .before .before .before .before .before .before .before .before .before .before .before .before .before .before .args .p)))) (c .before .before .before .before .before .before .before .before .before .before .before .before .before .before .before .args .state .now) (c .before .before .before .before .before .before .before .before .before .before .before .before .before .if1 .left)
+    (c .before .before .before .before .before .before .choose .result) (c .before .before .store .last .0)
+    (new-reply (tasksOf (c .before .before .before .before .before .before .before .before .before .before .before .before .before .before .before .args .p)) (c .before .before .before .before .before .before .before .before .before .before .before .fresh .result) (made (c .before .before .before .before .before .before .before .before .before .before .before)) (c .before .before .before .before .before .before .choose .result) (c .before .before .before .before .before .before .choose .ensures .0))
+    (new-stored (tasksOf (c .before .before .before .before .before .before .before .before .before .before .before .before .before .before .before .args .p)) (c .before .before .before .before .before .before .before .before .before .before .before .fresh .result) (made (c .before .before .before .before .before .before .before .before .before .before .before)) (c .before .before .before .before .before .before .before .before .before .before .before .before .before .before .before .args .state .now) (c .before .before .before .before .before .before .choose .last .0) (c .before .before .store .last .0) (c .before .before .before .before .before .before .choose .ensures .1) (c .before .before .store .ensures))
 
 pub started-spec : {M : Type 1} → statement M
 started-spec =
@@ -94,11 +87,11 @@ started-spec =
     returns
     speed-of-requires
     fresh-requires
-    times-of-requires
+    slice-aggregate-keys-of
+    keys-of-requires
+    slice-aggregate-choose
     choose-requires
-    next-arrival-requires
-    hold-of-requires
+    slice-aggregate-store
     store-requires
-    order-of-requires
     same-length
     returns-2)

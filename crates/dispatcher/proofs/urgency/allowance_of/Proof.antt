@@ -1,43 +1,40 @@
 -- `allowance_of` meets its contract. The loop has summed the terms below j, each at most 65535.
 -- Assumes nothing.
 use Prim.Native.Nat.{ℕ, _-_, _*_, _≤_}
-use native.Mathlib.Omega.{arith}
 use mathlib.Core.Path.{_≡_, refl, ap, _∙_}
+use mathlib.Core.List.{List}
 use mathlib.Core.Logic.{⊎-elim}
-use borrow.Author.Tests.{not-true, not-false}
-use Rattle.arith.specs.Choice.{pick}
-use Rattle.arith.specs.Sum.{sumTo}
-use Rattle.dispatcher.specs.declared.Loaded.{Loaded}
-use Rattle.dispatcher.specs.declared.Times.{Times}
-use Rattle.dispatcher.specs.Code.{entryOf, urgentBy}
-use Rattle.dispatcher.proofs.UrgencySteps.{sum-more, sum-same, picked-yes, picked-no}
+use native.Mathlib.Omega.{arith}
+use borrow.Author.Needs.{needs}
+use Rattle.dispatcher.specs.Code.{entryIn, allowedBy}
+use Rattle.dispatcher.proofs.KeySteps.{allowed-more, allowed-same}
 use Rattle.dispatcher.proofs.urgency.allowance_of.Statement.{statement}
 use Rattle.dispatcher.proofs.urgency.allowance_of.Tie as tie
 
--- what task j adds to the sum
-abbrev term : Times → ℕ → Loaded → ℕ → ℕ
-term t x l j = pick (urgentBy t x j) 0 (entryOf l j .remaining)
+-- what task j has left
+abbrev left : List ℕ → ℕ → ℕ
+left block j = entryIn block j .remaining
 
 abbrev Inv-loop : tie.InvT-loop
-Inv-loop t x l count sum₀ j₀ sum j = (j ≤ count) × (sum ≡ sumTo j (term t x l)) × (sum ≤ 65535 * j)
+Inv-loop block keys count key sum₀ j₀ sum j = (j ≤ count) × (sum ≡ allowedBy keys (left block) j key) × (sum ≤ 65535 * j)
 
 abbrev μ-loop : tie.MeasureT-loop
-μ-loop t x l count sum₀ j₀ sum j = count - j
+μ-loop block keys count key sum₀ j₀ sum j = count - j
 
 loop-holds : tie.Need-loop-holds Inv-loop μ-loop
 loop-holds c = (omega arith, refl, omega arith)
 
-mul-e : tie.Need-mul-e Inv-loop μ-loop
-mul-e c = omega arith
+remaining-at-requires : tie.Need-remaining-at-requires Inv-loop μ-loop
+remaining-at-requires c κs = search needs
 
-element-copy-out-e : tie.Need-element-copy-out-e Inv-loop μ-loop
-element-copy-out-e c = omega arith
+mul-if1 : tie.Need-mul-if1 Inv-loop μ-loop
+mul-if1 c = omega arith
 
-urgent-requires : tie.Need-urgent-requires Inv-loop μ-loop
-urgent-requires c κs = omega arith
+element-copy-out-if1 : tie.Need-element-copy-out-if1 Inv-loop μ-loop
+element-copy-out-if1 c = omega arith
 
 add-sum : tie.Need-add-sum Inv-loop μ-loop
-add-sum c = omega (arith, c .before .before .before .before .before .before .pre .1 (c .before .before .before .before .before .loop .j) (c .before .before .before .before .loop-test .taken))
+add-sum c = omega (arith, c .before .before .remaining-at .ensures .1)
 
 add-j : tie.Need-add-j Inv-loop μ-loop
 add-j c = omega arith
@@ -49,16 +46,19 @@ loop-again : tie.Need-loop-again Inv-loop μ-loop
 loop-again c = (
   omega arith,
   ⊎-elim
-      (λ w. sum-more (term (c .before .before .before .before .before .args .t) (c .before .before .before .before .before .args .x) (c .before .before .before .before .before .args .t1)) (c .before .before .before .before .loop .j) (c .before .before .before .before .loop .sum) (c .if1 .sum) (c .before .before .before .before .loop .inv .1) (entryOf (c .before .before .before .before .before .args .t1) (c .before .before .before .before .loop .j) .remaining) (picked-no (c .before .urgent .result) (urgentBy (c .before .before .before .before .before .args .t) (c .before .before .before .before .before .args .x) (c .before .before .before .before .loop .j)) 0 (entryOf (c .before .before .before .before .before .args .t1) (c .before .before .before .before .loop .j) .remaining) (c .before .urgent .ensures) (not-true (c .before .urgent .result) (w .0 .taken))) (w .2))
-      (λ w. sum-same (term (c .before .before .before .before .before .args .t) (c .before .before .before .before .before .args .x) (c .before .before .before .before .before .args .t1)) (c .before .before .before .before .loop .j) (c .before .before .before .before .loop .sum) (c .if1 .sum) (c .before .before .before .before .loop .inv .1) (picked-yes (c .before .urgent .result) (urgentBy (c .before .before .before .before .before .args .t) (c .before .before .before .before .before .args .x) (c .before .before .before .before .loop .j)) 0 (entryOf (c .before .before .before .before .before .args .t1) (c .before .before .before .before .loop .j) .remaining) (c .before .urgent .ensures) (not-false (c .before .urgent .result) (w .0 .left))) (w .1))
+      (λ w. allowed-more (c .before .before .before .before .before .before .args .keys .now) (left (c .before .before .before .before .before .before .args .block .now)) (c .before .before .before .before .loop .j) (c .before .before .before .before .before .before .args .key) (c .before .before .before .before .loop .sum) (c .if1 .sum) (c .before .before .before .before .loop .inv .1) (c .before .before .remaining-at .result) (w .0 .taken) (c .before .before .remaining-at .ensures .0) (w .1))
+      (λ w. allowed-same (c .before .before .before .before .before .before .args .keys .now) (left (c .before .before .before .before .before .before .args .block .now)) (c .before .before .before .before .loop .j) (c .before .before .before .before .before .before .args .key) (c .before .before .before .before .loop .sum) (c .if1 .sum) (c .before .before .before .before .loop .inv .1) (w .0 .left) (w .1))
       (c .if1 .came),
-  ⊎-elim (λ w. omega (arith, c .before .before .before .before .before .pre .1 (c .before .before .before .before .loop .j) (c .before .before .before .loop-test .taken), w .2)) (λ w. omega (arith, w .1)) (c .if1 .came),
+  ⊎-elim (λ w. omega (arith, c .before .before .remaining-at .ensures .1, w .1)) (λ w. omega (arith, w .1)) (c .if1 .came),
 )
 
 returns : tie.Need-returns Inv-loop μ-loop
 returns c =
-    let e : c .before .loop .j ≡ c .before .before .args .t1 .count = omega arith in
-    c .before .loop .inv .1 ∙ ap (λ (n : ℕ). sumTo n (term (c .before .before .args .t) (c .before .before .args .x) (c .before .before .args .t1))) e
+    let e : c .before .loop .j ≡ c .before .before .before .args .count = omega arith in (
+      c .before .loop .inv .1
+          ∙ ap (λ (n : ℕ). allowedBy (c .before .before .before .args .keys .now) (left (c .before .before .before .args .block .now)) n (c .before .before .before .args .key)) e,
+      omega (arith, c .before .loop .inv .2),
+    )
 
 pub allowance-of-spec : {M : Type 1} → statement M
 allowance-of-spec =
@@ -67,9 +67,9 @@ allowance-of-spec =
     Inv-loop
     μ-loop
     loop-holds
-    mul-e
-    element-copy-out-e
-    urgent-requires
+    remaining-at-requires
+    mul-if1
+    element-copy-out-if1
     add-sum
     add-j
     loop-less

@@ -1,4 +1,4 @@
-use mathlib.Core.Path.{_≡_, sym, ap}
+use mathlib.Core.Path.{sym, ap}
 use native.Mathlib.Omega.{arith}
 use Rattle.dispatcher.specs.declared.Reply.{Reply}
 use Rattle.listing.specs.Listing.{clockAfter}

@@ -2,14 +2,13 @@ use Rattle.plan.proofs.Judgements.{filled-plan}
 use lib.ListN.{set, getD}
 use Rattle.plan.specs.declared.Task.{Task}
 use mathlib.Core.List.{List}
-use Prim.Native.Nat.{ℕ, _≤_, _-_}
-use mathlib.Core.Path.{_≡_, refl, sym, ap, _∙_, subst}
+use Prim.Native.Nat.{_≤_, _-_}
+use mathlib.Core.Path.{_≡_, refl, ap, _∙_}
 use native.Mathlib.Omega.{arith}
 use borrow.Author.Needs.{needs}
-use lib.ListN.{length, drop, replicate}
-use lib.Seq.{length-take-le}
+use lib.ListN.{length}
 use Rattle.plan.specs.declared.Plan.{Plan}
-use Rattle.plan.specs.Blocks.{tasksOf, noTask, planOf}
+use Rattle.plan.specs.Blocks.{noTask}
 use Rattle.plan.proofs.Lists.{length-mapped, filled, filled-none, filled-more}
 use Rattle.plan.proofs.judging.cleared.Statement.{statement}
 use Rattle.plan.proofs.judging.cleared.Tie as tie
@@ -26,39 +25,39 @@ abbrev μ-loop : tie.MeasureT-loop
 size : (c : tie.Start Inv-loop μ-loop) → length (c .args .t1 .tasks) ≡ 16
 size c = search (length-mapped, needs)
 
--- src/judging.rt:152:17
+-- src/judging.rt:189:17
 empty-plan-requires : tie.Need-empty-plan-requires Inv-loop μ-loop
 empty-plan-requires c κs = search needs
 
--- src/judging.rt:155:5
+-- src/judging.rt:192:5
 loop-holds : tie.Need-loop-holds Inv-loop μ-loop
 loop-holds c = (omega arith, refl, ap (λ (x : Plan). x .tasks) (c .empty-plan .ensures) ∙ filled-none 16 noTask (c .before .args .t1 .tasks))
 
--- src/judging.rt:156:17
+-- src/judging.rt:193:17
 mul-t : tie.Need-mul-t Inv-loop μ-loop
 mul-t c = omega arith
 
--- src/judging.rt:156:17
+-- src/judging.rt:193:17
 element-copy-out-t : tie.Need-element-copy-out-t Inv-loop μ-loop
 element-copy-out-t c = omega arith
 
--- src/judging.rt:157:9
+-- src/judging.rt:194:9
 mul-t-2 : tie.Need-mul-t-2 Inv-loop μ-loop
 mul-t-2 c = omega arith
 
--- src/judging.rt:157:9
+-- src/judging.rt:194:9
 element-set-from-t : tie.Need-element-set-from-t Inv-loop μ-loop
 element-set-from-t c = omega arith
 
--- src/judging.rt:158:9
+-- src/judging.rt:195:9
 add-i : tie.Need-add-i Inv-loop μ-loop
 add-i c = omega arith
 
--- src/judging.rt:155:5
+-- src/judging.rt:192:5
 loop-less : tie.Need-loop-less Inv-loop μ-loop
 loop-less c = omega arith
 
--- src/judging.rt:155:5
+-- src/judging.rt:192:5
 loop-again : tie.Need-loop-again Inv-loop μ-loop
 loop-again c = (
   omega arith,
@@ -67,7 +66,7 @@ loop-again c = (
       ∙ filled-more 16 noTask (c .before .before .before .before .args .t1 .tasks) (c .before .before .loop .i) (omega arith) (omega (arith, size (c .before .before .before .before))),
 )
 
--- src/judging.rt:147:1
+-- src/judging.rt:184:1
 returns : tie.Need-returns Inv-loop μ-loop
 returns c =
     filled-plan (c .before .loop .q) (c .before .before .before .args .t1 .tasks) (c .before .before .before .args .t1 .count) (c .before .loop .i) (omega (arith, size (c .before .before .before))) (omega arith) (c .before .loop .inv .1) (c .before .loop .inv .2)

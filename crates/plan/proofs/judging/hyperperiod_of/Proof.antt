@@ -1,6 +1,6 @@
 use Rattle.plan.proofs.LevelLaws.{hyperperiod-drop, range-positive}
 use Prim.Native.Nat.{ℕ, _≤_, _-_}
-use mathlib.Core.Path.{_≡_, refl, sym, ap, _∙_, subst}
+use mathlib.Core.Path.{_≡_, sym, ap, _∙_, subst}
 use native.Mathlib.Omega.{arith}
 use borrow.Author.Needs.{needs}
 use lib.ListN.{length, drop, getD}
@@ -25,29 +25,29 @@ abbrev μ-loop : tie.MeasureT-loop
 size : (c : tie.Start Inv-loop μ-loop) → length (c .args .t1 .tasks) ≡ 16
 size c = search (length-mapped, needs)
 
--- src/judging.rt:65:5
+-- src/judging.rt:68:5
 loop-holds : tie.Need-loop-holds Inv-loop μ-loop
 loop-holds c = (omega arith, ap hyperperiod (sym (rest-end (c .args .t1 .tasks) (c .args .t1 .count) (omega (arith, size c)))), omega arith)
 
--- src/judging.rt:66:9
+-- src/judging.rt:69:9
 sub-i : tie.Need-sub-i Inv-loop μ-loop
 sub-i c = omega arith
 
--- src/judging.rt:67:17
+-- src/judging.rt:70:17
 mul-t : tie.Need-mul-t Inv-loop μ-loop
 mul-t c = omega arith
 
--- src/judging.rt:67:17
+-- src/judging.rt:70:17
 element-copy-out-t : tie.Need-element-copy-out-t Inv-loop μ-loop
 element-copy-out-t c = omega arith
 
--- src/judging.rt:68:13
+-- src/judging.rt:71:13
 lcm-of-requires : tie.Need-lcm-of-requires Inv-loop μ-loop
 lcm-of-requires c κs =
     in-range (getD (c .before .before .before .args .t1 .tasks) (c .before .before .loop .i - 1) noTask)
     (every-taken inRange (c .before .before .before .args .t1 .tasks) (c .before .before .before .args .t1 .count) noTask (omega (arith, size (c .before .before .before))) (c .before .before .before .pre .1) (c .before .before .loop .i - 1) (omega arith)) .period-low
 
--- src/judging.rt:70:13
+-- src/judging.rt:73:13
 returns : tie.Need-returns Inv-loop μ-loop
 returns c =
     span-over (hyperperiod (tasksOf (c .before .before .before .before .before .args .t1))) (c .before .lcm-of .result)
@@ -56,15 +56,15 @@ returns c =
     (hyperperiod-drop (tasksOf (c .before .before .before .before .before .args .t1)) (range-positive (tasksOf (c .before .before .before .before .before .args .t1)) (c .before .before .before .before .before .pre .1)) (c .before .before .before .before .loop .i - 1)))
     (c .if1 .taken)
 
--- src/judging.rt:72:13
+-- src/judging.rt:75:13
 cast-h : tie.Need-cast-h Inv-loop μ-loop
 cast-h c = omega arith
 
--- src/judging.rt:65:5
+-- src/judging.rt:68:5
 loop-less : tie.Need-loop-less Inv-loop μ-loop
 loop-less c = omega arith
 
--- src/judging.rt:65:5
+-- src/judging.rt:68:5
 loop-again : tie.Need-loop-again Inv-loop μ-loop
 loop-again c = (
   omega arith,
@@ -72,7 +72,7 @@ loop-again c = (
   omega arith,
 )
 
--- src/judging.rt:59:1
+-- src/judging.rt:62:1
 returns-2 : tie.Need-returns-2 Inv-loop μ-loop
 returns-2 c =
     let e : c .before .loop .i ≡ 0 = omega arith in

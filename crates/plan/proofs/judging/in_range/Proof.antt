@@ -26,34 +26,34 @@ size c = search (length-mapped, needs)
 loop-holds : tie.Need-loop-holds Inv-loop μ-loop
 loop-holds c = (omega arith, refl)
 
--- src/judging.rt:49:17
+-- src/judging.rt:52:17
 mul-t : tie.Need-mul-t Inv-loop μ-loop
 mul-t c = omega arith
 
--- src/judging.rt:49:17
+-- src/judging.rt:52:17
 element-copy-out-t : tie.Need-element-copy-out-t Inv-loop μ-loop
 element-copy-out-t c = omega arith
 
--- src/judging.rt:50:13
+-- src/judging.rt:53:13
 task-in-range-requires : tie.Need-task-in-range-requires Inv-loop μ-loop
 task-in-range-requires c κs = search needs
 
--- src/judging.rt:51:13
+-- src/judging.rt:54:13
 returns : tie.Need-returns Inv-loop μ-loop
 returns c =
     every-not inRange (c .before .before .before .before .before .args .t1 .tasks) (c .before .before .before .before .before .args .t1 .count) noTask (omega (arith, size (c .before .before .before .before .before), c .before .before .before .before .before .pre))
     (c .before .before .before .before .loop .i) (c .before .before .before .loop-test .taken) (c .before .before .before .before .loop .inv .1)
     (sym (c .before .task-in-range .ensures) ∙ not-true _ (c .if1 .taken))
 
--- src/judging.rt:53:9
+-- src/judging.rt:56:9
 add-i : tie.Need-add-i Inv-loop μ-loop
 add-i c = omega arith
 
--- src/judging.rt:48:5
+-- src/judging.rt:51:5
 loop-less : tie.Need-loop-less Inv-loop μ-loop
 loop-less c = omega arith
 
--- src/judging.rt:48:5
+-- src/judging.rt:51:5
 loop-again : tie.Need-loop-again Inv-loop μ-loop
 loop-again c = (
   omega arith,
@@ -62,7 +62,7 @@ loop-again c = (
       (sym (c .before .task-in-range .ensures) ∙ not-false _ (c .if1 .left)),
 )
 
--- src/judging.rt:42:1
+-- src/judging.rt:45:1
 returns-2 : tie.Need-returns-2 Inv-loop μ-loop
 returns-2 c = every-end inRange (c .before .before .args .t1 .tasks) (c .before .before .args .t1 .count) noTask (omega (arith, size (c .before .before))) (c .before .loop .i) (omega arith) (c .before .loop .inv .1)
 

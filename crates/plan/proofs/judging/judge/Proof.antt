@@ -1,5 +1,5 @@
 use Prim.Native.Nat.{ℕ}
-use mathlib.Core.Path.{_≡_, sym, ap, _∙_}
+use mathlib.Core.Path.{sym, ap, _∙_}
 use native.Mathlib.Omega.{arith}
 use Rattle.plan.specs.Blocks.{tasksOf}
 use Rattle.plan.specs.Levels.{baseSpeeds}
@@ -13,27 +13,27 @@ use Rattle.plan.proofs.judging.judge.Lts as lts
 use Rattle.plan.proofs.judging.judged_with.Reads as judged-with-reads
 use Rattle.plan.proofs.judging.refused.Reads as refused-reads
 
--- src/judging.rt:197:9
+-- src/judging.rt:238:9
 refused-requires : tie.Need-refused-requires
 refused-requires c κs = search needs
 
--- src/judging.rt:197:9
+-- src/judging.rt:238:9
 returns : tie.Need-returns
 returns c = c .refused .ensures ∙ sym (ap (λ (n : ℕ). judgedBy n baseSpeeds (tasksOf (c .before .before .args .p))) (count-low baseSpeeds (tasksOf (c .before .before .args .p)) (c .before .before .args .p .count) (c .before .if1 .taken)))
 
--- src/judging.rt:200:9
+-- src/judging.rt:241:9
 refused-requires-2 : tie.Need-refused-requires-2
 refused-requires-2 c κs = search needs
 
--- src/judging.rt:200:9
+-- src/judging.rt:241:9
 returns-2 : tie.Need-returns-2
 returns-2 c = c .refused2 .ensures ∙ sym (ap (λ (n : ℕ). judgedBy n baseSpeeds (tasksOf (c .before .before .before .args .p))) (count-high baseSpeeds (tasksOf (c .before .before .before .args .p)) (c .before .before .before .args .p .count) (omega arith)))
 
--- src/judging.rt:202:5
+-- src/judging.rt:243:5
 judged-with-requires : tie.Need-judged-with-requires
 judged-with-requires c κs = search needs
 
--- src/judging.rt:192:1
+-- src/judging.rt:233:1
 returns-3 : tie.Need-returns-3
 returns-3 c = c .judged-with .ensures ∙ sym (ap (λ (n : ℕ). judgedBy n baseSpeeds (tasksOf (c .before .before .before .args .p))) (count-good baseSpeeds (tasksOf (c .before .before .before .args .p)) (c .before .before .before .args .p .count) (omega arith) (omega arith)))
 

@@ -11,31 +11,31 @@ use Rattle.plan.proofs.judging.cleared.Reads as cleared-reads
 use Rattle.plan.proofs.judging.empty_plan.Reads as empty-plan-reads
 use Rattle.plan.proofs.judging.verdict_of.Reads as verdict-of-reads
 
--- src/judging.rt:178:9
+-- src/judging.rt:216:9
 verdict-of-requires : tie.Need-verdict-of-requires
 verdict-of-requires c κs = search needs
 
--- src/judging.rt:182:19
+-- src/judging.rt:220:19
 enum-told : tie.Need-enum-told
 enum-told c = search needs
 
--- src/judging.rt:182:19
+-- src/judging.rt:220:19
 empty-plan-requires : tie.Need-empty-plan-requires
 empty-plan-requires c κs = search needs
 
--- src/judging.rt:186:19
+-- src/judging.rt:224:19
 enum-told-2 : tie.Need-enum-told-2
 enum-told-2 c = search needs
 
--- src/judging.rt:186:19
+-- src/judging.rt:224:19
 cleared-requires : tie.Need-cleared-requires
 cleared-requires c κs = search needs
 
--- src/judging.rt:174:1
+-- src/judging.rt:212:1
 returns : tie.Need-returns
 returns c = beside-refused baseSpeeds (tasksOf (c .before .before .before .before .args .p)) (firstNo (taskQuestions baseSpeeds (tasksOf (c .before .before .before .before .args .p)))) _ (c .before .before .before .verdict-of .result) (c .empty-plan .result) (c .before .before .before .verdict-of .ensures) (c .before .enum-told .given .1) (c .empty-plan .ensures)
 
--- src/judging.rt:174:1
+-- src/judging.rt:212:1
 returns-2 : tie.Need-returns-2
 returns-2 c = beside-admitted baseSpeeds (tasksOf (c .before .before .before .before .args .p)) (firstNo (taskQuestions baseSpeeds (tasksOf (c .before .before .before .before .args .p)))) _ _ (c .before .before .before .verdict-of .result) (c .cleared .result) (c .before .before .before .verdict-of .ensures) (c .before .enum-told2 .given .1) (c .cleared .ensures)
 

@@ -1,75 +1,90 @@
-use Prim.Native.Nat.{ℕ, _≤_, _-_, _+_, _/_, _<_}
-use mathlib.Core.Path.{_≡_, refl, sym, ap, _∙_, subst}
+use Prim.Native.Nat.{ℕ, _≤_, _<_, _-_}
+use mathlib.Core.Path.{_≡_, sym, subst}
 use native.Mathlib.Omega.{arith}
+use lib.ListN.{length}
 use borrow.Author.Needs.{needs}
 use Rattle.plan.specs.Blocks.{tasksOf}
-use Rattle.plan.specs.Levels.{baseSpeeds, speedOf, nominal, hyperperiod}
-use Rattle.plan.proofs.LevelLaws.{first-most, baseRising}
-use Rattle.plan.proofs.Judgements.{nominal-low, nominal-high}
-use Rattle.plan.specs.Levels.{admits}
+use Rattle.plan.specs.Levels.{baseSpeeds, demandWithin, nominal}
+use Rattle.plan.proofs.Lists.{length-mapped}
+use Rattle.plan.proofs.LevelLaws.{baseRising}
+use Rattle.plan.proofs.Judgements.{jobs-most, demand-all, nominal-from, nominal-found, nominal-next, nominal-none}
 use Rattle.plan.proofs.judging.nominal_of.Statement.{statement}
 use Rattle.plan.proofs.judging.nominal_of.Tie as tie
 use Rattle.plan.proofs.judging.nominal_of.Reads as reads
 use Rattle.plan.proofs.judging.nominal_of.Lts as lts
 use Rattle.plan.proofs.judging.demand.Reads as demand-reads
+use Rattle.plan.proofs.judging.jobs_within.Reads as jobs-within-reads
+use Rattle.plan.proofs.judging.slowest_for.Reads as slowest-for-reads
 use Rattle.plan.proofs.judging.speed_of.Reads as speed-of-reads
 
 abbrev Inv-loop : tie.InvT-loop
-Inv-loop p span low₀ high₀ low high = (low ≤ nominal baseSpeeds (tasksOf p)) × (nominal baseSpeeds (tasksOf p) ≤ high) × (high ≤ 8)
+Inv-loop p span jobs work level₀ level = level ≤ nominal baseSpeeds (tasksOf p)
 
 abbrev μ-loop : tie.MeasureT-loop
-μ-loop p span low₀ high₀ low high = high - low
+μ-loop p span jobs work level₀ level = 8 - level
 
--- src/judging.rt:103:5
+size : (c : tie.Start Inv-loop μ-loop) → length (c .args .p .tasks) ≡ 16
+size c = search (length-mapped, needs)
+
+-- the demand at this turn's level
+sum : (c : tie.After-demand2 Inv-loop μ-loop) → c .demand2 .result ≡ demandWithin (c .before .before .before .before .before .before .before .before .before .args .span) (c .before .before .speed-of .result) (tasksOf (c .before .before .before .before .before .before .before .before .before .args .p))
+sum c =
+    demand-all (c .before .before .before .before .before .before .before .before .before .args .p .tasks) (c .before .before .before .before .before .before .before .before .jobs-within .result) (c .before .before .before .before .before .before .before .before .before .args .p .count) (c .before .before .before .before .before .before .before .before .before .args .span) (c .before .before .before .before .before .before .before .before .jobs-within .ensures) (c .before .before .speed-of .result) (c .demand2 .result) (omega (arith, size (c .before .before .before .before .before .before .before .before .before))) (c .demand2 .ensures)
+
+-- src/judging.rt:136:16
+jobs-within-requires : tie.Need-jobs-within-requires Inv-loop μ-loop
+jobs-within-requires c κs = c .pre .0
+
+-- src/judging.rt:137:9
+demand-requires : tie.Need-demand-requires Inv-loop μ-loop
+demand-requires c κs = (
+  (c .before .before .pre .0 .0, c .before .before .pre .0 .1, omega arith),
+  jobs-most (c .before .before .args .p .tasks) (c .before .jobs-within .result) (c .before .before .args .p .count) (c .before .before .args .span) (c .before .jobs-within .ensures) (c .before .before .pre .1 .1),
+)
+
+-- src/judging.rt:138:9
+slowest-for-requires : tie.Need-slowest-for-requires Inv-loop μ-loop
+slowest-for-requires c κs = search needs
+
+-- src/judging.rt:139:5
 loop-holds : tie.Need-loop-holds Inv-loop μ-loop
-loop-holds c = (omega arith, first-most (admits (tasksOf (c .args .p))) baseSpeeds, omega arith)
+loop-holds c =
+    nominal-from (tasksOf (c .before .before .before .before .args .p)) (c .before .before .before .before .args .span) (c .before .demand .result) (c .slowest-for .result) (c .before .before .before .before .pre .1 .0)
+    (demand-all (c .before .before .before .before .args .p .tasks) (c .before .before .before .jobs-within .result) (c .before .before .before .before .args .p .count) (c .before .before .before .before .args .span) (c .before .before .before .jobs-within .ensures) 1 (c .before .demand .result) (omega (arith, size (c .before .before .before .before))) (c .before .demand .ensures))
+    (c .slowest-for .ensures)
 
--- src/judging.rt:104:23
-add-middle : tie.Need-add-middle Inv-loop μ-loop
-add-middle c = omega arith
-
--- src/judging.rt:105:13
+-- src/judging.rt:140:13
 speed-of-requires : tie.Need-speed-of-requires Inv-loop μ-loop
 speed-of-requires c κs = omega arith
 
--- src/judging.rt:106:12
-demand-requires : tie.Need-demand-requires Inv-loop μ-loop
-demand-requires c κs = (
-  c .before .before .before .pre .0,
-  (c .before .before .before .pre .1 .1, subst (λ (s : ℕ). 0 < s) (sym (c .speed-of .ensures)) (baseRising .positive ((c .before .before .loop .low + c .before .before .loop .high) / 2) (omega arith))),
+-- src/judging.rt:141:12
+demand-requires-2 : tie.Need-demand-requires-2 Inv-loop μ-loop
+demand-requires-2 c κs = (
+  (c .before .before .before .before .before .before .before .before .pre .0 .0, c .before .before .before .before .before .before .before .before .pre .0 .1, subst (λ (s : ℕ). 0 < s) (sym (c .before .speed-of .ensures)) (baseRising .positive (c .before .before .before .loop .level) (omega arith))),
+  jobs-most (c .before .before .before .before .before .before .before .before .args .p .tasks) (c .before .before .before .before .before .before .before .jobs-within .result) (c .before .before .before .before .before .before .before .before .args .p .count) (c .before .before .before .before .before .before .before .before .args .span) (c .before .before .before .before .before .before .before .jobs-within .ensures) (c .before .before .before .before .before .before .before .before .pre .1 .1),
 )
 
--- src/judging.rt:103:5
+-- src/judging.rt:142:13
+returns : tie.Need-returns Inv-loop μ-loop
+returns c =
+    nominal-found (tasksOf (c .before .before .before .before .before .before .before .before .before .before .args .p)) (c .before .before .before .before .before .loop .level) (c .before .before .before .speed-of .result) (c .before .before .before .before .before .before .before .before .before .before .args .span) (c .before .demand2 .result) (c .before .before .before .before .before .loop .inv) (omega arith) (c .before .before .before .speed-of .ensures) (c .before .before .before .before .before .before .before .before .before .before .pre .1 .0) (sum (c .before)) (omega (arith, c .if1 .taken))
+
+-- src/judging.rt:144:9
+add-level : tie.Need-add-level Inv-loop μ-loop
+add-level c = omega arith
+
+-- src/judging.rt:139:5
 loop-less : tie.Need-loop-less Inv-loop μ-loop
 loop-less c = omega arith
 
--- src/judging.rt:103:5
+-- src/judging.rt:139:5
 loop-again : tie.Need-loop-again Inv-loop μ-loop
-loop-again c = (
-  c .before .before .before .before .loop .inv .0,
-  nominal-high (tasksOf (c .before .before .before .before .before .args .p)) ((c .before .before .before .before .loop .low + c .before .before .before .before .loop .high) / 2) (c .before .before .speed-of .result) (c .before .before .before .before .before .args .span) (c .before .demand .result) (omega arith) (c .before .before .speed-of .ensures) (c .before .before .before .before .before .pre .1 .0) (c .before .demand .ensures) (c .if1 .taken),
-  omega arith,
-)
+loop-again c =
+    nominal-next (tasksOf (c .before .before .before .before .before .before .before .before .before .before .args .p)) (c .before .before .before .before .before .loop .level) (c .before .before .before .speed-of .result) (c .before .before .before .before .before .before .before .before .before .before .args .span) (c .before .demand2 .result) (c .before .before .before .before .before .loop .inv) (omega arith) (c .before .before .before .speed-of .ensures) (c .before .before .before .before .before .before .before .before .before .before .pre .1 .0) (sum (c .before)) (c .if1 .left)
 
--- src/judging.rt:109:19
-add-low : tie.Need-add-low Inv-loop μ-loop
-add-low c = omega arith
-
--- src/judging.rt:103:5
-loop-less-2 : tie.Need-loop-less-2 Inv-loop μ-loop
-loop-less-2 c = omega arith
-
--- src/judging.rt:103:5
-loop-again-2 : tie.Need-loop-again-2 Inv-loop μ-loop
-loop-again-2 c = (
-  nominal-low (tasksOf (c .before .before .before .before .before .args .p)) ((c .before .before .before .before .loop .low + c .before .before .before .before .loop .high) / 2) (c .before .before .speed-of .result) (c .before .before .before .before .before .args .span) (c .before .demand .result) (omega arith) (c .before .before .speed-of .ensures) (c .before .before .before .before .before .pre .1 .0) (c .before .demand .ensures) (c .if1 .left),
-  c .before .before .before .before .loop .inv .1,
-  omega arith,
-)
-
--- src/judging.rt:96:1
-returns : tie.Need-returns Inv-loop μ-loop
-returns c = omega arith
+-- src/judging.rt:131:1
+returns-2 : tie.Need-returns-2 Inv-loop μ-loop
+returns-2 c = nominal-none (tasksOf (c .before .before .before .before .before .before .args .p)) (c .before .loop .level) (c .before .loop .inv) (c .loop-test .left)
 
 pub nominal-of-spec : {M : Type 1} → statement M
 nominal-of-spec =
@@ -77,13 +92,14 @@ nominal-of-spec =
     (tie.spec
     Inv-loop
     μ-loop
-    loop-holds
-    add-middle
-    speed-of-requires
+    jobs-within-requires
     demand-requires
+    slowest-for-requires
+    loop-holds
+    speed-of-requires
+    demand-requires-2
+    returns
+    add-level
     loop-less
     loop-again
-    add-low
-    loop-less-2
-    loop-again-2
-    returns)
+    returns-2)

@@ -1,24 +1,23 @@
 use native.Mathlib.Omega.{arith}
-use borrow.Author.Tests.{le-leb, lt-leb}
 use Rattle.plan.proofs.Judgements.{period-low, period-high, worst-low, worst-high}
 use Rattle.plan.proofs.judging.task_in_range.Statement.{statement}
 use Rattle.plan.proofs.judging.task_in_range.Tie as tie
 use Rattle.plan.proofs.judging.task_in_range.Reads as reads
 use Rattle.plan.proofs.judging.task_in_range.Lts as lts
 
--- src/judging.rt:30:9
+-- src/judging.rt:33:9
 returns : tie.Need-returns
 returns c = period-low (c .before .before .args .t) (c .if1 .taken)
 
--- src/judging.rt:33:9
+-- src/judging.rt:36:9
 returns-2 : tie.Need-returns-2
 returns-2 c = period-high (c .before .before .before .before .args .t) (omega arith)
 
--- src/judging.rt:36:9
+-- src/judging.rt:39:9
 returns-3 : tie.Need-returns-3
 returns-3 c = worst-low (c .before .before .before .before .before .before .args .t) (omega arith) (omega arith) (c .if3 .taken)
 
--- src/judging.rt:26:1
+-- src/judging.rt:29:1
 returns-4 : tie.Need-returns-4
 returns-4 c = worst-high (c .before .before .before .before .before .before .before .args .t) (omega arith) (omega arith) (omega arith)
 

@@ -1,10 +1,10 @@
 use Prim.Native.Nat.{ℕ, _≤_, _<_}
-use mathlib.Core.Path.{_≡_, refl, sym, ap, ap₂, _∙_, subst}
+use mathlib.Core.Path.{_≡_, sym, ap, ap₂, _∙_, subst}
 use native.Mathlib.Omega.{arith}
 use borrow.Author.Tests.{not-true, not-false}
 use Rattle.plan.specs.declared.Verdict.the-variants as verdict
 use Rattle.plan.specs.Blocks.{tasksOf}
-use Rattle.plan.specs.Levels.{baseSpeeds, nominal, hyperperiod}
+use Rattle.plan.specs.Levels.{baseSpeeds, hyperperiod}
 use Rattle.plan.specs.Answers.{answered}
 use Rattle.plan.proofs.Judgements.{no-6, no-7, no-8, no-no}
 use borrow.Author.Needs.{needs}
@@ -16,32 +16,32 @@ use Rattle.plan.proofs.judging.hyperperiod_of.Reads as hyperperiod-of-r
 use Rattle.plan.proofs.judging.in_range.Reads as in-range-reads
 use Rattle.plan.proofs.judging.nominal_of.Reads as nominal-of-reads
 
--- src/judging.rt:119:9
+-- src/judging.rt:154:9
 in-range-requires : tie.Need-in-range-requires
 in-range-requires c κs = search needs
 
--- src/judging.rt:120:9
+-- src/judging.rt:155:9
 returns : tie.Need-returns
 returns c =
     sym (ap (λ (n : ℕ). answered n baseSpeeds (tasksOf (c .before .before .args .p))) (no-6 baseSpeeds (tasksOf (c .before .before .args .p)) (sym (c .before .in-range .ensures) ∙ not-true _ (c .if1 .taken))))
 
--- src/judging.rt:122:9
+-- src/judging.rt:157:9
 hyperperiod-of-requires : tie.Need-hyperperiod-of-requires
 hyperperiod-of-requires c κs = (c .before .before .pre, sym (c .before .in-range .ensures) ∙ not-false _ (c .if1 .left))
 
--- src/judging.rt:124:9
+-- src/judging.rt:159:9
 returns-2 : tie.Need-returns-2
 returns-2 c =
     sym (ap (λ (n : ℕ). answered n baseSpeeds (tasksOf (c .before .before .before .before .args .p))) (no-7 baseSpeeds (tasksOf (c .before .before .before .before .args .p)) (sym (c .before .before .before .in-range .ensures) ∙ not-false _ (c .before .before .if1 .left)) (omega (arith, c .before .hyperperiod-of .ensures))))
 
--- src/judging.rt:126:9
+-- src/judging.rt:161:9
 nominal-of-requires : tie.Need-nominal-of-requires
 nominal-of-requires c κs = (
   (c .before .before .before .before .pre, sym (c .before .before .before .in-range .ensures) ∙ not-false _ (c .before .before .if1 .left)),
   (omega (arith, c .before .hyperperiod-of .ensures), omega (arith, c .before .hyperperiod-of .ensures)),
 )
 
--- src/judging.rt:128:9
+-- src/judging.rt:163:9
 returns-3 : tie.Need-returns-3
 returns-3 c =
     sym (ap (λ (n : ℕ). answered n baseSpeeds (tasksOf (c .before .before .before .before .before .before .args .p)))
@@ -52,7 +52,7 @@ returns-3 c =
 span : (c : tie.Else3) → c .before .before .before .hyperperiod-of .result ≡ hyperperiod (tasksOf (c .before .before .before .before .before .before .args .p))
 span c = omega (arith, c .before .before .before .hyperperiod-of .ensures)
 
--- src/judging.rt:115:1
+-- src/judging.rt:150:1
 returns-4 : tie.Need-returns-4
 returns-4 c =
     ap₂ (λ (l h : ℕ). verdict.Admitted l h) (c .before .nominal-of .ensures) (span c)
