@@ -240,10 +240,9 @@ order-only :
 order-only τ s [] = refl
 order-only τ s (f ∷ q) = refl
 
--- an order that is chosen, stored and answered
-module _ (b l : List ℕ) (holds : Holds b) (some : 1 ≤ getD b 6 0) (back : encode (decode b) ≡ b)
-    (keyed : Keyed (timingIn b) (decode b .clock) l) (count : ℕ) (same : count ≡ getD b 6 0)
-    (clock : ℕ) (t : clock ≡ decode b .clock) where
+-- the next arrival of a block
+module _ (b l : List ℕ) (holds : Holds b) (some : 1 ≤ getD b 6 0) (keyed : Keyed (timingIn b) (decode b .clock) l)
+    (count : ℕ) (same : count ≡ getD b 6 0) (clock : ℕ) (t : clock ≡ decode b .clock) where
   tasks-are : count ≡ timingIn b .count
   tasks-are = same ∙ sym (timing-count b)
 
@@ -258,44 +257,47 @@ module _ (b l : List ℕ) (holds : Holds b) (some : 1 ≤ getD b 6 0) (back : en
     ),
   )
 
-  module _ (next : ℕ) (n : next ≡ deadlineIn (leastTo count (λ i. getD l i 0)) - clock)
-      (c : Choice) (o : OrderIn (chooseOrder baseSpeeds (timingIn b) (decode b)) c × ((c .task < 256) × (c .level < 256))) where
-    abbrev S : State
-    S = chooseOrder baseSpeeds (timingIn b) (decode b)
+  pub choose-when : (next : ℕ) → next ≡ deadlineIn (leastTo count (λ i. getD l i 0)) - clock → next ≡ nextArrival (timingIn b) (decode b .clock)
+  choose-when next n =
+      n
+      ∙ ap₂ (λ (x y : ℕ). deadlineIn (leastTo x (λ i. getD l i 0)) - y) tasks-are t
+      ∙ keys.next-is (timingIn b) (decode b .clock) l keyed (omega (arith, tasks-are))
 
-    pub choose-stored :
-        (m : List ℕ) →
-        m ≡ sets (sets b 4 (digits 256 1 (c .task))) 5 (digits 256 1 (c .level)) →
-        m ≡ encode S
-    choose-stored m e =
-        e
-        ∙ ap (λ (x : List ℕ). sets (sets x 4 (digits 256 1 (c .task))) 5 (digits 256 1 (c .level))) (sym back)
-        ∙ store-order (decode b) (c .task) (c .level) (o .1 .0) (o .1 .1)
-        ∙ ap encode (ap₂ (withOrder (decode b)) (o .0 .task) (o .0 .level) ∙ order-only (timingIn b) (decode b) (openJobs (timingIn b) (decode b)))
+-- an order that is chosen, stored and answered
+module _ (b : List ℕ) (back : encode (decode b) ≡ b) (next : ℕ) (n : next ≡ nextArrival (timingIn b) (decode b .clock))
+    (c : Choice) (o : OrderIn (chooseOrder baseSpeeds (timingIn b) (decode b)) c × ((c .task < 256) × (c .level < 256))) where
+  abbrev S : State
+  S = chooseOrder baseSpeeds (timingIn b) (decode b)
 
-    next-is : next ≡ nextArrival (timingIn b) (S .clock)
-    next-is =
-        n
-        ∙ ap₂ (λ (x y : ℕ). deadlineIn (leastTo x (λ i. getD l i 0)) - y) tasks-are t
-        ∙ keys.next-is (timingIn b) (decode b .clock) l keyed (omega (arith, tasks-are))
-        ∙ sym (ap (nextArrival (timingIn b)) (order-clock (timingIn b) (decode b) (openJobs (timingIn b) (decode b))))
+  pub choose-stored :
+      (m : List ℕ) →
+      m ≡ sets (sets b 4 (digits 256 1 (c .task))) 5 (digits 256 1 (c .level)) →
+      m ≡ encode S
+  choose-stored m e =
+      e
+      ∙ ap (λ (x : List ℕ). sets (sets x 4 (digits 256 1 (c .task))) 5 (digits 256 1 (c .level))) (sym back)
+      ∙ store-order (decode b) (c .task) (c .level) (o .1 .0) (o .1 .1)
+      ∙ ap encode (ap₂ (withOrder (decode b)) (o .0 .task) (o .0 .level) ∙ order-only (timingIn b) (decode b) (openJobs (timingIn b) (decode b)))
 
-    held : (task : ℕ) → c .task ≡ task → (time : ℕ) → ((c .task ≡ 255 → ⊥) → c .time ≡ time) →
-        pick (eqb (c .task) 255) next (min (c .time) next) ≡ pick (eqb task 255) next (min time next)
-    held task e time f =
-        elim (ℕ-discrete (c .task) 255) [
-          | yes z ↦ sym (hold-idle (c .task) (c .time) next z) ∙ hold-idle task time next (sym e ∙ z)
-          | no z ↦ ap₂ (λ (x y : ℕ). pick (eqb x 255) next (min y next)) e (f z)
-        ]
+  next-is : next ≡ nextArrival (timingIn b) (S .clock)
+  next-is = n ∙ sym (ap (nextArrival (timingIn b)) (order-clock (timingIn b) (decode b) (openJobs (timingIn b) (decode b))))
 
-    pub choose-reply :
-        (hold : ℕ) (r : Reply) →
-        hold ≡ pick (eqb (c .task) 255) next (min (c .time) next) →
-        ((x : State) → c .task ≡ x .task → c .level ≡ x .level → r ≡ orderWith x hold) →
-        r ≡ orderWith S (holdOf baseSpeeds (timingIn b) S)
-    choose-reply hold r h f =
-        let e : hold ≡ holdOf baseSpeeds (timingIn b) S =
-        h
-        ∙ held (S .task) (o .0 .task) (runningTime baseSpeeds S) (o .0 .time)
-        ∙ ap (λ (x : ℕ). pick (eqb (S .task) 255) x (min (runningTime baseSpeeds S) x)) next-is in
-        f S (o .0 .task) (o .0 .level) ∙ ap (orderWith S) e
+  held : (task : ℕ) → c .task ≡ task → (time : ℕ) → ((c .task ≡ 255 → ⊥) → c .time ≡ time) →
+      pick (eqb (c .task) 255) next (min (c .time) next) ≡ pick (eqb task 255) next (min time next)
+  held task e time f =
+      elim (ℕ-discrete (c .task) 255) [
+        | yes z ↦ sym (hold-idle (c .task) (c .time) next z) ∙ hold-idle task time next (sym e ∙ z)
+        | no z ↦ ap₂ (λ (x y : ℕ). pick (eqb x 255) next (min y next)) e (f z)
+      ]
+
+  pub choose-reply :
+      (hold : ℕ) (r : Reply) →
+      hold ≡ pick (eqb (c .task) 255) next (min (c .time) next) →
+      ((x : State) → c .task ≡ x .task → c .level ≡ x .level → r ≡ orderWith x hold) →
+      r ≡ orderWith S (holdOf baseSpeeds (timingIn b) S)
+  choose-reply hold r h f =
+      let e : hold ≡ holdOf baseSpeeds (timingIn b) S =
+      h
+      ∙ held (S .task) (o .0 .task) (runningTime baseSpeeds S) (o .0 .time)
+      ∙ ap (λ (x : ℕ). pick (eqb (S .task) 255) x (min (runningTime baseSpeeds S) x)) next-is in
+      f S (o .0 .task) (o .0 .level) ∙ ap (orderWith S) e

@@ -37,7 +37,7 @@ use Rattle.dispatcher.specs.Code.{Holds, entryIn, timingIn, keyOf, noKey
 use Rattle.dispatcher.proofs.Fine.{nominalSpeed, Accepted}
 use Rattle.dispatcher.proofs.StateCodec.{Storable, StorableEntry, decode-encode, length-encode}
 use Rattle.dispatcher.proofs.Soundness.{planIn-at, length-planIn, accepted, fine-storable}
-use Rattle.dispatcher.proofs.NextArrival.{next-arrives, before-next}
+use Rattle.dispatcher.proofs.NextArrival.{next-arrives, before-next, next-on}
 use Rattle.dispatcher.proofs.Moved.{choose-entries, passed-entries}
 use Rattle.dispatcher.proofs.PassSound.{FineEntries, fine-chosen, moved-fine}
 use Rattle.dispatcher.proofs.BlockLaws.{count-in, entry-at}
@@ -196,6 +196,10 @@ module _ (s : State) (ok : stateSound baseSpeeds s ≡ true) (d : ℕ) (finished
         subst (λ (x : Timing). Keyed x (decode m .clock) keys) (sym moved-timing)
         (subst (λ (x : ℕ). Keyed τ x keys) (sym moved-clock) (keyed-on τ (s .clock) keys keyed d (lets .some) h (lets .clock)))
 
+    pub moved-next : d < nextArrival τ (s .clock) → nextArrival τ (s .clock) - d ≡ nextArrival (timingIn m) (decode m .clock)
+    moved-next h =
+        sym (next-on τ (plan .count-low) periods (s .clock) d h) ∙ ap₂ nextArrival (sym moved-timing) (sym moved-clock)
+
     -- where the order stays
     module _ (anew : choosesAnew τ s d finished ≡ false) where
       pub stays-bytes : m ≡ encode (passedState baseSpeeds τ s d finished)
@@ -285,6 +289,9 @@ module _ (bytes keys : List ℕ) (highest next d : ℕ) (finished : Bool) (good 
 
     pub after-kept : d < next → Keyed (timingIn m) (decode m .clock) keys
     after-kept h = moved-kept (decode bytes) fine d finished clear m e keys (good .keyed) (omega (arith, arrival))
+
+    pub after-next : d < next → next - d ≡ nextArrival (timingIn m) (decode m .clock)
+    after-next h = ap (λ (x : ℕ). x - d) arrival ∙ moved-next (decode bytes) fine d finished clear m e (omega (arith, arrival))
 
     pub after-hold : (hold : ℕ) → hold ≡ pick (eqb (c .task) 255) next (min (c .time) next) → d ≤ hold
     after-hold hold h = hold-enough (decode bytes) fine d finished clear c o next hold arrival h

@@ -19,7 +19,7 @@ ghost use Rattle.arith.specs.Need.{need};
 ghost use Rattle.arith.specs.Digits.{digits};
 ghost use Rattle.plan.specs.Levels.{baseSpeeds, speedOf};
 ghost use Rattle.dispatcher.specs.StateBlock.{State, encode, decode};
-ghost use Rattle.dispatcher.specs.Orders.{lowestLevel, holdOf, chooseOrder, orderWith};
+ghost use Rattle.dispatcher.specs.Orders.{nextArrival, lowestLevel, holdOf, chooseOrder, orderWith};
 ghost use Rattle.dispatcher.specs.Code.{Holds, timingIn, Keyed, OrderIn, Runnable, Doable};
 
 // The lowest level at which the work needs no more than is allowed, or 8: at which the ticks that are allowed do the work. A faster
@@ -129,16 +129,26 @@ pub fn order_of(c: Choice, hold: u32) -> Reply
     }
 }
 
-// Chooses an order, stores it, and answers it with its hold.
+// Chooses an order where the next arrival is so many ticks away, stores it, and answers it with its hold.
+pub fn choose_until(block: &mut [u8], keys: &[u64; 16], next: u32) -> Reply
+    requires { ⌜ Holds (now block) × (encode (decode (now block)) ≡ now block) × Doable (decode (now block)) ⌝ }
+    requires { ⌜ Keyed (timingIn (now block)) (decode (now block) .clock) (now keys) ⌝ }
+    requires { ⌜ next ≡ nextArrival (timingIn (now block)) (decode (now block) .clock) ⌝ }
+    ensures { λ r. ⌜ r ≡ orderWith (chooseOrder baseSpeeds (timingIn (now (block .entry))) (decode (now (block .entry)))) (holdOf baseSpeeds (timingIn (now (block .entry))) (chooseOrder baseSpeeds (timingIn (now (block .entry))) (decode (now (block .entry))))) ⌝ }
+    ensures { λ _. ⌜ now (block .exit) ≡ encode (chooseOrder baseSpeeds (timingIn (now (block .entry))) (decode (now (block .entry)))) ⌝ }
+{
+    let c = chosen(block, keys, count_at(block));
+    put_order(block, c);
+    order_of(c, hold_of(c, next))
+}
+
+// The same where the next arrival is still to be found.
 pub fn choose(block: &mut [u8], keys: &[u64; 16]) -> Reply
     requires { ⌜ Holds (now block) × (1 ≤ getD (now block) 6 0) × (encode (decode (now block)) ≡ now block) × Doable (decode (now block)) ⌝ }
     requires { ⌜ Keyed (timingIn (now block)) (decode (now block) .clock) (now keys) ⌝ }
     ensures { λ r. ⌜ r ≡ orderWith (chooseOrder baseSpeeds (timingIn (now (block .entry))) (decode (now (block .entry)))) (holdOf baseSpeeds (timingIn (now (block .entry))) (chooseOrder baseSpeeds (timingIn (now (block .entry))) (decode (now (block .entry))))) ⌝ }
     ensures { λ _. ⌜ now (block .exit) ≡ encode (chooseOrder baseSpeeds (timingIn (now (block .entry))) (decode (now (block .entry)))) ⌝ }
 {
-    let count = count_at(block);
-    let next = next_arrival(keys, count, clock_at(block));
-    let c = chosen(block, keys, count);
-    put_order(block, c);
-    order_of(c, hold_of(c, next))
+    let next = next_arrival(keys, count_at(block), clock_at(block));
+    choose_until(block, keys, next)
 }

@@ -11,6 +11,7 @@ use crate::image::remaining_at;
 use crate::image::work_at;
 use crate::image::worst_at;
 use crate::order::choose;
+use crate::order::choose_until;
 use crate::order::hold_of;
 use crate::order::order_of;
 use crate::order::standing;
@@ -238,7 +239,7 @@ fn passed(
     move_on(block, keys, c, highest, next, d, finished);
     if d < next {
         if finished {
-            return choose(block, keys);
+            return choose_until(block, keys, next - d);
         }
         return order_of(c, hold_of(c, next) - d);
     }

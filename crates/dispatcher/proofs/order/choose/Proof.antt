@@ -1,7 +1,7 @@
--- `choose` meets its contract: the next arrival, the order that is chosen, stored, and its hold.
+-- `choose` meets its contract: the next arrival, and the order up to it.
 -- Assumes nothing.
 use borrow.Author.Needs.{needs}
-use Rattle.dispatcher.proofs.OrderLaws.{choose-next, choose-stored, choose-reply}
+use Rattle.dispatcher.proofs.OrderLaws.{choose-next, choose-when}
 use Rattle.dispatcher.proofs.order.choose.Statement.{statement}
 use Rattle.dispatcher.proofs.order.choose.Tie as tie
 
@@ -13,32 +13,22 @@ clock-at-requires c κs = search needs
 
 next-arrival-requires : tie.Need-next-arrival-requires
 next-arrival-requires c κs =
-    choose-next (c .before .before .before .before .before .args .block .now) (c .before .before .before .before .before .args .keys .now) (c .before .before .before .before .before .pre .0 .0) (c .before .before .before .before .before .pre .0 .1) (c .before .before .before .before .before .pre .0 .2) (c .before .before .before .before .before .pre .1) (c .before .before .count-at .result) (c .before .before .count-at .ensures) (c .clock-at .result) (c .clock-at .ensures)
+    choose-next (c .before .before .before .before .before .args .block .now) (c .before .before .before .before .before .args .keys .now) (c .before .before .before .before .before .pre .0 .0) (c .before .before .before .before .before .pre .0 .1) (c .before .before .before .before .before .pre .1) (c .before .before .count-at .result) (c .before .before .count-at .ensures) (c .clock-at .result) (c .clock-at .ensures)
 
-chosen-requires : tie.Need-chosen-requires
-chosen-requires c κs = search needs
-
-put-order-requires : tie.Need-put-order-requires
-put-order-requires c κs = search needs
-
-hold-of-requires : tie.Need-hold-of-requires
-hold-of-requires c κs = search needs
-
-order-of-requires : tie.Need-order-of-requires
-order-of-requires c κs = search needs
+choose-until-requires : tie.Need-choose-until-requires
+choose-until-requires c κs = (
+  (c .before .before .before .before .before .before .before .pre .0 .0, c .before .before .before .before .before .before .before .pre .0 .2, c .before .before .before .before .before .before .before .pre .0 .3),
+  (
+    c .before .before .before .before .before .before .before .pre .1,
+    choose-when (c .before .before .before .before .before .before .before .args .block .now) (c .before .before .before .before .before .before .before .args .keys .now) (c .before .before .before .before .before .before .before .pre .0 .0) (c .before .before .before .before .before .before .before .pre .0 .1) (c .before .before .before .before .before .before .before .pre .1) (c .before .before .before .before .count-at .result) (c .before .before .before .before .count-at .ensures) (c .before .before .clock-at .result) (c .before .before .clock-at .ensures) (c .before .next-arrival .result) (c .before .next-arrival .ensures),
+  ),
+)
 
 same-length : tie.Need-same-length
 same-length c = search needs
 
 returns : tie.Need-returns
-returns c = (
-  choose-reply (c .before .before .before .before .before .before .before .before .before .before .before .before .before .before .args .block .now) (c .before .before .before .before .before .before .before .before .before .before .before .before .before .before .args .keys .now) (c .before .before .before .before .before .before .before .before .before .before .before .before .before .before .pre .0 .0) (c .before .before .before .before .before .before .before .before .before .before .before .before .before .before .pre .0 .1) (c .before .before .before .before .before .before .before .before .before .before .before .before .before .before .pre .0 .2) (c .before .before .before .before .before .before .before .before .before .before .before .before .before .before .pre .1) (c .before .before .before .before .before .before .before .before .before .before .before .count-at .result) (c .before .before .before .before .before .before .before .before .before .before .before .count-at .ensures) (c .before .before .before .before .before .before .before .before .before .clock-at .result) (c .before .before .before .before .before .before .before .before .before .clock-at .ensures)
-      (c .before .before .before .before .before .before .before .before .next-arrival .result) (c .before .before .before .before .before .before .before .before .next-arrival .ensures) (c .before .before .before .before .before .before .chosen .result) (c .before .before .before .before .before .before .chosen .ensures)
-      (c .before .hold-of .result) (c .order-of .result) (c .before .hold-of .ensures) (c .order-of .ensures),
-  choose-stored (c .before .before .before .before .before .before .before .before .before .before .before .before .before .before .args .block .now) (c .before .before .before .before .before .before .before .before .before .before .before .before .before .before .args .keys .now) (c .before .before .before .before .before .before .before .before .before .before .before .before .before .before .pre .0 .0) (c .before .before .before .before .before .before .before .before .before .before .before .before .before .before .pre .0 .1) (c .before .before .before .before .before .before .before .before .before .before .before .before .before .before .pre .0 .2) (c .before .before .before .before .before .before .before .before .before .before .before .before .before .before .pre .1) (c .before .before .before .before .before .before .before .before .before .before .before .count-at .result) (c .before .before .before .before .before .before .before .before .before .before .before .count-at .ensures) (c .before .before .before .before .before .before .before .before .before .clock-at .result) (c .before .before .before .before .before .before .before .before .before .clock-at .ensures)
-      (c .before .before .before .before .before .before .before .before .next-arrival .result) (c .before .before .before .before .before .before .before .before .next-arrival .ensures) (c .before .before .before .before .before .before .chosen .result) (c .before .before .before .before .before .before .chosen .ensures)
-      (c .before .before .before .before .put-order .last .0) (c .before .before .before .before .put-order .ensures),
-)
+returns c = search needs
 
 pub choose-spec : {M : Type 1} → statement M
 choose-spec =
@@ -47,9 +37,6 @@ choose-spec =
     count-at-requires
     clock-at-requires
     next-arrival-requires
-    chosen-requires
-    put-order-requires
-    hold-of-requires
-    order-of-requires
+    choose-until-requires
     same-length
     returns)
