@@ -7,7 +7,7 @@ use Rattle.arith.specs.Choice.{pick, first}
 use Rattle.arith.specs.Sum.{sumTo}
 use Rattle.arith.specs.Need.{need}
 use Rattle.plan.specs.Levels.{speedOf}
-use Rattle.schedule.specs.PlainSchedule.{Timing, Pending, moreUrgent, latest, queueOf}
+use Rattle.schedule.specs.PlainSchedule.{Timing, Pending, deadline, moreUrgent, latest, queueOf}
 use Rattle.dispatcher.specs.declared.Reply.{Reply}
 use Rattle.dispatcher.specs.declared.Reply.the-variants as reply
 use Rattle.dispatcher.specs.StateBlock.{State, workOf, remainingOf}
