@@ -10,7 +10,7 @@ use native.Mathlib.Omega.{arith}
 use borrow.Author.Tests.{lt-ltb, le-ltb, eq-eqb, ne-eqb}
 use lib.Dec.{ltb}
 use lib.ListN.{length, getD, set, length-set}
-use lib.Seq.{sets, length-sets, getD-set-same, getD-set-other}
+use lib.Seq.{sets, length-sets, getD-set-other}
 use Rattle.arith.specs.Choice.{pick}
 use Rattle.arith.specs.Need.{need}
 use Rattle.arith.specs.Digits.{digits}
@@ -18,8 +18,8 @@ use Rattle.plan.specs.Levels.{baseSpeeds, speedOf}
 use Rattle.dispatcher.specs.StateBlock.{State, noEntry, workOf, remainingOf, encode}
 use Rattle.dispatcher.specs.Passes.{workedOf}
 use Rattle.dispatcher.specs.Code.{entryIn, changed, withJobs, keyOf, deadlineIn, dueAt, arrivedState}
-use Rattle.dispatcher.proofs.BlockLaws.{encode-worst, encode-work, jobs-count, jobs-worst, jobs-same, jobs-eq, store-work, store-remaining}
-use Rattle.dispatcher.proofs.DrainLaws.{changed-there, changed-else}
+use Rattle.dispatcher.proofs.BlockLaws.{changed-there, changed-else, encode-worst, encode-work, jobs-count, jobs-worst, jobs-same, jobs-eq, store-work, store-remaining}
+use Rattle.dispatcher.proofs.KeySteps.{filled-more}
 
 -- the state whose running job is worked off, by each way out
 module _ (b : List ℕ) (task level d : ℕ) (finished : Bool) where
@@ -56,7 +56,7 @@ module _ (b : List ℕ) (task level d : ℕ) (finished : Bool) where
     worked-store s e t few h v =
         w
         ∙ ap (λ (l : List ℕ). sets l (13 + 12 * task) (digits 256 3 x)) (e ∙ ap (λ (y : State). encode y) (sym (jobs-same s)))
-        ∙ store-work s (workOf s) (remainingOf s) task x few (omega arith)
+        ∙ store-work s (workOf s) (remainingOf s) task x (omega arith)
         ∙ ap (λ (y : State). encode y)
         (jobs-eq s (changed (workOf s) task x) (workedOf baseSpeeds s d finished) (remainingOf s) (remainingOf s)
         (λ i k. elim (ℕ-discrete i task) [
@@ -83,7 +83,7 @@ module _ (b : List ℕ) (task level d : ℕ) (finished : Bool) where
         let v : work ≡ workOf s task =
         q
         ∙ ap (λ (y : List ℕ). entryIn y task .work) e
-        ∙ encode-work s task few (omega arith) (subst (λ (y : ℕ). workOf s y ≤ 16777215) (sym t) (r .1)) in
+        ∙ encode-work s task (omega arith) (subst (λ (y : ℕ). workOf s y ≤ 16777215) (sym t) (r .1)) in
         worked-store s e t few (r .0)
         (z
         ∙ ap₂ (λ (y u : ℕ). y - d * u) v (p ∙ ap (λ (y : ℕ). speedOf baseSpeeds y) l)
@@ -239,12 +239,12 @@ module _ (keys : List ℕ) (count clock speed : ℕ) (b : List ℕ) where
                 let v : getD (withJobs s work left .entries) i noEntry .worst ≡ worst = jobs-worst s work left i (omega arith) in
                 let u : entryIn m i .worst ≡ worst =
                 ap (λ (l : List ℕ). entryIn l i .worst) (now .so-far s e n r)
-                ∙ encode-worst (withJobs s work left) i (omega arith) (omega arith) (omega (arith, r i h))
+                ∙ encode-worst (withJobs s work left) i (omega arith) (omega (arith, r i h))
                 ∙ v in
                 g
                 ∙ ap₂ (λ (l : List ℕ) (x : ℕ). sets (sets l (13 + 12 * i) (digits 256 3 x)) (16 + 12 * i) (digits 256 2 (need speed x))) (now .so-far s e n r) u
-                ∙ ap (λ (l : List ℕ). sets l (16 + 12 * i) (digits 256 2 (need speed worst))) (store-work s work left i worst (omega arith) (omega arith))
-                ∙ store-remaining s (changed work i worst) left i (need speed worst) (omega arith) (omega arith)
+                ∙ ap (λ (l : List ℕ). sets l (16 + 12 * i) (digits 256 2 (need speed worst))) (store-work s work left i worst (omega arith))
+                ∙ store-remaining s (changed work i worst) left i (need speed worst) (omega arith)
                 ∙ ap (λ (x : State). encode x)
                 (jobs-eq s
                 (changed work i worst) (upTo (newWork keys clock s) (workOf s) (i + 1))
@@ -284,12 +284,7 @@ module _ (b keys : List ℕ) (count clock : ℕ) where
       set-more x e = record {
         size = length-set r n x ∙ now .size;
         below = omega arith;
-        each = λ i k. elim (ℕ-discrete i n) [
-          | yes q ↦
-              subst (λ (j : ℕ). getD (set r n x) j 0 ≡ keyAfter b keys clock j) (sym q)
-              (getD-set-same r n x 0 (omega (arith, now .size)) ∙ e)
-          | no q ↦ getD-set-other r n i x 0 q ∙ now .each i (omega arith)
-        ];
+        each = filled-more (keyAfter b keys clock) r n x (omega (arith, now .size)) e (now .each);
       }
 
       -- task n's job stays

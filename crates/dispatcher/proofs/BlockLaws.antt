@@ -9,7 +9,7 @@ use native.Mathlib.Numerals.{add-one}
 use native.Mathlib.Decide.{ℕ-discrete}
 use native.Mathlib.Omega.{arith}
 use borrow.Author.Tests.{eq-eqb, ne-eqb}
-use lib.ListN.{length, getD, take, drop, set, replicate, length-append, length-set, take-append-drop, replicate-append-replicate}
+use lib.ListN.{length, getD, take, drop, set, replicate, length-append, length-set, replicate-append-replicate}
 use lib.Seq.{ext-getD, sets, sets-eq, drop-drop, drop-at, getD-drop, length-take-le, take-at, take-all, take-suc, getD-set-same, getD-set-other, paste, paste-suc}
 use Rattle.arith.specs.Digits.{number, digits}
 use Rattle.arith.specs.Choice.{pick}
@@ -19,7 +19,7 @@ use Rattle.dispatcher.specs.StateBlock.{State, noEntry, workOf, remainin
 use Rattle.dispatcher.specs.Orders.{withOrder}
 use Rattle.dispatcher.specs.Passes.{listTo}
 use Rattle.dispatcher.specs.Code.{entryIn, fieldIn, changed, withJobs, withClock}
-use Rattle.dispatcher.proofs.StateCodec.{StorableEntry, Storable, entry-back, length-entriesFrom, length-entriesBytes}
+use Rattle.dispatcher.proofs.StateCodec.{length-entriesFrom, length-entriesBytes}
 use Rattle.dispatcher.proofs.NextArrival.{length-listTo, getD-listTo}
 
 -- entry i of those in a block
@@ -68,28 +68,6 @@ module _ (bytes : List ℕ) (b : (k : ℕ) → getD bytes k 0 < 256) where
       let same : r ≡ number 256 n (drop k (drop at bytes)) =
       h ∙ ap (λ (m : ℕ). number 256 n (drop m bytes)) e ∙ sym (ap (λ (l : List ℕ). number 256 n l) (drop-drop k at bytes)) in
       (same, subst (λ (x : ℕ). x < 256 ^ n) (sym same) (number-later n at k))
-
-  pub entry-fits : (at : ℕ) → StorableEntry (entryFrom (drop at bytes))
-  entry-fits at = record {
-    period = number-fits 2 at;
-    worst = number-later 3 at 2;
-    work = number-later 3 at 5;
-    remaining = number-later 2 at 8;
-  }
-
-  pub decoded-storable : getD bytes 6 0 ≤ 16 → Storable (decode bytes)
-  decoded-storable h =
-      let n : ℕ = getD bytes 6 0 in
-      let len : length (entriesFrom n (drop 8 bytes)) ≡ n = length-entriesFrom n (drop 8 bytes) in
-      record {
-        clock = number-fits 4 0;
-        task = b 4;
-        level = b 5;
-        count = omega arith;
-        entries = λ i q. subst (λ (e : Entry). StorableEntry e)
-            (sym (entriesFrom-at n (drop 8 bytes) i (omega arith) ∙ ap (λ (x : List ℕ). entryFrom x) (drop-drop (12 * i) 8 bytes)))
-            (entry-fits (8 + 12 * i));
-      }
 
 -- one run of stores after another
 pub sets-append :
@@ -152,10 +130,6 @@ entriesBytes-more es i h =
 abbrev pub storedTo : List ℕ → List Entry → ℕ → List ℕ
 storedTo front es i = front ++ (entriesBytes (take i es) ++ replicate (12 * (16 - i)) 0)
 
-pub stored-none : (image : List ℕ) (es : List Entry) → drop 8 image ≡ replicate 192 0 → image ≡ storedTo (take 8 image) es 0
-stored-none image es h =
-    sym (take-append-drop 8 image) ∙ ap (λ (x : List ℕ). take 8 image ++ x) h
-
 pub stored-more :
     (front : List ℕ) (es : List Entry) (i : ℕ) (m n : List ℕ) →
     length front ≡ 8 →
@@ -209,7 +183,7 @@ from-entry (e ∷ es) rest (suc i) h =
     ∙ from-entry es rest i (omega arith)
 
 -- entry i read off the bytes of a state
-module _ (s : State) (i : ℕ) (few : length (s .entries) ≤ 16) (h : i < length (s .entries)) where
+module _ (s : State) (i : ℕ) (h : i < length (s .entries)) where
   at-entry :
       drop (8 + 12 * i) (encode s)
       ≡ entryBytes (getD (s .entries) i noEntry)
@@ -220,12 +194,6 @@ module _ (s : State) (i : ℕ) (few : length (s .entries) ≤ 16) (h : i < lengt
   read-off : entryIn (encode s) i ≡ entryFrom (entryBytes (getD (s .entries) i noEntry) ++ (entriesBytes (drop (suc i) (s .entries)) ++ replicate (12 * (16 - length (s .entries))) 0))
   read-off = ap (λ (l : List ℕ). entryFrom l) at-entry
 
-  pub encode-at : StorableEntry (getD (s .entries) i noEntry) → entryIn (encode s) i ≡ getD (s .entries) i noEntry
-  encode-at e =
-      read-off
-      ∙ entry-back (getD (s .entries) i noEntry) (entriesBytes (drop (suc i) (s .entries)) ++ replicate (12 * (16 - length (s .entries))) 0) e
-
-  -- the same of single fields, where only that field is known to fit
   pub encode-worst : getD (s .entries) i noEntry .worst ≤ 16777215 → entryIn (encode s) i .worst ≡ getD (s .entries) i noEntry .worst
   encode-worst e =
       ap (λ (x : Entry). x .worst) read-off
@@ -246,6 +214,13 @@ module _ (s : State) (i : ℕ) (few : length (s .entries) ≤ 16) (h : i < lengt
       ∙ number-digits 256 2 (remainingOf s i)
       (drop 10 (entryBytes (getD (s .entries) i noEntry) ++ (entriesBytes (drop (suc i) (s .entries)) ++ replicate (12 * (16 - length (s .entries))) 0)))
       (omega arith) (omega arith)
+
+-- a function that is changed at one place: there, and elsewhere
+pub changed-there : (f : ℕ → ℕ) (i x j : ℕ) → j ≡ i → changed f i x j ≡ x
+changed-there f i x j e = ap (λ (b : Bool). pick b x (f j)) (eq-eqb j i e)
+
+pub changed-else : (f : ℕ → ℕ) (i x j : ℕ) → (j ≡ i → ⊥) → changed f i x j ≡ f j
+changed-else f i x j n = ap (λ (b : Bool). pick b x (f j)) (ne-eqb j i n)
 
 -- a state with other jobs
 module _ (s : State) (work remaining : ℕ → ℕ) where
@@ -285,7 +260,7 @@ listTo-is n f es size each =
     ext-getD noEntry es (listTo n f) (size ∙ sym (length-listTo n f))
     (λ i h. each i (omega arith) ∙ sym (getD-listTo n f i noEntry (omega arith)))
 
--- its own jobs, the same jobs, other jobs again
+-- its own jobs, and the same jobs
 pub jobs-same : (s : State) → withJobs s (workOf s) (remainingOf s) ≡ s
 jobs-same s =
     let e : s .entries ≡ withJobs s (workOf s) (remainingOf s) .entries =
@@ -308,16 +283,6 @@ jobs-eq s f g p q a b =
       work = a i h k;
       remaining = b i h k;
     })) in
-    λ k. record { clock = s .clock; task = s .task; level = s .level; entries = e k }
-
-pub jobs-again : (s : State) (f g p q : ℕ → ℕ) → withJobs (withJobs s f p) g q ≡ withJobs s g q
-jobs-again s f g p q =
-    let t : State = withJobs s f p in
-    let e : withJobs t g q .entries ≡ withJobs s g q .entries =
-    listTo-is (length (s .entries)) (entryWith s g q) (withJobs t g q .entries) (jobs-count t g q ∙ jobs-count s f p)
-    (λ i h.
-    jobs-entry t g q i (omega (arith, jobs-count s f p))
-    ∙ (λ k. record { period = jobs-period s f p i h k; worst = jobs-worst s f p i h k; work = g i; remaining = q i })) in
     λ k. record { clock = s .clock; task = s .task; level = s .level; entries = e k }
 
 -- stores past a front
@@ -348,7 +313,7 @@ module _ (k : ℕ) (v : List ℕ) (f : Entry) where
       ∙ ap (λ (l : List ℕ). entryBytes x ++ l) (store-entry es rest i (omega arith) e)
 
 -- storing one field of one entry
-module _ (s : State) (work remaining : ℕ → ℕ) (i x : ℕ) (few : length (s .entries) ≤ 16) (h : i < length (s .entries)) where
+module _ (s : State) (work remaining : ℕ → ℕ) (i x : ℕ) (h : i < length (s .entries)) where
   in-jobs : i < length (withJobs s work remaining .entries)
   in-jobs = omega (arith, jobs-count s work remaining)
 
@@ -394,12 +359,6 @@ module _ (s : State) (work remaining : ℕ → ℕ) (i x : ℕ) (few : length (s
       ∙ (λ j. digits 256 4 (s .clock)
       ++ (s .task ∷ s .level ∷ n j ∷ 0 ∷ entriesBytes (withJobs s f p .entries) ++ replicate (12 * (16 - n j)) 0))
 
-  elsewhere : (f : ℕ → ℕ) (j : ℕ) → (j ≡ i → ⊥) → changed f i x j ≡ f j
-  elsewhere f j z = ap (λ (b : Bool). pick b x (f j)) (ne-eqb j i z)
-
-  there : (f : ℕ → ℕ) → x ≡ changed f i x i
-  there f = ap (λ (b : Bool). pick b x (f i)) (sym (eq-eqb i i refl))
-
   pub store-work : sets (encode (withJobs s work remaining)) (13 + 12 * i) (digits 256 3 x) ≡ encode (withJobs s (changed work i x) remaining)
   store-work =
       let n : 13 + 12 * i ≡ 8 + (12 * i + 5) = omega arith in
@@ -409,8 +368,8 @@ module _ (s : State) (work remaining : ℕ → ℕ) (i x : ℕ) (few : length (s
       ap
       (λ (y : ℕ).
       entryBytes (record { period = getD (s .entries) i noEntry .period; worst = getD (s .entries) i noEntry .worst; work = y; remaining = remaining i }) ++ r)
-      (there work))
-      (elsewhere work) (λ j z. refl)
+      (sym (changed-there work i x i refl)))
+      (changed-else work i x) (λ j z. refl)
 
   pub store-remaining : sets (encode (withJobs s work remaining)) (16 + 12 * i) (digits 256 2 x) ≡ encode (withJobs s work (changed remaining i x))
   store-remaining =
@@ -421,8 +380,8 @@ module _ (s : State) (work remaining : ℕ → ℕ) (i x : ℕ) (few : length (s
       ap
       (λ (y : ℕ).
       entryBytes (record { period = getD (s .entries) i noEntry .period; worst = getD (s .entries) i noEntry .worst; work = work i; remaining = y }) ++ r)
-      (there remaining))
-      (λ j z. refl) (elsewhere remaining)
+      (sym (changed-there remaining i x i refl)))
+      (λ j z. refl) (changed-else remaining i x)
 
 -- storing the clock, and an order
 pub store-clock : (s : State) (x : ℕ) → sets (encode s) 0 (digits 256 4 x) ≡ encode (withClock s x)

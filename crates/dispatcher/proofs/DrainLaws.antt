@@ -6,7 +6,7 @@ use mathlib.Core.List.{List}
 use native.Mathlib.Nat.{not-suc-le-zero}
 use native.Mathlib.Decide.{decLe, ℕ-discrete}
 use native.Mathlib.Omega.{arith}
-use borrow.Author.Tests.{lt-ltb, le-ltb, eq-eqb, ne-eqb}
+use borrow.Author.Tests.{lt-ltb, le-ltb}
 use mathlib.Core.Bool.{Bool}
 use lib.Dec.{ltb}
 use lib.ListN.{length, getD}
@@ -18,7 +18,7 @@ use Rattle.arith.proofs.Tests.{eq-yes, eq-not, testEq}
 use Rattle.arith.proofs.Sums.{sumTo-eq}
 use Rattle.dispatcher.specs.StateBlock.{State, workOf, remainingOf, encode}
 use Rattle.dispatcher.specs.Code.{entryIn, fieldIn, changed, withJobs, noKey, leastKey, drainedBy}
-use Rattle.dispatcher.proofs.BlockLaws.{field-remaining, encode-remaining, jobs-count, jobs-remaining, jobs-same, jobs-eq, store-remaining}
+use Rattle.dispatcher.proofs.BlockLaws.{changed-there, changed-else, field-remaining, encode-remaining, jobs-count, jobs-remaining, jobs-same, jobs-eq, store-remaining}
 
 -- what is taken from an entry and stored back, where it has more than is asked for and where it has not
 module _ (b m : List ℕ) (i ticks left : ℕ) (e : left ≡ entryIn b i .remaining) where
@@ -34,13 +34,6 @@ module _ (b m : List ℕ) (i ticks left : ℕ) (e : left ≡ entryIn b i .remain
   took-all h k =
       let z : 0 ≡ entryIn b i .remaining - ticks = omega arith in
       (omega arith, k ∙ ap (λ (x : ℕ). sets b (16 + 12 * i) (digits 256 2 x)) z)
-
--- a function changed at one place: there, and elsewhere
-pub changed-there : (f : ℕ → ℕ) (i x j : ℕ) → j ≡ i → changed f i x j ≡ x
-changed-there f i x j e = ap (λ (b : Bool). pick b x (f j)) (eq-eqb j i e)
-
-pub changed-else : (f : ℕ → ℕ) (i x j : ℕ) → (j ≡ i → ⊥) → changed f i x j ≡ f j
-changed-else f i x j n = ap (λ (b : Bool). pick b x (f j)) (ne-eqb j i n)
 
 -- a sum in which one term is smaller
 sumTo-less :
@@ -231,7 +224,7 @@ module _ (keys : List ℕ) (count d : ℕ) (b m : List ℕ) (t : ℕ) (few : cou
         let z : length (withJobs s (workOf s) (on .left) .entries) ≡ count = jobs-count s (workOf s) (on .left) ∙ n in
         let v : remainingOf (withJobs s (workOf s) (on .left)) i ≡ on .left i = jobs-remaining s (workOf s) (on .left) i (omega arith) in
         ap (λ (l : List ℕ). entryIn l i .remaining) (on .bytes)
-        ∙ encode-remaining (withJobs s (workOf s) (on .left)) i (omega arith) (omega arith) (omega (arith, on .less i h, r i h))
+        ∙ encode-remaining (withJobs s (workOf s) (on .left)) i (omega arith) (omega (arith, on .less i h, r i h))
         ∙ v
 
   -- no ticks left
@@ -306,7 +299,7 @@ module _ (keys : List ℕ) (count d : ℕ) (b m : List ℕ) (t : ℕ) (few : cou
                 bytes =
                     g
                     ∙ ap₂ (λ (l : List ℕ) (y : ℕ). sets l (16 + 12 * f) (digits 256 2 (y - t))) (on s e n r .bytes) z
-                    ∙ store-remaining s (workOf s) left f (left f - t) (omega arith) (omega (arith, first-below));
+                    ∙ store-remaining s (workOf s) left f (left f - t) (omega (arith, first-below));
                 less = λ i k. omega (arith, rest-less keys count tell left f t x first-below before v i, on s e n r .less i k);
                 same = λ i k. drained-step keys count tell left f t x first-below before v i k ∙ on s e n r .same i k;
               };

@@ -10,8 +10,8 @@ use native.Mathlib.Omega.{arith}
 use borrow.Author.Tests.{lt-ltb, le-ltb, eq-eqb, ne-eqb}
 use lib.Dec.{ltb}
 use lib.ListN.{length, getD, set}
-use lib.Seq.{getD-set-same, getD-set-other}
 use Rattle.arith.specs.Choice.{pick}
+use Rattle.plan.proofs.Lists.{values-more}
 use Rattle.dispatcher.specs.Orders.{leastTo}
 use Rattle.dispatcher.specs.Code.{entryIn, keyOf, noKey, deadlineIn, leastKey, allowedBy}
 use Rattle.dispatcher.proofs.NextArrival.{Attained, least-at}
@@ -29,11 +29,7 @@ latest-key block clock i p x e f = f ∙ ap (λ (y : ℕ). keyOf (clock / y * y 
 pub filled-more :
     (f : ℕ → ℕ) (s : List ℕ) (n x : ℕ) → n < length s → x ≡ f n → ((i : ℕ) → i < n → getD s i 0 ≡ f i) →
     (i : ℕ) → i < n + 1 → getD (set s n x) i 0 ≡ f i
-filled-more f s n x h e all i k =
-    elim (ℕ-discrete i n) [
-      | yes z ↦ subst (λ (y : ℕ). getD (set s n x) y 0 ≡ f y) (sym z) (getD-set-same s n x 0 h ∙ e)
-      | no z ↦ getD-set-other s n i x 0 z ∙ all i (omega arith)
-    ]
+filled-more f s n x h e all i k = subst (λ (y : ℕ). getD (set s n y) i 0 ≡ f i) (sym e) (values-more f s n h all i k)
 
 -- one task more of a least key: its own key counts where it has something left
 pub key-more :

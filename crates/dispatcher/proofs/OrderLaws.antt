@@ -229,6 +229,26 @@ module _ (b : List ℕ) (holds : Holds b) (runnable : Runnable (decode b)) (some
         ∙ ap (need (speedOf baseSpeeds (getD b 5 0))) (w ∙ sym (ap (λ (e : Entry). e .work) (entry-at b (getD b 4 0) standing-below)));
   }
 
+-- the hold of an order, from the ticks to the next arrival
+pub hold-is :
+    (τ : Timing) (s : State) (c : Choice) → OrderIn s c → (next hold : ℕ) → next ≡ nextArrival τ (s .clock) →
+    hold ≡ pick (eqb (c .task) 255) next (min (c .time) next) → hold ≡ holdOf baseSpeeds τ s
+hold-is τ s c o next hold n h =
+    elim (ℕ-discrete (c .task) 255) [
+      | yes e ↦
+          h
+          ∙ ap (λ (b : Bool). pick b next (min (c .time) next)) (eq-eqb (c .task) 255 e)
+          ∙ n
+          ∙ ap (λ (b : Bool). pick b (nextArrival τ (s .clock)) (min (runningTime baseSpeeds s) (nextArrival τ (s .clock))))
+          (sym (eq-eqb (s .task) 255 (sym (o .task) ∙ e)))
+      | no e ↦
+          h
+          ∙ ap (λ (b : Bool). pick b next (min (c .time) next)) (ne-eqb (c .task) 255 e)
+          ∙ ap₂ (λ (x y : ℕ). min x y) (o .time e) n
+          ∙ ap (λ (b : Bool). pick b (nextArrival τ (s .clock)) (min (runningTime baseSpeeds s) (nextArrival τ (s .clock))))
+          (sym (ne-eqb (s .task) 255 (λ z. e (o .task ∙ z))))
+    ]
+
 -- choosing leaves the clock and the entries
 order-clock : (τ : Timing) (s : State) (q : List Pending) → orderFor baseSpeeds τ s q .clock ≡ s .clock
 order-clock τ s [] = refl
@@ -282,22 +302,11 @@ module _ (b : List ℕ) (back : encode (decode b) ≡ b) (next : ℕ) (n : next 
   next-is : next ≡ nextArrival (timingIn b) (S .clock)
   next-is = n ∙ sym (ap (nextArrival (timingIn b)) (order-clock (timingIn b) (decode b) (openJobs (timingIn b) (decode b))))
 
-  held : (task : ℕ) → c .task ≡ task → (time : ℕ) → ((c .task ≡ 255 → ⊥) → c .time ≡ time) →
-      pick (eqb (c .task) 255) next (min (c .time) next) ≡ pick (eqb task 255) next (min time next)
-  held task e time f =
-      elim (ℕ-discrete (c .task) 255) [
-        | yes z ↦ sym (hold-idle (c .task) (c .time) next z) ∙ hold-idle task time next (sym e ∙ z)
-        | no z ↦ ap₂ (λ (x y : ℕ). pick (eqb x 255) next (min y next)) e (f z)
-      ]
-
   pub choose-reply :
       (hold : ℕ) (r : Reply) →
       hold ≡ pick (eqb (c .task) 255) next (min (c .time) next) →
       ((x : State) → c .task ≡ x .task → c .level ≡ x .level → r ≡ orderWith x hold) →
       r ≡ orderWith S (holdOf baseSpeeds (timingIn b) S)
   choose-reply hold r h f =
-      let e : hold ≡ holdOf baseSpeeds (timingIn b) S =
-      h
-      ∙ held (S .task) (o .0 .task) (runningTime baseSpeeds S) (o .0 .time)
-      ∙ ap (λ (x : ℕ). pick (eqb (S .task) 255) x (min (runningTime baseSpeeds S) x)) next-is in
+      let e : hold ≡ holdOf baseSpeeds (timingIn b) S = hold-is (timingIn b) S c (o .0) next hold next-is h in
       f S (o .0 .task) (o .0 .level) ∙ ap (orderWith S) e

@@ -31,7 +31,7 @@ use Rattle.dispatcher.specs.declared.Reply.the-variants as reply
 use Rattle.dispatcher.specs.StateBlock.{State, noEntry, workOf, remainingOf, planIn, timing, encode, decode}
 use Rattle.dispatcher.specs.Orders.{leastTo, nextArrival, holdOf, chooseOrder, orderWith}
 use Rattle.dispatcher.specs.Passes.{someTo, arrivesAt, movedState, choosesAnew, passedState}
-use Rattle.dispatcher.specs.Questions.{largestClock, sound, stateSound, runningTime, passQuestions}
+use Rattle.dispatcher.specs.Questions.{largestClock, sound, stateSound, passQuestions}
 use Rattle.dispatcher.specs.Calls.{repliedBy, passNumber, passOrder, passReply, passBytes}
 use Rattle.dispatcher.specs.Code.{Holds, entryIn, timingIn, keyOf, noKey, deadlineIn, dueAt, Keyed, OrderIn, Doable, Good, Stepping, TestedAs}
 use Rattle.dispatcher.proofs.Fine.{nominalSpeed, Accepted}
@@ -41,33 +41,14 @@ use Rattle.dispatcher.proofs.NextArrival.{next-arrives, before-next, ne
 use Rattle.dispatcher.proofs.Moved.{choose-entries, passed-entries}
 use Rattle.dispatcher.proofs.PassSound.{FineEntries, fine-chosen, moved-fine}
 use Rattle.dispatcher.proofs.BlockLaws.{count-in, entry-at}
-use Rattle.dispatcher.proofs.KeyLaws.{key-below, key-after, next-is, keyed-after, keyed-on}
+use Rattle.dispatcher.proofs.KeyLaws.{key-below, keyed-after, keyed-on}
+use Rattle.dispatcher.proofs.OrderLaws.{hold-is, choose-next, choose-when}
 use Rattle.dispatcher.proofs.NeedTests.{speed-most}
-use Rattle.dispatcher.proofs.PassSteps.{sound-plan, sound-facts, nominal-small, nominal-above, entries-few, period-some, sound-state, sound-size, sound-count, count-some}
+use Rattle.dispatcher.proofs.PassSteps.{sound-plan, sound-facts, nominal-small, nominal-above, entries-few, period-some, sound-state, sound-size, count-some}
 
 -- work whose time at some speed is at most the ticks left is done in them at the top speed
 doable-at : (speed work left : ℕ) → 0 < speed → speed ≤ 100 → need speed work ≤ left → work ≤ left * 100
 doable-at speed work left h k e = le-trans (need-covers speed work h) (mul-le-mul e k)
-
--- the hold of an order, from the ticks to the next arrival
-hold-is :
-    (τ : Timing) (s : State) (c : Choice) → OrderIn s c → (next hold : ℕ) → next ≡ nextArrival τ (s .clock) →
-    hold ≡ pick (eqb (c .task) 255) next (min (c .time) next) → hold ≡ holdOf baseSpeeds τ s
-hold-is τ s c o next hold n h =
-    elim (ℕ-discrete (c .task) 255) [
-      | yes e ↦
-          h
-          ∙ ap (λ (b : Bool). pick b next (min (c .time) next)) (eq-eqb (c .task) 255 e)
-          ∙ n
-          ∙ ap (λ (b : Bool). pick b (nextArrival τ (s .clock)) (min (runningTime baseSpeeds s) (nextArrival τ (s .clock))))
-          (sym (eq-eqb (s .task) 255 (sym (o .task) ∙ e)))
-      | no e ↦
-          h
-          ∙ ap (λ (b : Bool). pick b next (min (c .time) next)) (ne-eqb (c .task) 255 e)
-          ∙ ap₂ (λ (x y : ℕ). min x y) (o .time e) n
-          ∙ ap (λ (b : Bool). pick b (nextArrival τ (s .clock)) (min (runningTime baseSpeeds s) (nextArrival τ (s .clock))))
-          (sym (ne-eqb (s .task) 255 (λ z. e (o .task ∙ z))))
-    ]
 
 -- a pass from a sound state that the questions let through
 module _ (s : State) (ok : stateSound baseSpeeds s ≡ true) (d : ℕ) (finished : Bool) (clear : firstNo (passQuestions baseSpeeds s d finished) ≡ 0) where
@@ -389,23 +370,12 @@ module _ (bytes : List ℕ) (d : ℕ) (finished : Bool) where
 
 -- the next arrival, from a sound block's keys
 module _ (bytes keys : List ℕ) (highest : ℕ) (good : Good bytes keys highest) (count clock : ℕ) (n : count ≡ getD bytes 6 0) (t : clock ≡ decode bytes .clock) where
-  pub good-few : (count ≤ 16) × (1 ≤ count)
-  good-few = (omega (arith, good .holds .few), omega (arith, count-some bytes (good .sound)))
-
-  pub good-after : (i : ℕ) → i < count → (clock ≤ deadlineIn (getD keys i 0)) × (getD keys i 0 < noKey)
-  good-after i h =
-      let k : i < timingIn bytes .count = omega (arith, sound-count bytes (good .sound)) in (
-        omega (arith, key-after (timingIn bytes) (decode bytes .clock) keys (good .keyed) i k),
-        key-below (timingIn bytes) (decode bytes .clock) keys (good .keyed) i k,
-      )
+  pub good-requires : ((count ≤ 16) × (1 ≤ count)) × ((i : ℕ) → i < count → (clock ≤ deadlineIn (getD keys i 0)) × (getD keys i 0 < noKey))
+  good-requires = choose-next bytes keys (good .holds) (count-some bytes (good .sound)) (good .keyed) count n clock t
 
   pub good-clock : clock ≤ largestClock
   good-clock = omega (arith, sound-facts (decode bytes) (sound-state bytes (good .sound)) .clock)
 
   pub good-next :
       (next : ℕ) → next ≡ deadlineIn (leastTo count (λ i. getD keys i 0)) - clock → next ≡ nextArrival (timingIn bytes) (decode bytes .clock)
-  good-next next e =
-      let m : count ≡ timingIn bytes .count = n ∙ sym (sound-count bytes (good .sound)) in
-      e
-      ∙ ap₂ (λ (x y : ℕ). deadlineIn (leastTo x (λ i. getD keys i 0)) - y) m t
-      ∙ next-is (timingIn bytes) (decode bytes .clock) keys (good .keyed) (omega (arith, count-some bytes (good .sound), sound-count bytes (good .sound)))
+  good-next = choose-when bytes keys (good .holds) (count-some bytes (good .sound)) (good .keyed) count n clock t

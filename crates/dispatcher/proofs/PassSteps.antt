@@ -35,6 +35,7 @@ use Rattle.dispatcher.proofs.NextArrival.{least-le}
 use Rattle.dispatcher.proofs.OrderFacts.{Ordered, idles, runs}
 use Rattle.dispatcher.proofs.Worked.{ordered}
 use Rattle.dispatcher.proofs.BlockLaws.{count-in, jobs-count, jobs-entry, jobs-work, store-clock}
+use Rattle.dispatcher.proofs.OpenJobs.{timing-count}
 use Rattle.dispatcher.proofs.KeyLaws.{key-below, key-task, due-is, due-none, drained-is}
 
 -- the first no of the questions 13 and 14, where it is known whether a job runs
@@ -234,14 +235,8 @@ module _ (bytes : List ℕ) (ok : sound baseSpeeds bytes ≡ true) where
   pub sound-back : encode (decode bytes) ≡ bytes
   sound-back = laid-back bytes laid
 
-  pub sound-count : timingIn bytes .count ≡ getD bytes 6 0
-  sound-count = length-planIn (decode bytes) ∙ count-in bytes
-
   pub count-some : 1 ≤ getD bytes 6 0
   count-some = omega (arith, entries-some (decode bytes) sound-state, count-in bytes)
-
-  pub count-few : getD bytes 6 0 ≤ 16
-  count-few = omega (arith, entries-few (decode bytes) sound-state, count-in bytes)
 
 -- lists that agree at each place
 listTo-same {ℓ} : {A : Type ℓ} (n : ℕ) (f g : ℕ → A) → ((i : ℕ) → i < n → f i ≡ g i) → listTo n f ≡ listTo n g
@@ -398,7 +393,7 @@ module _ (bytes keys : List ℕ) (highest d : ℕ) (finished : Bool) (p : Steppi
 
     pub moving-keys : (i : ℕ) → i < count → (getD keys i 0 % 16 ≡ i) × (getD keys i 0 < noKey)
     moving-keys i h =
-        let k : i < timingIn bytes .count = omega (arith, sound-count bytes (p .good .sound)) in
+        let k : i < timingIn bytes .count = omega (arith, timing-count bytes) in
         (key-task (timingIn bytes) (decode bytes .clock) keys (p .good .keyed) i k, key-below (timingIn bytes) (decode bytes .clock) keys (p .good .keyed) i k)
 
     -- where the next arrival is not reached, no deadline is
@@ -407,7 +402,7 @@ module _ (bytes keys : List ℕ) (highest d : ℕ) (finished : Bool) (p : Steppi
         (i : ℕ) → i < count → dueAt keys (clock + d) i ≡ false
     moving-none next clock a t f i h =
         let ne : d ≡ next → ⊥ = λ e. false≢true (sym f ∙ eq-eqb d next e) in
-        let k : i < timingIn bytes .count = omega (arith, sound-count bytes (p .good .sound)) in
+        let k : i < timingIn bytes .count = omega (arith, timing-count bytes) in
         ap (λ (x : ℕ). dueAt keys (x + d) i) t
         ∙ due-none (timingIn bytes) (decode bytes .clock) keys (p .good .keyed) d (p .some) (p .within) (omega (arith, a, p .within, ne)) i k
 

@@ -29,7 +29,7 @@ pub record Storable (s : State) : Type 0 where
   pub entries : (i : ℕ) → i < length (s .entries) → StorableEntry (getD (s .entries) i noEntry)
 
 -- an entry is read back
-pub entry-back : (e : Entry) (rest : List ℕ) → StorableEntry e → entryFrom (entryBytes e ++ rest) ≡ e
+entry-back : (e : Entry) (rest : List ℕ) → StorableEntry e → entryFrom (entryBytes e ++ rest) ≡ e
 entry-back e rest h =
     let bytes : List ℕ = entryBytes e ++ rest in
     λ i. record {

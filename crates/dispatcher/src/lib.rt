@@ -1,4 +1,4 @@
-// The dispatcher: the state block, orders and passes. A state is read and changed in its bytes; nothing of it is copied.
+// The dispatcher: the state block, orders and passes. A pass reads and changes a state in its bytes.
 pub mod clock;
 pub mod entries;
 pub mod image;

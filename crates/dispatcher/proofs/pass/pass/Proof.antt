@@ -11,7 +11,7 @@ use Rattle.dispatcher.specs.Orders.{nextArrival}
 use Rattle.dispatcher.specs.Questions.{passQuestions}
 use Rattle.dispatcher.specs.Code.{timingIn, Good}
 use Rattle.dispatcher.proofs.PassSteps.{runnable, sound-state}
-use Rattle.dispatcher.proofs.PassLaws.{good-few, good-after, good-clock, good-next, refused-reply, refused-bytes, number-10, number-is, accepted-reply, accepted-bytes}
+use Rattle.dispatcher.proofs.PassLaws.{good-requires, good-clock, good-next, refused-reply, refused-bytes, number-10, number-is, accepted-reply, accepted-bytes}
 use Rattle.dispatcher.proofs.pass.pass.Statement.{statement}
 use Rattle.dispatcher.proofs.pass.pass.Tie as tie
 
@@ -45,7 +45,7 @@ count-at-requires : tie.Need-count-at-requires
 count-at-requires c κs = good (c .before .before .before .before .before) .holds
 
 next-arrival-requires : tie.Need-next-arrival-requires
-next-arrival-requires c κs = (good-few (c .before .before .before .before .before .before .before .before .before .before .before .args .state .now) (c .before .before .before .before .before .before .before .before .test-block .result .keys) (c .before .before .before .before .before .before .before .before .test-block .result .nominal) (good (c .before .before .before .before .before .before)) (c .count-at .result) (c .before .before .before .clock-at .result) (c .count-at .ensures) (c .before .before .before .clock-at .ensures), good-after (c .before .before .before .before .before .before .before .before .before .before .before .args .state .now) (c .before .before .before .before .before .before .before .before .test-block .result .keys) (c .before .before .before .before .before .before .before .before .test-block .result .nominal) (good (c .before .before .before .before .before .before)) (c .count-at .result) (c .before .before .before .clock-at .result) (c .count-at .ensures) (c .before .before .before .clock-at .ensures))
+next-arrival-requires c κs = good-requires (c .before .before .before .before .before .before .before .before .before .before .before .args .state .now) (c .before .before .before .before .before .before .before .before .test-block .result .keys) (c .before .before .before .before .before .before .before .before .test-block .result .nominal) (good (c .before .before .before .before .before .before)) (c .count-at .result) (c .before .before .before .clock-at .result) (c .count-at .ensures) (c .before .before .before .clock-at .ensures)
 
 standing-requires : tie.Need-standing-requires
 standing-requires c κs = (good (c .before .before .before .before .before .before .before .before) .holds, runnable (decode (c .before .before .before .before .before .before .before .before .before .before .before .before .before .args .state .now)) (sound-state (c .before .before .before .before .before .before .before .before .before .before .before .before .before .args .state .now) (good (c .before .before .before .before .before .before .before .before) .sound)))
