@@ -15,7 +15,7 @@ move-on-requires : tie.Need-move-on-requires
 move-on-requires c κs = ((stepping (c .before .before .args .block .now) (c .before .before .args .keys .now) (c .before .before .args .highest) (c .before .before .args .next) (c .before .before .args .d) (c .before .before .args .finished) (c .before .before .pre .0 .0) (c .before .before .pre .1 .0) (c .before .before .pre .1 .1), c .before .before .pre .0 .1), c .before .before .pre .1 .0)
 
 sub-choose-until : tie.Need-sub-choose-until
-sub-choose-until c = omega arith
+sub-choose-until c = omega (arith, stepping (c .before .before .before .before .before .before .before .before .args .block .now) (c .before .before .before .before .before .before .before .before .args .keys .now) (c .before .before .before .before .before .before .before .before .args .highest) (c .before .before .before .before .before .before .before .before .args .next) (c .before .before .before .before .before .before .before .before .args .d) (c .before .before .before .before .before .before .before .before .args .finished) (c .before .before .before .before .before .before .before .before .pre .0 .0) (c .before .before .before .before .before .before .before .before .pre .1 .0) (c .before .before .before .before .before .before .before .before .pre .1 .1) .within, c .before .before .before .before .before .before .before .before .pre .1 .0)
 
 choose-until-requires : tie.Need-choose-until-requires
 choose-until-requires c κs = ((holds (c .before .before .before), after-again (c .before .before .before .before .before .before .before .before .args .block .now) (c .before .before .before .before .before .before .before .before .args .keys .now) (c .before .before .before .before .before .before .before .before .args .highest) (c .before .before .before .before .before .before .before .before .args .next) (c .before .before .before .before .before .before .before .before .args .d) (c .before .before .before .before .before .before .before .before .args .finished) (c .before .before .before .before .before .before .before .before .pre .0 .0) (c .before .before .before .before .before .before .before .before .pre .1 .0) (c .before .before .before .before .before .before .before .before .pre .1 .1) (c .before .before .before .before .before .before .before .before .args .c) (c .before .before .before .before .before .before .before .before .pre .0 .1) (c .before .before .before .before .before .move-on .last .0) (c .before .before .before .before .before .move-on .ensures), after-does (c .before .before .before .before .before .before .before .before .args .block .now) (c .before .before .before .before .before .before .before .before .args .keys .now) (c .before .before .before .before .before .before .before .before .args .highest) (c .before .before .before .before .before .before .before .before .args .next) (c .before .before .before .before .before .before .before .before .args .d) (c .before .before .before .before .before .before .before .before .args .finished) (c .before .before .before .before .before .before .before .before .pre .0 .0) (c .before .before .before .before .before .before .before .before .pre .1 .0) (c .before .before .before .before .before .before .before .before .pre .1 .1) (c .before .before .before .before .before .before .before .before .args .c) (c .before .before .before .before .before .before .before .before .pre .0 .1) (c .before .before .before .before .before .move-on .last .0) (c .before .before .before .before .before .move-on .ensures)), (after-kept (c .before .before .before .before .before .before .before .before .args .block .now) (c .before .before .before .before .before .before .before .before .args .keys .now) (c .before .before .before .before .before .before .before .before .args .highest) (c .before .before .before .before .before .before .before .before .args .next) (c .before .before .before .before .before .before .before .before .args .d) (c .before .before .before .before .before .before .before .before .args .finished) (c .before .before .before .before .before .before .before .before .pre .0 .0) (c .before .before .before .before .before .before .before .before .pre .1 .0) (c .before .before .before .before .before .before .before .before .pre .1 .1) (c .before .before .before .before .before .before .before .before .args .c) (c .before .before .before .before .before .before .before .before .pre .0 .1) (c .before .before .before .before .before .move-on .last .0) (c .before .before .before .before .before .move-on .ensures) (c .before .before .if1 .taken), after-next (c .before .before .before .before .before .before .before .before .args .block .now) (c .before .before .before .before .before .before .before .before .args .keys .now) (c .before .before .before .before .before .before .before .before .args .highest) (c .before .before .before .before .before .before .before .before .args .next) (c .before .before .before .before .before .before .before .before .args .d) (c .before .before .before .before .before .before .before .before .args .finished) (c .before .before .before .before .before .before .before .before .pre .0 .0) (c .before .before .before .before .before .before .before .before .pre .1 .0) (c .before .before .before .before .before .before .before .before .pre .1 .1) (c .before .before .before .before .before .before .before .before .args .c) (c .before .before .before .before .before .before .before .before .pre .0 .1) (c .before .before .before .before .before .move-on .last .0) (c .before .before .before .before .before .move-on .ensures) (c .before .before .if1 .taken)))
