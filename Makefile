@@ -6,7 +6,7 @@
 # make install PREFIX=..   the header, the archive and the pkg-config file
 # make clean   removes all that was made
 
-ARCHIVES := target/staticlib/libplan.a target/staticlib/libdispatcher.a
+ARCHIVES := target/staticlib/libplan_calls.a target/staticlib/libdispatcher_calls.a
 PROGRAMS := target/bin/bench
 CODE := crates.txt $(shell find crates -name '*.rt')
 PREFIX ?= /usr/local

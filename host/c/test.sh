@@ -9,7 +9,7 @@ top=../..
 work=$(mktemp -d) || exit 2
 trap 'rm -rf "$work"' EXIT
 
-library=(-L "$top/target/staticlib" -ldispatcher -lplan)
+library=(-L "$top/target/staticlib" -ldispatcher_calls -lplan_calls)
 warnings=(-Wall -Wextra -Werror)
 checks=(-g "-fsanitize=address,undefined" -fno-sanitize-recover=all)
 passed=0

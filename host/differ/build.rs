@@ -5,7 +5,7 @@ use std::path::PathBuf;
 
 /// The crates whose C entries are called. An archive has its own crate's entries alone for all to
 /// see, so the two go into one program.
-const CRATES: [&str; 2] = ["plan", "dispatcher"];
+const CRATES: [&str; 2] = ["plan_calls", "dispatcher_calls"];
 
 fn main() {
     let manifest = env::var("CARGO_MANIFEST_DIR").expect("cargo names the package's folder");

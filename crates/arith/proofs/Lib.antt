@@ -5,3 +5,8 @@ pub mod DigitLaws
 pub mod BitLaws
 pub mod Stores
 pub mod Sums
+pub mod QuestionLaws
+pub mod RangeLaws
+pub mod Searches
+pub mod ListLaws
+pub mod Loops

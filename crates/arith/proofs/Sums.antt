@@ -1,8 +1,16 @@
 -- Sums over the indices below a count, compared term by term. Assumes nothing.
 use Prim.Native.Nat.{ℕ, zero, suc, _+_, _*_, _≤_, _<_}
-use mathlib.Core.Path.{_≡_, refl}
+use mathlib.Core.Path.{_≡_, refl, sym, ap, _∙_}
 use native.Mathlib.Omega.{arith}
-use Rattle.arith.specs.Sum.{sumTo}
+use Rattle.arith.specs.Sum.{sumTo, sumOf}
+use mathlib.Core.List.{List, [], _∷_, _++_}
+use native.Mathlib.Nat.{add-le-add}
+use lib.ListN.{length, getD, take}
+use lib.Seq.{take-suc}
+use mathlib.Core.Bool.{Bool}
+use lib.Dec.{eqb}
+use Rattle.arith.specs.Choice.{pick}
+use Rattle.arith.proofs.Tests.{passed, failed, tested, eq-yes, eq-not, testEq}
 
 -- smaller terms, smaller sum
 pub sumTo-le : (n : ℕ) (f g : ℕ → ℕ) → ((i : ℕ) → i < n → f i ≤ g i) → sumTo n f ≤ sumTo n g
@@ -23,3 +31,57 @@ sumTo-add (suc n) f g = omega (arith, sumTo-add n f g)
 pub sumTo-mul : (n k : ℕ) (f : ℕ → ℕ) → sumTo n (λ i. k * f i) ≡ k * sumTo n f
 sumTo-mul zero k f = omega arith
 sumTo-mul (suc n) k f = omega (arith, sumTo-mul n k f)
+
+-- a smaller value at each element makes a smaller sum
+pub sumOf-le {ℓ} : {A : Type ℓ} (f g : A → ℕ) (l : List A) → ((x : A) → f x ≤ g x) → sumOf f l ≤ sumOf g l
+sumOf-le f g [] h = omega arith
+sumOf-le f g (x ∷ xs) h = add-le-add (h x) (sumOf-le f g xs h)
+
+-- the sum over a list's first elements, index by index
+sumOf-snoc {ℓ} : {A : Type ℓ} (f : A → ℕ) (l : List A) (x : A) → sumOf f (l ++ (x ∷ [])) ≡ sumOf f l + f x
+sumOf-snoc f [] x = omega arith
+sumOf-snoc f (y ∷ l) x = omega (arith, sumOf-snoc f l x)
+
+pub sumOf-taken {ℓ} :
+    {A : Type ℓ} (f : A → ℕ) (l : List A) (d : A) (n : ℕ) → n ≤ length l → sumTo n (λ i. f (getD l i d)) ≡ sumOf f (take n l)
+sumOf-taken f l d zero h = refl
+sumOf-taken f l d (suc n) h =
+    ap (λ (x : ℕ). x + f (getD l n d)) (sumOf-taken f l d n (omega arith))
+    ∙ sym (sumOf-snoc f (take n l) (getD l n d))
+    ∙ ap (λ x. sumOf f x) (sym (take-suc l n d h))
+
+-- a sum of which only one term counts
+sum-none : (n x : ℕ) (f : ℕ → ℕ) → n ≤ x → sumTo n (λ j. pick {A = ℕ} (eqb j x) (f j) 0) ≡ 0
+sum-none zero x f h = refl
+sum-none (suc n) x f h =
+    elim (testEq n x) as (λ b _. sumTo n (λ j. pick {A = ℕ} (eqb j x) (f j) 0) + pick {A = ℕ} b (f n) 0 ≡ 0) [
+      | eq-yes e ↦ absurd (apart e)
+      | eq-not e ↦ omega (arith, sum-none n x f (omega arith))
+    ]
+  where
+    apart : n ≡ x → ⊥
+    apart e = omega arith
+
+pub sum-one : (n x : ℕ) (f : ℕ → ℕ) → x < n → sumTo n (λ j. pick {A = ℕ} (eqb j x) (f j) 0) ≡ f x
+sum-one zero x f h = absurd (none h)
+  where
+    none : x < 0 → ⊥
+    none k = omega arith
+sum-one (suc n) x f h =
+    elim (testEq n x) as (λ b _. sumTo n (λ j. pick {A = ℕ} (eqb j x) (f j) 0) + pick {A = ℕ} b (f n) 0 ≡ f x) [
+      | eq-yes e ↦ omega (arith, sum-none n x f (omega arith), ap f e)
+      | eq-not e ↦ omega (arith, sum-one n x f (omega arith))
+    ]
+
+-- a part of a sum falls by no more than the whole
+pub part-falls : (n : ℕ) (b : ℕ → Bool) (f g : ℕ → ℕ) → ((i : ℕ) → i < n → g i ≤ f i) →
+    sumTo n (λ j. pick {A = ℕ} (b j) 0 (f j)) + sumTo n g ≤ sumTo n (λ j. pick {A = ℕ} (b j) 0 (g j)) + sumTo n f
+part-falls zero b f g h = omega arith
+part-falls (suc n) b f g h =
+    elim (tested (b n))
+    as (λ s _.
+    sumTo n (λ j. pick {A = ℕ} (b j) 0 (f j)) + pick {A = ℕ} s 0 (f n) + (sumTo n g + g n)
+    ≤ sumTo n (λ j. pick {A = ℕ} (b j) 0 (g j)) + pick {A = ℕ} s 0 (g n) + (sumTo n f + f n)) [
+      | passed ↦ omega (arith, part-falls n b f g (λ i k. h i (omega arith)), h n (omega arith))
+      | failed ↦ omega (arith, part-falls n b f g (λ i k. h i (omega arith)), h n (omega arith))
+    ]

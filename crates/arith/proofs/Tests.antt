@@ -65,3 +65,8 @@ testLex m n rest =
           elim (testLe (suc n) m) as (λ s _. TestLex m n rest (pick s false rest))
           [ le-yes k ↦ lex-more k | le-not k ↦ lex-same (omega arith) ]
     ]
+
+-- a task's four limits, in the order in which they are tested
+pub both-false : (a : Bool) → both a false ≡ false
+both-false true = refl
+both-false false = refl

@@ -4,3 +4,5 @@ pub mod Need
 pub mod Divisor
 pub mod Digits
 pub mod Bits
+pub mod Asking
+pub mod Ranges

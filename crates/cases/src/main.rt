@@ -1,9 +1,9 @@
 // Runs the cases of document 01 that are not starred, and prints what each call gives.
-use dispatcher::entries::kilmstra_pass;
-use dispatcher::entries::kilmstra_show;
-use dispatcher::entries::kilmstra_start;
-use plan::entries::kilmstra_plan_copy;
-use plan::entries::kilmstra_plan_read;
+use dispatcher_calls::kilmstra_pass;
+use dispatcher_calls::kilmstra_show;
+use dispatcher_calls::kilmstra_start;
+use plan_calls::kilmstra_plan_copy;
+use plan_calls::kilmstra_plan_read;
 
 // A line: what was asked, and the answer taken apart. A refusal is its number; an order is its kind, task, level and hold.
 fn tell(what: &[u8], answer: u64) {

@@ -8,14 +8,11 @@ use native.Mathlib.Omega.{arith}
 use lib.ListN.{length, getD, take, drop, set, length-map}
 use lib.Seq.{take-suc, drop-cons, set-at, append-snoc, length-take-le, take-all, take-length}
 use Rattle.plan.specs.Levels.{baseSpeeds}
-use Rattle.dispatcher.specs.Calls.{passReply, passBytes}
-use Rattle.dispatcher.specs.Run.{Pass, Answered, trace, bytesAfter}
-use Rattle.dispatcher.specs.Entries.{replyNumber}
-use Rattle.dispatcher.specs.Play.{passFrom, playedPasses, replyNumbers}
-
-map-snoc : {A B : Type 0} (f : A → B) (l : List A) (x : A) → map f (l ++ (x ∷ [])) ≡ map f l ++ (f x ∷ [])
-map-snoc f [] x = refl
-map-snoc f (y ∷ l) x = ap (λ m. f y ∷ m) (map-snoc f l x)
+use Rattle.reclaiming.specs.Calls.{passReply, passBytes}
+use Rattle.reclaiming.specs.Run.{Pass, Answered, trace, bytesAfter}
+use Rattle.reclaiming.specs.Numbers.{replyNumber}
+use Rattle.reclaiming.specs.Play.{passFrom, playedPasses, replyNumbers}
+use Rattle.arith.proofs.ListLaws.{map-snoc}
 
 bytes-snoc : (s : List ℕ) (ps : List Pass) (p : Pass) → bytesAfter baseSpeeds s (ps ++ (p ∷ [])) ≡ passBytes baseSpeeds (bytesAfter baseSpeeds s ps) (p .d) (p .finished)
 bytes-snoc s [] p = refl

@@ -14,20 +14,22 @@ use Rattle.arith.specs.Choice.{pick}
 use Rattle.plan.specs.declared.Written.{Written}
 use Rattle.plan.specs.declared.Written.the-variants as written
 use Rattle.plan.specs.Levels.{baseSpeeds}
-use Rattle.plan.specs.Questions.{firstNo, roomQuestion}
-use Rattle.plan.proofs.Codec.{Leaves, leaves-refused, leaves-written}
+use Rattle.plan.specs.Questions.{roomQuestion}
+use Rattle.arith.specs.Asking.{firstNo}
+use Rattle.plan_block.proofs.Codec.{Leaves, leaves-refused, leaves-written}
 use Rattle.schedule.specs.PlainSchedule.{Timing, Pending, queueOf}
-use Rattle.schedule.proofs.Standing.{queueOf-cong}
-use Rattle.dispatcher.specs.declared.Ready.{Ready}
-use Rattle.dispatcher.specs.declared.Tested.{Tested}
-use Rattle.dispatcher.specs.declared.Entry.{Entry}
-use Rattle.dispatcher.specs.StateBlock.{remainingOf, decode}
-use Rattle.dispatcher.specs.Calls.{queueBytes, shownBytes, showNumber}
-use Rattle.dispatcher.specs.Code.{tasksBytes, entryIn, timingIn, readyTo, Listed, Good, TestedAs}
-use Rattle.dispatcher.proofs.Soundness.{length-planIn}
-use Rattle.dispatcher.proofs.BlockLaws.{count-in, entry-at}
-use Rattle.dispatcher.proofs.KeyLaws.{ready-bytes}
-use Rattle.dispatcher.proofs.ReadySteps.{listed-below}
+use Rattle.schedule.proofs.QueueLaws.{queueOf-cong}
+use Rattle.state.specs.declared.Ready.{Ready}
+use Rattle.orders.specs.declared.Tested.{Tested}
+use Rattle.reclaiming.specs.declared.Entry.{Entry}
+use Rattle.reclaiming.specs.StateBlock.{remainingOf, decode}
+use Rattle.reclaiming.specs.Calls.{queueBytes, shownBytes, showNumber}
+use Rattle.state.specs.Code.{tasksBytes, entryIn, timingIn, readyTo, Listed}
+use Rattle.orders.specs.Code.{Good, TestedAs}
+use Rattle.reclaiming.proofs.Soundness.{length-planIn}
+use Rattle.state.proofs.BlockLaws.{count-in, entry-at}
+use Rattle.state.proofs.KeyLaws.{ready-bytes}
+use Rattle.state.proofs.ReadySteps.{listed-below}
 
 -- how many bytes tasks take
 pub length-tasksBytes : (left : ℕ → ℕ) (ts : List ℕ) → length (tasksBytes left ts) ≡ 3 * length ts

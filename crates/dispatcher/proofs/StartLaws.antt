@@ -19,31 +19,35 @@ use Rattle.plan.specs.declared.Judged.{Judged}
 use Rattle.plan.specs.declared.Verdict.the-variants as verdict
 use Rattle.plan.specs.Levels.{baseSpeeds, speedOf, nominal}
 use Rattle.plan.specs.Blocks.{noTask, tasksOf, tasksIn, planOf, countIn}
-use Rattle.plan.specs.Questions.{firstNo, judging, reading, roomQuestion}
+use Rattle.plan.specs.Questions.{judging, reading, roomQuestion}
+use Rattle.arith.specs.Asking.{firstNo}
 use Rattle.plan.specs.Answers.{answered, beside, readBlock, storedBy}
 use Rattle.plan.proofs.Facts.{FineList, FineBlock, fine-list, fine-block, list-yes}
 use Rattle.plan.proofs.LevelLaws.{baseRising}
 use Rattle.plan.proofs.BlockBits.{length-tasksFrom}
 use Rattle.plan.proofs.RoundTrip.{tasksOf-planOf}
-use Rattle.plan.proofs.Codec.{told-refused, told-admitted, no-before, yes-before}
+use Rattle.plan_block.proofs.Codec.{told-refused, told-admitted}
+use Rattle.arith.proofs.QuestionLaws.{no-before, yes-before}
 use Rattle.schedule.specs.PlainSchedule.{Timing}
-use Rattle.dispatcher.specs.declared.Entry.{Entry}
-use Rattle.dispatcher.specs.declared.Reply.{Reply}
-use Rattle.dispatcher.specs.declared.Reply.the-variants as reply
-use Rattle.dispatcher.specs.StateBlock.{State, noEntry, taskOf, timingAt, timing, planIn, entryBytes, entriesBytes, encode, decode}
-use Rattle.dispatcher.specs.Orders.{chooseOrder, holdOf, orderWith}
-use Rattle.dispatcher.specs.Passes.{newEntry, startState}
-use Rattle.dispatcher.specs.Calls.{repliedBy, startNumber, startOrder, startReply, startBuffer}
-use Rattle.dispatcher.specs.Code.{Holds, entryIn, timingIn, keyOf, Keyed, newState, Doable}
-use Rattle.dispatcher.proofs.Fine.{Fine, nominalSpeed}
-use Rattle.dispatcher.proofs.Plans.{task-range}
-use Rattle.dispatcher.proofs.StateCodec.{Storable, StorableEntry, length-encode, length-entriesBytes, decode-encode}
-use Rattle.dispatcher.proofs.Soundness.{fine-storable}
-use Rattle.dispatcher.proofs.NextArrival.{length-listTo, getD-listTo}
-use Rattle.dispatcher.proofs.Moved.{choose-entries}
-use Rattle.dispatcher.proofs.PassSound.{start-fine}
-use Rattle.dispatcher.proofs.BlockLaws.{storedTo, stored-more, count-in, entry-at}
-use Rattle.dispatcher.proofs.NeedTests.{speed-positive, speed-most}
+use Rattle.reclaiming.specs.declared.Entry.{Entry}
+use Rattle.reclaiming.specs.declared.Reply.{Reply}
+use Rattle.reclaiming.specs.declared.Reply.the-variants as reply
+use Rattle.reclaiming.specs.StateBlock.{State, noEntry, taskOf, timingAt, timing, planIn, entryBytes, entriesBytes, encode, decode}
+use Rattle.reclaiming.specs.Orders.{chooseOrder, holdOf, orderWith}
+use Rattle.reclaiming.specs.Passes.{newEntry, startState}
+use Rattle.reclaiming.specs.Calls.{repliedBy, startNumber, startOrder, startReply, startBuffer}
+use Rattle.state.specs.Code.{Holds, entryIn, timingIn, keyOf, Keyed}
+use Rattle.orders.specs.Code.{Doable}
+use Rattle.dispatcher.specs.Code.{newState}
+use Rattle.reclaiming.proofs.Fine.{Fine, nominalSpeed}
+use Rattle.reclaiming.proofs.Plans.{task-range}
+use Rattle.reclaiming.proofs.StateCodec.{Storable, StorableEntry, length-encode, length-entriesBytes, decode-encode}
+use Rattle.reclaiming.proofs.Soundness.{fine-storable}
+use Rattle.arith.proofs.RangeLaws.{length-listTo, getD-listTo}
+use Rattle.reclaiming.proofs.PassedStates.{choose-entries}
+use Rattle.reclaiming.proofs.PassSound.{start-fine}
+use Rattle.state.proofs.BlockLaws.{storedTo, stored-more, count-in, entry-at}
+use Rattle.orders.proofs.NeedTests.{speed-positive, speed-most}
 
 -- the eight bytes in front of the entries of a new state
 abbrev pub newFront : ℕ → List ℕ

@@ -1,11 +1,1 @@
-pub mod StateBlock
-pub mod Orders
-pub mod Passes
-pub mod Questions
-pub mod Calls
-pub mod Run
-pub mod Promises
-pub mod Cases
 pub mod Code
-pub mod Entries
-pub mod Play

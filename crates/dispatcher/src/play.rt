@@ -1,17 +1,17 @@
 // A whole list of passes played on lent blocks: the run of demand 3, from its start to its last reply.
-use crate::Reply;
-use crate::entries::reply_number;
-use crate::pass::pass;
 use crate::start::start;
+use answers::reply_number;
+use passing::pass;
+use reclaiming::Reply;
 ghost use mathlib.Core.Path.{_≡_};
 ghost use mathlib.Core.List.{_++_};
 ghost use lib.Dec.{eqb};
 ghost use lib.ListN.{length, drop};
 ghost use Rattle.plan.specs.Levels.{baseSpeeds};
-ghost use Rattle.dispatcher.specs.Calls.{refusalOf, startReply, passReply, passBytes};
-ghost use Rattle.dispatcher.specs.Run.{trace, bytesAfter};
-ghost use Rattle.dispatcher.specs.Entries.{replyNumber};
-ghost use Rattle.dispatcher.specs.Play.{passFrom, playedPasses, replyNumbers, playedState, playedReplies, PlayedOnTime};
+ghost use Rattle.reclaiming.specs.Calls.{refusalOf, startReply, passReply, passBytes};
+ghost use Rattle.reclaiming.specs.Run.{trace, bytesAfter};
+ghost use Rattle.reclaiming.specs.Numbers.{replyNumber};
+ghost use Rattle.reclaiming.specs.Play.{passFrom, playedPasses, replyNumbers, playedState, playedReplies, PlayedOnTime};
 
 // One pass, as a number, played on a state; the reply as a number.
 fn play_one(state: &mut [u8], p: u64) -> u64

@@ -1,17 +1,17 @@
 // Showing the queue: the tasks that have remaining ticks, most urgent first.
-use crate::Ready;
-use crate::image::count_at;
-use crate::image::remaining_at;
-use crate::sound::test_block;
-use crate::urgency::ready;
+use orders::sound::test_block;
 use plan::Written;
+use state::Ready;
+use state::image::count_at;
+use state::image::remaining_at;
+use state::urgency::ready;
 ghost use mathlib.Core.Path.{_≡_};
 ghost use mathlib.Core.List.{_++_};
 ghost use Prim.Native.Nat.{ℕ, _*_, _<_, _≤_};
 ghost use lib.ListN.{length, getD, take, drop};
 ghost use Rattle.plan.specs.Levels.{baseSpeeds};
-ghost use Rattle.dispatcher.specs.Calls.{showReply, showBuffer};
-ghost use Rattle.dispatcher.specs.Code.{entryIn, tasksBytes};
+ghost use Rattle.reclaiming.specs.Calls.{showReply, showBuffer};
+ghost use Rattle.state.specs.Code.{entryIn, tasksBytes};
 
 // Stores three bytes for each task of a list: its number, then its remaining ticks.
 fn put_queue(buffer: &mut [u8], state: &[u8], q: Ready)
@@ -25,7 +25,7 @@ fn put_queue(buffer: &mut [u8], state: &[u8], q: Ready)
         let task = q.tasks[k];
         buffer[3 * k] = task;
         let left = remaining_at(state, task as usize);
-        arith::put_number(buffer, 3 * k + 1, 2, left);
+        numeric::put_number(buffer, 3 * k + 1, 2, left);
         k += 1;
     }
 }

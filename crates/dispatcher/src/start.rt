@@ -1,24 +1,25 @@
 // Starting: a state in which every task of a plan has a new job, with an order chosen in it.
-use crate::Entry;
-use crate::Reply;
-use crate::image::put_entry;
-use crate::image::store;
-use crate::order::choose;
-use crate::urgency::keys_of;
+use orders::order::choose;
 use plan::Plan;
 use plan::Verdict;
+use reclaiming::Entry;
+use reclaiming::Reply;
+use state::image::put_entry;
+use state::image::store;
+use state::urgency::keys_of;
 ghost use mathlib.Core.Path.{_≡_};
 ghost use mathlib.Core.List.{[], _∷_};
 ghost use Prim.Native.Nat.{_<_, _≤_};
 ghost use lib.ListN.{length, replicate};
 ghost use Rattle.plan.specs.Levels.{baseSpeeds, nominal};
 ghost use Rattle.plan.specs.Blocks.{tasksOf};
-ghost use Rattle.plan.specs.Questions.{firstNo, judging, roomQuestion};
+ghost use Rattle.plan.specs.Questions.{judging, roomQuestion};
+ghost use Rattle.arith.specs.Asking.{firstNo};
 ghost use Rattle.plan.specs.Answers.{storedBy};
-ghost use Rattle.dispatcher.specs.StateBlock.{encode};
-ghost use Rattle.dispatcher.specs.Passes.{startState};
-ghost use Rattle.dispatcher.specs.Questions.{stateLength};
-ghost use Rattle.dispatcher.specs.Calls.{repliedBy, startOrder, startReply, startBuffer};
+ghost use Rattle.reclaiming.specs.StateBlock.{encode};
+ghost use Rattle.reclaiming.specs.Passes.{startState};
+ghost use Rattle.reclaiming.specs.Questions.{stateLength};
+ghost use Rattle.reclaiming.specs.Calls.{repliedBy, startOrder, startReply, startBuffer};
 ghost use Rattle.dispatcher.specs.Code.{newState};
 
 // The image of a state at clock 0, with no entries yet.
@@ -42,7 +43,7 @@ fn fresh(p: Plan, speed: u32) -> [u8; 200]
     let mut i: usize = 0;
     while i < count {
         let t = p.tasks[i];
-        let remaining = arith::time_needed(speed, t.worst);
+        let remaining = numeric::time_needed(speed, t.worst);
         let e = Entry {
             period: t.period,
             worst: t.worst,
@@ -64,7 +65,7 @@ fn started(p: Plan, highest: usize, state: &mut [u8]) -> Reply
     if state.len() < 200 {
         return Reply::Refused(9);
     }
-    let speed = plan::judging::speed_of(highest);
+    let speed = judging::speed_of(highest);
     let mut image = fresh(p, speed);
     let keys = keys_of(&image, p.count, 0);
     let r = choose(&mut image, &keys);
@@ -77,7 +78,7 @@ pub fn start(block: &[u8], state: &mut [u8]) -> Reply
     ensures { λ r. ⌜ r ≡ startReply baseSpeeds (now (block .entry)) (length (now (state .entry))) ⌝ }
     ensures { λ _. ⌜ now (state .exit) ≡ startBuffer baseSpeeds (now (block .entry)) (now (state .entry)) ⌝ }
 {
-    let j = plan::block::read(block);
+    let j = plan_block::read(block);
     let v = j.verdict;
     let p = j.plan;
     match v {

@@ -9,11 +9,11 @@ use borrow.Author.Tests.{lt-leb}
 use lib.ListN.{length}
 use Rattle.arith.specs.Choice.{pick}
 use Rattle.plan.specs.Blocks.{countIn, blockLength}
-use Rattle.plan.specs.Questions.{within}
-use Rattle.plan.proofs.Judgements.{both-false}
-use Rattle.plan.proofs.Facts.{within-low, within-true}
+use Rattle.arith.specs.Asking.{within}
+use Rattle.arith.proofs.Tests.{both-false}
+use Rattle.arith.proofs.QuestionLaws.{within-low, within-true}
 use Rattle.plan.proofs.BlockBits.{blockLength-is}
-use Rattle.listing.specs.Listing.{planCut}
+use Rattle.transcript.specs.Listing.{planCut}
 
 -- of a count and how many bytes there are
 abbrev cutAt : ℕ → ℕ → ℕ

@@ -9,11 +9,11 @@ use lib.Dec.{leb}
 use lib.ListN.{length, getD, drop, length-append, drop-of-length-le}
 use lib.Seq.{sets, drop-cons}
 use Rattle.plan.specs.Levels.{baseSpeeds}
-use Rattle.dispatcher.specs.declared.Reply.{Reply}
-use Rattle.dispatcher.specs.Calls.{passReply, passBytes}
-use Rattle.listing.specs.Listing.{replyLine, refusedLine, clockAfter, passLines, passStates}
-use Rattle.listing.specs.Stores.{Put}
-use Rattle.listing.proofs.Puts.{sets-append}
+use Rattle.reclaiming.specs.declared.Reply.{Reply}
+use Rattle.reclaiming.specs.Calls.{passReply, passBytes}
+use Rattle.transcript.specs.Listing.{replyLine, refusedLine, clockAfter, passLines, passStates}
+use Rattle.lines.specs.Stores.{Put}
+use Rattle.lines.proofs.Puts.{sets-append}
 
 -- a line stored, of a text that it begins
 module _ {m at r : ℕ} {a b line : List ℕ} (p : Put m a at line r b) (rest left : List ℕ) (e : rest ≡ line ++ left) where

@@ -16,10 +16,10 @@ use Rattle.plan.specs.declared.Verdict.{Verdict}
 use Rattle.plan.specs.declared.Verdict.the-variants as verdict
 use Rattle.plan.specs.Levels.{baseSpeeds}
 use Rattle.plan.specs.Answers.{readBlock, refusalOf}
-use Rattle.dispatcher.specs.declared.Reply.{Reply}
-use Rattle.dispatcher.specs.Calls.{startReply, startBuffer}
-use Rattle.listing.specs.Listing.{planLine, replyLine, refusedLine, planCut, passLines, startedLines, judgedLines, readLines, listing}
-use Rattle.listing.specs.Stores.{Put}
+use Rattle.reclaiming.specs.declared.Reply.{Reply}
+use Rattle.reclaiming.specs.Calls.{startReply, startBuffer}
+use Rattle.transcript.specs.Listing.{planLine, replyLine, refusedLine, planCut, passLines, startedLines, judgedLines, readLines, listing}
+use Rattle.lines.specs.Stores.{Put}
 
 -- a text at the front of a buffer: its length, every byte, and that it lies within
 abbrev pub Front : List ℕ → List ℕ → ℕ → List ℕ → Type 0

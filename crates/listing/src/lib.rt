@@ -1,12 +1,11 @@
 // The bench program's library: the listing of an input.
 pub mod passes;
-pub mod text;
 
 use crate::passes::pass_lines;
-use crate::text::plan_line;
-use crate::text::refused_line;
-use crate::text::reply_line;
 use dispatcher::start::start;
+use lines::plan_line;
+use lines::refused_line;
+use lines::reply_line;
 use plan::Verdict;
 ghost use mathlib.Core.Path.{_≡_};
 ghost use mathlib.Core.List.{_++_};
@@ -14,8 +13,8 @@ ghost use Prim.Native.Nat.{_+_, _≤_};
 ghost use lib.ListN.{length, take, drop};
 ghost use Rattle.plan.specs.Levels.{baseSpeeds};
 ghost use Rattle.plan.specs.Answers.{refusalOf};
-ghost use Rattle.listing.specs.Listing.{planCut, startedLines, listing};
-ghost use Rattle.listing.specs.Stores.{Put};
+ghost use Rattle.transcript.specs.Listing.{planCut, startedLines, listing};
+ghost use Rattle.lines.specs.Stores.{Put};
 
 // How many bytes of the input the reader is given: as many as the count needs, or all there are if fewer, or if the count is bad.
 pub fn plan_cut(input: &[u8]) -> usize
@@ -26,14 +25,14 @@ pub fn plan_cut(input: &[u8]) -> usize
     if n < 2 {
         return n;
     }
-    let count = arith::bits_at(input, 4, 5) as usize;
+    let count = numeric::bits_at(input, 4, 5) as usize;
     if count < 1 {
         return n;
     }
     if count > 16 {
         return n;
     }
-    let wanted = plan::block::block_length(count);
+    let wanted = plan_block::block_length(count);
     if wanted < n {
         return wanted;
     }
@@ -72,7 +71,7 @@ pub fn list_into(input: &[u8], out: &mut [u8]) -> usize
         return refused_line(out, 0, 17);
     }
     let cut = plan_cut(input);
-    let judged = plan::block::read(&input[..cut]);
+    let judged = plan_block::read(&input[..cut]);
     let verdict = judged.verdict;
     let Verdict::Admitted {
         nominal,

@@ -1,14 +1,14 @@
 // The passes of an input, two bytes each: each is put to the dispatcher, and its line stored.
-use crate::text::refused_line;
-use crate::text::reply_line;
-use dispatcher::Reply;
-use dispatcher::pass::pass;
+use lines::refused_line;
+use lines::reply_line;
+use passing::pass;
+use reclaiming::Reply;
 ghost use mathlib.Core.Path.{_≡_};
 ghost use Prim.Native.Nat.{_+_, _^_, _<_, _≤_};
 ghost use lib.ListN.{length};
 ghost use Rattle.plan.specs.Levels.{baseSpeeds};
-ghost use Rattle.listing.specs.Listing.{clockAfter, passLines, passStates};
-ghost use Rattle.listing.specs.Stores.{Put};
+ghost use Rattle.transcript.specs.Listing.{clockAfter, passLines, passStates};
+ghost use Rattle.lines.specs.Stores.{Put};
 
 // The clock after a reply: it rises by d where the pass was accepted.
 fn clock_after(clock: u32, d: u32, r: Reply) -> u32
@@ -33,8 +33,8 @@ pub fn pass_lines(passes: &[u8], state: &mut [u8], out: &mut [u8], from: usize) 
     let mut clock: u32 = 0;
     let mut i: usize = 0;
     while i + 1 < passes.len() {
-        let high = arith::wide(passes[i]);
-        let d = high % 128 * 256 + arith::wide(passes[i + 1]);
+        let high = numeric::wide(passes[i]);
+        let d = high % 128 * 256 + numeric::wide(passes[i + 1]);
         let reply = pass(state, d, 128 <= high);
         let after = clock_after(clock, d, reply);
         at = reply_line(out, at, after, reply);

@@ -17,7 +17,7 @@ use Rattle.arith.proofs.DigitLaws.{digit-at}
 use Rattle.arith.proofs.BitLaws.{length-unpacked, length-packed, packed-at}
 use Rattle.plan.specs.declared.Task.{Task}
 use Rattle.plan.specs.Blocks.{taskBits, tasksBits, planBits, planBlock, bitCount, blockLength, countIn, taskFrom, tasksFrom, closingBits, noTask}
-use Rattle.plan.proofs.General.{getD-early, getD-later, every-zero}
+use Rattle.arith.proofs.ListLaws.{getD-early, getD-later, every-zero}
 
 -- how many bits there are
 pub length-taskBits : (t : Task) → length (taskBits t) ≡ 36

@@ -1,10 +1,9 @@
 -- What is known of a task, a list of tasks and a block once its questions are answered yes.
 -- Assumes nothing.
 use Prim.Native.Nat.{ℕ, suc, _<_, _≤_}
-use mathlib.Core.Bool.{Bool, true, false}
-use mathlib.Core.Path.{_≡_, refl, sym, subst}
+use mathlib.Core.Bool.{Bool, true}
+use mathlib.Core.Path.{_≡_, refl}
 use mathlib.Core.List.{List}
-use native.Mathlib.Omega.{arith}
 use lib.Dec.{leb, ltb, eqb}
 use lib.ListN.{length, getD}
 use Rattle.arith.specs.Choice.{pick, every}
@@ -12,19 +11,11 @@ use Rattle.arith.proofs.Tests.{both-left, both-right, both-true}
 use Rattle.plan.specs.declared.Task.{Task}
 use Rattle.plan.specs.Levels.{hyperperiod, nominal}
 use Rattle.plan.specs.Blocks.{editionIn, countIn, tasksIn, blockLength, closingBits, noTask}
-use Rattle.plan.specs.Questions.{firstNo, within, inRange, taskQuestions, judging, reading}
+use Rattle.plan.specs.Questions.{inRange, taskQuestions, judging, reading}
+use Rattle.arith.specs.Asking.{firstNo, within}
 use borrow.Author.Tests.{leb-true, le-leb, eqb-true, eq-eqb}
-use Rattle.plan.proofs.General.{every-at}
-
--- a value from low to high
-pub within-low : (low high x : ℕ) → within low high x ≡ true → low ≤ x
-within-low low high x h = leb-true low x (both-left (leb low x) (leb x high) h)
-
-pub within-high : (low high x : ℕ) → within low high x ≡ true → x ≤ high
-within-high low high x h = leb-true x high (both-right (leb low x) (leb x high) h)
-
-pub within-true : (low high x : ℕ) → low ≤ x → x ≤ high → within low high x ≡ true
-within-true low high x l h = both-true (le-leb low x l) (le-leb x high h)
+use Rattle.arith.proofs.ListLaws.{every-at}
+use Rattle.arith.proofs.QuestionLaws.{within-high, within-low, within-true, yes-both, yes-first, yes-rest}
 
 -- a task in range
 pub record InRange (t : Task) : Type 0 where
@@ -51,18 +42,6 @@ range-test t h =
 
 pub range-at : (ts : List Task) (i : ℕ) → every inRange ts ≡ true → i < length ts → InRange (getD ts i noTask)
 range-at ts i h l = in-range (getD ts i noTask) (every-at inRange ts i noTask h l)
-
--- the first of two questions is answered yes, and so is the rest
-yes-first : (n : ℕ) (b : Bool) (rest : ℕ) → pick b rest (suc n) ≡ 0 → b ≡ true
-yes-first n true rest h = refl
-yes-first n false rest h = absurd (omega arith)
-
-yes-rest : (n : ℕ) (b : Bool) (rest : ℕ) → pick b rest (suc n) ≡ 0 → rest ≡ 0
-yes-rest n true rest h = h
-yes-rest n false rest h = absurd (omega arith)
-
-yes-both : (n : ℕ) {b : Bool} {rest : ℕ} → b ≡ true → rest ≡ 0 → pick b rest n ≡ 0
-yes-both n {b} {rest} h r = subst (λ (t : Bool). pick t rest n ≡ 0) (sym h) r
 
 -- tasks of which 6, 7 and 8 are answered yes
 pub record FineTasks (speeds : List ℕ) (ts : List Task) : Type 0 where

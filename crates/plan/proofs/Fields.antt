@@ -14,7 +14,7 @@ use Rattle.arith.proofs.DigitLaws.{number-digits}
 use Rattle.plan.specs.declared.Task.{Task}
 use Rattle.plan.specs.Blocks.{taskBits, tasksBits, planBits, bitCount, noTask}
 use Rattle.plan.specs.Questions.{inRange}
-use Rattle.plan.proofs.General.{number-bit, number-drop-same}
+use Rattle.arith.proofs.ListLaws.{number-bit, number-drop-same}
 use Rattle.plan.proofs.BlockBits.{length-planBits, planBits-from, planBits-edition, planBits-count, planBits-period, planBits-worst, planBits-past}
 use Rattle.plan.proofs.Facts.{InRange, range-at}
 

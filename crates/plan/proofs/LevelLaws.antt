@@ -1,19 +1,17 @@
 -- Laws of the levels and of the hyperperiod.
 -- Assumes nothing.
-use Prim.Native.Nat.{ℕ, zero, suc, _+_, _*_, _/_, _<_, _≤_, _∣_}
-use mathlib.Core.Bool.{Bool, true, false}
-use mathlib.Core.Path.{_≡_, refl, sym, subst, ap, _∙_}
-use mathlib.Core.List.{List, [], _∷_, _++_}
+use Prim.Native.Nat.{ℕ, zero, suc, _*_, _/_, _<_, _≤_, _∣_}
+use mathlib.Core.Bool.{Bool, true}
+use mathlib.Core.Path.{_≡_, refl, sym, subst}
+use mathlib.Core.List.{List, [], _∷_}
 use native.Mathlib.Nat.{not-suc-le-zero, add-le-add, add-mul, mul-le-mul-right, mul-right-comm, le-trans, dvd-refl, dvd-trans, one-dvd, le-of-dvd}
 use native.Mathlib.Omega.{arith}
 use native.Mathlib.Decide.{decLe}
-use lib.Dec.{T, ltb}
-use lib.ListN.{length, getD, take, drop}
-use lib.Seq.{take-suc}
-use Rattle.arith.specs.Choice.{pick, both, every, first}
-use Rattle.arith.specs.Sum.{sumTo, sumOf}
+use lib.Dec.{ltb}
+use lib.ListN.{length, getD, drop}
+use Rattle.arith.specs.Choice.{both, every}
 use Rattle.arith.specs.Need.{need}
-use Rattle.arith.proofs.Tests.{passed, failed, tested, both-left, both-right}
+use Rattle.arith.proofs.Tests.{both-left, both-right}
 use Rattle.arith.proofs.Needs.{need-covers, need-least, need-faster}
 use Rattle.arith.proofs.Divisors.{lcm-left, lcm-right, lcm-least, lcm-positive}
 use Rattle.plan.specs.declared.Task.{Task}
@@ -23,108 +21,8 @@ use Rattle.plan.specs.Questions.{inRange}
 use Rattle.plan.specs.Laws.{AdmitsFromNominal, HyperperiodIsLeast}
 use borrow.Author.Tests.{leb-true, le-leb}
 use Rattle.plan.proofs.Facts.{range-at}
-
--- the first element that passes a test
-module _ {ℓ} {A : Type ℓ} (f : A → Bool) where
-  pub first-most : (l : List A) → first f l ≤ length l
-  first-most [] = omega arith
-  first-most (x ∷ xs) =
-      elim (tested (f x)) as (λ t _. pick t 0 (suc (first f xs)) ≤ suc (length xs)) [
-        | passed ↦ omega arith
-        | failed ↦ omega (arith, first-most xs)
-      ]
-
-  -- none that passes stands before it
-  pub first-le : (l : List A) (k : ℕ) (d : A) → k < length l → f (getD l k d) ≡ true → first f l ≤ k
-  first-le [] k d l h = absurd (not-suc-le-zero l)
-  first-le (x ∷ xs) zero d l h = subst (λ (t : Bool). pick t 0 (suc (first f xs)) ≤ 0) (sym h) (omega arith)
-  first-le (x ∷ xs) (suc k) d l h =
-      elim (tested (f x)) as (λ t _. pick t 0 (suc (first f xs)) ≤ suc k) [
-        | passed ↦ omega arith
-        | failed ↦ omega (arith, first-le xs k d (omega arith) h)
-      ]
-
-  -- and it passes
-  pub first-passes : (l : List A) (d : A) → first f l < length l → f (getD l (first f l) d) ≡ true
-  first-passes [] d h = absurd (not-suc-le-zero h)
-  first-passes (x ∷ xs) d h = go (f x) refl h (first-passes xs d)
-    where
-      go :
-          (t : Bool) →
-          f x ≡ t →
-          pick t 0 (suc (first f xs)) < suc (length xs) →
-          (first f xs < length xs → f (getD xs (first f xs) d) ≡ true) →
-          f (getD (x ∷ xs) (pick t 0 (suc (first f xs))) d) ≡ true
-      go true e l rest = e
-      go false e l rest = rest (omega arith)
-
-  pub first-before : (l : List A) (k : ℕ) (d : A) → k < first f l → f (getD l k d) ≡ false
-  first-before l k d h =
-      elim (tested (f (getD l k d))) as (λ t _. f (getD l k d) ≡ t → t ≡ false) [
-        | passed ↦ λ e. absurd (omega (arith, first-le l k d (omega (arith, first-most l)) e))
-        | failed ↦ λ e. refl
-      ] refl
-
-  -- a search from the front: where it stops, where it goes on, and at the end
-  pub first-found :
-      (l : List A) (k : ℕ) (d : A) → k ≤ first f l → k < length l → f (getD l k d) ≡ true → k ≡ first f l
-  first-found l k d le h e = omega (arith, first-le l k d h e)
-
-  pub first-next :
-      (l : List A) (k : ℕ) (d : A) → k ≤ first f l → k < length l → f (getD l k d) ≡ false → k + 1 ≤ first f l
-  first-next l k d le h e =
-      elim (decLe (first f l) k) [
-        | yes p ↦ let same : first f l ≡ k = omega arith in
-            let passes : f (getD l k d) ≡ true = subst (λ (j : ℕ). f (getD l j d) ≡ true) same (first-passes l d (omega arith)) in
-            absurd (subst T (sym passes ∙ e) tt)
-        | no p ↦ omega arith
-      ]
-
-  pub first-none : (l : List A) (k : ℕ) → k ≤ first f l → length l ≤ k → k ≡ first f l
-  first-none l k le h = omega (arith, first-most l)
-
-  -- where a pass at one place gives a pass at every later one, all that fail stand before it
-  pub first-after :
-      (l : List A) (d : A) →
-      ((i j : ℕ) → i ≤ j → j < length l → f (getD l i d) ≡ true → f (getD l j d) ≡ true) →
-      (k : ℕ) →
-      k < length l →
-      f (getD l k d) ≡ false →
-      k < first f l
-  first-after l d up k h e =
-      elim (decLe (first f l) k) [
-        | yes p ↦ absurd (subst T (sym (up (first f l) k p h (first-passes l d (omega arith))) ∙ e) tt)
-        | no p ↦ omega arith
-      ]
-
--- a test that passes wherever another does passes no later
-pub first-weaker {ℓ} :
-    {A : Type ℓ} (f g : A → Bool) (l : List A) (d : A) →
-    ((k : ℕ) → k < length l → f (getD l k d) ≡ true → g (getD l k d) ≡ true) →
-    first g l ≤ first f l
-first-weaker f g l d h =
-    elim (decLe (length l) (first f l)) [
-      | yes p ↦ le-trans (first-most g l) p
-      | no p ↦ first-le g l (first f l) d (omega arith) (h (first f l) (omega arith) (first-passes f l d (omega arith)))
-    ]
-
--- a smaller value at each element makes a smaller sum
-pub sumOf-le {ℓ} : {A : Type ℓ} (f g : A → ℕ) (l : List A) → ((x : A) → f x ≤ g x) → sumOf f l ≤ sumOf g l
-sumOf-le f g [] h = omega arith
-sumOf-le f g (x ∷ xs) h = add-le-add (h x) (sumOf-le f g xs h)
-
--- the sum over a list's first elements, index by index
-sumOf-snoc {ℓ} : {A : Type ℓ} (f : A → ℕ) (l : List A) (x : A) → sumOf f (l ++ (x ∷ [])) ≡ sumOf f l + f x
-sumOf-snoc f [] x = omega arith
-sumOf-snoc f (y ∷ l) x = omega (arith, sumOf-snoc f l x)
-
-pub sumOf-taken {ℓ} :
-    {A : Type ℓ} (f : A → ℕ) (l : List A) (d : A) (n : ℕ) → n ≤ length l → sumTo n (λ i. f (getD l i d)) ≡ sumOf f (take n l)
-sumOf-taken f l d zero h = refl
-sumOf-taken f l d (suc n) h =
-    ap (λ (x : ℕ). x + f (getD l n d)) (sumOf-taken f l d n (omega arith))
-    ∙ sym (sumOf-snoc f (take n l) (getD l n d))
-    ∙ ap (λ x. sumOf f x) (sym (take-suc l n d h))
+use Rattle.arith.proofs.Searches.{first-le, first-passes}
+use Rattle.arith.proofs.Sums.{sumOf-le}
 
 -- a faster speed demands no more, so it admits what a slower one does
 pub demand-faster :

@@ -1,13 +1,5 @@
-pub mod General
 pub mod Facts
-pub mod Lists
 pub mod LevelLaws
 pub mod BlockBits
 pub mod Fields
 pub mod RoundTrip
-pub mod Judgements
-pub mod Codec
-pub mod Packing
-pub mod Gathering
-pub mod TaskSlices
-pub mod Passing

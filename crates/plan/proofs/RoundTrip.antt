@@ -15,11 +15,12 @@ use Rattle.arith.proofs.Needs.{need-covers}
 use Rattle.arith.proofs.BitLaws.{unpacked-packed, unpacked-below, packed-same, packed-unpacked}
 use Rattle.plan.specs.declared.Task.{Task}
 use Rattle.plan.specs.Blocks.{planBits, planBlock, bitCount, blockLength, countIn, tasksIn, closingBits, tasksOf, planOf, noTask}
-use Rattle.plan.specs.Questions.{inRange, firstNo, judging, reading}
+use Rattle.plan.specs.Questions.{inRange, judging, reading}
+use Rattle.arith.specs.Asking.{firstNo}
 use Rattle.plan.specs.Answers.{judgedBy}
 use Rattle.plan.specs.Laws.{Bytes, WrittenReadsBack, AcceptedWritesBack}
 use borrow.Author.Tests.{eq-eqb}
-use Rattle.plan.proofs.General.{at-every, zero-at}
+use Rattle.arith.proofs.ListLaws.{at-every, zero-at}
 use Rattle.plan.proofs.BlockBits.{length-planBits, planBits-below, length-planBlock, blockLength-covers, length-tasksFrom, tasksFrom-read}
 use Rattle.plan.proofs.Facts.{FineTasks, FineList, FineBlock, fine-list, fine-block, block-yes}
 use Rattle.plan.proofs.Fields.{Holds, holds-same, planBits-hold, holds-bits}

@@ -12,7 +12,8 @@ use Rattle.plan.specs.declared.Written.{Written}
 use Rattle.plan.specs.declared.Written.the-variants as written
 use Rattle.plan.specs.Levels.{hyperperiod, nominal}
 use Rattle.plan.specs.Blocks.{planOf, tasksOf, tasksIn, planBlock}
-use Rattle.plan.specs.Questions.{firstNo, judging, reading, roomQuestion}
+use Rattle.plan.specs.Questions.{judging, reading, roomQuestion}
+use Rattle.arith.specs.Asking.{firstNo}
 
 -- 01: "Reading and judging return the plan, its nominal level and hyperperiod"; at a refusal its number "is all that is returned"
 abbrev pub answered : ℕ → List ℕ → List Task → Verdict

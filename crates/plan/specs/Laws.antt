@@ -10,7 +10,8 @@ use Rattle.plan.specs.declared.Task.{Task}
 use Rattle.plan.specs.declared.Plan.{Plan}
 use Rattle.plan.specs.Levels.{speedOf, hyperperiod, admits, nominal}
 use Rattle.plan.specs.Blocks.{noTask, tasksOf, planBlock}
-use Rattle.plan.specs.Questions.{firstNo, judging, reading}
+use Rattle.plan.specs.Questions.{judging, reading}
+use Rattle.arith.specs.Asking.{firstNo}
 use Rattle.plan.specs.Answers.{judgedPlan, readBlock}
 
 -- a list of bytes

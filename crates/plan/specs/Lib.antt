@@ -3,5 +3,4 @@ pub mod Blocks
 pub mod Questions
 pub mod Answers
 pub mod Laws
-pub mod Entries
-pub mod Lists
+pub mod Numbers

@@ -5,27 +5,11 @@ use mathlib.Core.Bool.{Bool}
 use mathlib.Core.List.{List, [], _∷_}
 use lib.Dec.{leb, ltb, eqb}
 use lib.ListN.{length}
-use Rattle.arith.specs.Choice.{pick, both, every}
+use Rattle.arith.specs.Choice.{both, every}
 use Rattle.plan.specs.declared.Task.{Task}
 use Rattle.plan.specs.Levels.{hyperperiod, nominal}
 use Rattle.plan.specs.Blocks.{editionIn, countIn, tasksIn, blockLength, closingBits}
-
--- a question's reply, and the number that is the answer when the reply is no
-pub record Question : Type 0 where
-  pub number : ℕ
-  pub reply : Bool
-
-abbrev pub ask : ℕ → Bool → Question
-ask n b = record { number = n; reply = b }
-
--- 01: "The number is the answer when the reply is no; the first no decides." 0 where there is no no.
-abbrev pub firstNo : List Question → ℕ
-firstNo [] = 0
-firstNo (q ∷ qs) = pick (q .reply) (firstNo qs) (q .number)
-
--- a value from low to high
-abbrev pub within : ℕ → ℕ → ℕ → Bool
-within low high x = both (leb low x) (leb x high)
+use Rattle.arith.specs.Asking.{Question, ask, within}
 
 -- 01: "A task has a period (1 to 65,535 ticks) and a worst case (1 to 1,048,575 units of work)."
 abbrev pub inRange : Task → Bool

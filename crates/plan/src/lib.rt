@@ -1,8 +1,4 @@
-// Plans: their levels, how they are judged, and the plan block.
-pub mod block;
-pub mod entries;
-pub mod judging;
-pub mod list;
+// Plans as values. What is right of them, and how they are judged, read and written, is in specs/ and proofs/.
 
 // A task: its period in ticks and its worst case in units of work.
 #[repr(C)]

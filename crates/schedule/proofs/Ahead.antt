@@ -14,7 +14,7 @@ use Rattle.arith.proofs.Tests.{le-yes, le-not, testLe, eq-yes, eq-not, testEq}
 use Rattle.schedule.proofs.Urgency.{MoreUrgent, ahead, same, behind, compared, irreflexive, asymmetric, urgent-false}
 use Rattle.schedule.proofs.Queue.{Leads, Sorted, leads-in, enqueue-sum}
 use Rattle.schedule.proofs.Drain.{taken}
-use Rattle.schedule.proofs.Standing.{standing, Stands, queueOf-in, queueOf-sorted, left-mine, left-other, left-none, left-queueOf}
+use Rattle.schedule.proofs.QueueLaws.{latestPending, Stands, queueOf-in, queueOf-sorted, left-mine, left-other, left-none, left-queueOf}
 
 -- the ticks that an entry takes before job j gets one
 abbrev pub before : Timing → Job → Pending → ℕ
@@ -88,10 +88,10 @@ before-queueOf τ t left j zero = refl
 before-queueOf τ t left j (suc n) =
     elim (testEq (left n) 0)
     as (λ b _.
-    sumOf (before τ j) (pick b (queueOf τ t left n) (enqueue τ (standing τ t left n) (queueOf τ t left n)))
-    ≡ sumTo n (λ k. pick {A = ℕ} (moreUrgent τ (latest τ t k) j) (left k) 0) + before τ j (standing τ t left n)) [
+    sumOf (before τ j) (pick b (queueOf τ t left n) (enqueue τ (latestPending τ t left n) (queueOf τ t left n)))
+    ≡ sumTo n (λ k. pick {A = ℕ} (moreUrgent τ (latest τ t k) j) (left k) 0) + before τ j (latestPending τ t left n)) [
       | eq-yes z ↦ omega (arith, before-queueOf τ t left j n, nothing (moreUrgent τ (latest τ t n) j) z)
-      | eq-not z ↦ omega (arith, before-queueOf τ t left j n, enqueue-sum τ (standing τ t left n) (before τ j) (queueOf τ t left n))
+      | eq-not z ↦ omega (arith, before-queueOf τ t left j n, enqueue-sum τ (latestPending τ t left n) (before τ j) (queueOf τ t left n))
     ]
   where
     nothing : (b : Bool) → left n ≡ 0 → pick {A = ℕ} b (left n) 0 ≡ 0

@@ -10,7 +10,7 @@ use Rattle.schedule.proofs.Queue.{Sorted, sorted-single}
 use Rattle.schedule.proofs.Invariant.{Open, Good, canonical-clock, canonical-good}
 use Rattle.schedule.proofs.Periods.{last-multiple}
 use Rattle.schedule.proofs.Feasible.{never-late}
-use Rattle.schedule.proofs.Standing.{found, missing, look, Stood, stood-queueOf}
+use Rattle.schedule.proofs.QueueLaws.{found, missing, look, Stood, stood-queueOf}
 
 -- an entry of the latest job of a task of the plan
 pub record Latest (τ : Timing) (t : ℕ) (e : Pending) : Type 0 where
@@ -66,9 +66,9 @@ left-most τ t q c i =
     ]
 
 -- the plain schedule of a plan that fits is at every tick the standing queue of what it has left
-pub canonical-standing : (τ : Timing) (h : ℕ) → Fitting τ h → (t : ℕ) →
+pub canonical-queue : (τ : Timing) (h : ℕ) → Fitting τ h → (t : ℕ) →
     canonicalAt τ t ≡ record { clock = t; pending = queueOf τ t (λ i. leftIn i (canonicalAt τ t .pending)) (τ .count) }
-canonical-standing τ h f t = λ k. record { clock = canonical-clock τ t k; pending = queue k }
+canonical-queue τ h f t = λ k. record { clock = canonical-clock τ t k; pending = queue k }
   where
     c : Current τ t (canonicalAt τ t .pending)
     c = canonical-current τ h f t

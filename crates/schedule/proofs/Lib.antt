@@ -7,8 +7,8 @@ pub mod Periods
 pub mod Demand
 pub mod Feasible
 pub mod Drain
-pub mod Standing
 pub mod Latest
 pub mod Ahead
 pub mod Span
 pub mod Sample
+pub mod QueueLaws

@@ -9,7 +9,7 @@ use Rattle.schedule.specs.PlainSchedule.{Timing, Book, moreUrgent, canon
 use Rattle.schedule.specs.Feasibility.{Fitting, NeverLate}
 use Rattle.schedule.proofs.Feasible.{never-late}
 use Rattle.schedule.proofs.Drain.{Quiet}
-use Rattle.schedule.proofs.Standing.{queueOf-cong}
+use Rattle.schedule.proofs.QueueLaws.{queueOf-cong}
 use Rattle.schedule.proofs.Span.{renewed, drained, canonical-span, canonical-start}
 
 -- three tasks: 4 ticks in every 10, 4 in every 10, 6 in every 30

@@ -17,7 +17,7 @@ use Rattle.schedule.proofs.Arrivals.{New, arrive-in, in-arrive, arrive-
 use Rattle.schedule.proofs.Periods.{multiple-last, next-multiple, quiet-last}
 use Rattle.schedule.proofs.Feasible.{never-late}
 use Rattle.schedule.proofs.Drain.{Quiet, after-drain}
-use Rattle.schedule.proofs.Standing.{standing, Stands, queueOf-in, in-queueOf, queueOf-sorted, queueOf-positive, left-none, drain-stood, drain-queueOf}
+use Rattle.schedule.proofs.QueueLaws.{latestPending, Stands, queueOf-in, in-queueOf, queueOf-sorted, queueOf-positive, left-none, drain-stood, drain-queueOf}
 
 -- what each task has left once the jobs due at tick t have arrived: the new job's allotment, else what it had
 abbrev pub renewed : Timing → ℕ → (ℕ → ℕ) → ℕ → ℕ
@@ -51,12 +51,12 @@ module _ (τ : Timing) (t d n : ℕ) (left : ℕ → ℕ)
       up k x y = elim (ℕ-discrete k d) [ yes e ↦ subst (λ (u : ℕ). (t + u) % τ .period i ≢ 0) (sym e) z | no e ↦ quiet i k h x (omega arith) ]
 
   -- the new job is the task's entry at t + d
-  fresh : (i : ℕ) → i < n → (t + d) % τ .period i ≡ 0 → newJob τ (t + d) i ≡ standing τ (t + d) (renewed τ (t + d) left) i
+  fresh : (i : ℕ) → i < n → (t + d) % τ .period i ≡ 0 → newJob τ (t + d) i ≡ latestPending τ (t + d) (renewed τ (t + d) left) i
   fresh i h z =
       λ k. record { job = record { task = i; arrival = sym (multiple-last (τ .period i) (periods i h) (t + d) z) k }; remaining = sym (due-new i z) k }
 
   -- the entry of a task with no arrival is the same at both ticks
-  old : (i : ℕ) → i < n → (t + d) % τ .period i ≢ 0 → standing τ t left i ≡ standing τ (t + d) (renewed τ (t + d) left) i
+  old : (i : ℕ) → i < n → (t + d) % τ .period i ≢ 0 → latestPending τ t left i ≡ latestPending τ (t + d) (renewed τ (t + d) left) i
   old i h z = λ k. record { job = kept i h z k; remaining = sym (not-due-old i z) k }
 
   -- the entries and new jobs make up the standing queue at t + d
@@ -165,7 +165,7 @@ canonical-start τ h f = λ k. record { clock = 0; pending = go (τ .count) (f .
               elim (testEq (τ .allotment n) 0)
               as (λ b _.
               enqueue τ (newJob τ 0 n) (arrive τ 0 n [])
-              ≡ pick b (queueOf τ 0 (τ .allotment) n) (enqueue τ (standing τ 0 (τ .allotment) n) (queueOf τ 0 (τ .allotment) n))) [
+              ≡ pick b (queueOf τ 0 (τ .allotment) n) (enqueue τ (latestPending τ 0 (τ .allotment) n) (queueOf τ 0 (τ .allotment) n))) [
                 | eq-yes y ↦ absurd (empty (a n (omega arith)) y)
                 | eq-not y ↦
                     ap₂ (enqueue τ) (λ k. record { job = record { task = n; arrival = start k }; remaining = τ .allotment n }) (go n (λ i x. a i (omega arith)))

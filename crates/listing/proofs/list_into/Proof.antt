@@ -1,7 +1,7 @@
 use mathlib.Core.Path.{sym}
 use native.Mathlib.Omega.{arith}
 use lib.Seq.{length-take-le}
-use Rattle.listing.proofs.Puts.{then}
+use Rattle.lines.proofs.Puts.{then}
 use Rattle.listing.proofs.Whole.{front, over-is, refused-is, admitted-is}
 use borrow.Author.Needs.{needs}
 use Rattle.listing.proofs.list_into.Statement.{statement}

@@ -1,5 +1,5 @@
 use native.Mathlib.Omega.{arith}
-use Rattle.listing.proofs.Puts.{then, as-text}
+use Rattle.lines.proofs.Puts.{then, as-text}
 use Rattle.listing.proofs.Whole.{started-is}
 use borrow.Author.Needs.{needs}
 use Rattle.listing.proofs.started_lines.Statement.{statement}

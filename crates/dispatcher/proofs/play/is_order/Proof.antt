@@ -1,34 +1,28 @@
 use mathlib.Core.Path.{sym, ap}
 use lib.Dec.{eqb}
-use Rattle.dispatcher.specs.declared.Reply.{Reply}
-use Rattle.dispatcher.specs.Calls.{refusalOf}
+use Rattle.reclaiming.specs.declared.Reply.{Reply}
+use Rattle.reclaiming.specs.Calls.{refusalOf}
 use borrow.Author.Needs.{needs}
 use Rattle.dispatcher.proofs.play.is_order.Statement.{statement}
 use Rattle.dispatcher.proofs.play.is_order.Tie as tie
 use Rattle.dispatcher.proofs.play.is_order.Reads as reads
 use Rattle.dispatcher.proofs.play.is_order.Lts as lts
 
--- src/play.rt:47:24
 enum-known-r : tie.Need-enum-known-r
 enum-known-r c = search needs
 
--- src/play.rt:48:54
 enum-told : tie.Need-enum-told
 enum-told c = search needs
 
--- src/play.rt:49:36
 enum-told-2 : tie.Need-enum-told-2
 enum-told-2 c = search needs
 
--- src/play.rt:43:1
 returns : tie.Need-returns
 returns c = sym (ap (λ (x : Reply). eqb (refusalOf x) 0) (c .before .r .given .1))
 
--- src/play.rt:43:1
 returns-2 : tie.Need-returns-2
 returns-2 c = sym (ap (λ (x : Reply). eqb (refusalOf x) 0) (c .enum-told .given .1))
 
--- src/play.rt:43:1
 returns-3 : tie.Need-returns-3
 returns-3 c = sym (ap (λ (x : Reply). eqb (refusalOf x) 0) (c .enum-told2 .given .1))
 

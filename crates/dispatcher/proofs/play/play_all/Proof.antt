@@ -1,11 +1,11 @@
-use Rattle.dispatcher.specs.Play.{playedPasses}
+use Rattle.reclaiming.specs.Play.{playedPasses}
 use Prim.Native.Nat.{_-_, _≤_}
 use mathlib.Core.Path.{_≡_, refl, ap, _∙_}
 use native.Mathlib.Omega.{arith}
 use borrow.Author.Needs.{needs}
 use lib.ListN.{length, length-set}
 use Rattle.plan.specs.Levels.{baseSpeeds}
-use Rattle.dispatcher.specs.Run.{bytesAfter}
+use Rattle.reclaiming.specs.Run.{bytesAfter}
 use Rattle.dispatcher.proofs.PlaySteps.{playedTo, repliesTo, state-more, replies-more, all-played, room-played, replies-end}
 use Rattle.dispatcher.proofs.play.play_all.Statement.{statement}
 use Rattle.dispatcher.proofs.play.play_all.Tie as tie
@@ -25,19 +25,15 @@ Inv-loop state₀ passes replies₀ i₀ state replies i =
 abbrev μ-loop : tie.MeasureT-loop
 μ-loop state₀ passes replies₀ i₀ state replies i = length passes - i
 
--- src/play.rt:33:5
 loop-holds : tie.Need-loop-holds Inv-loop μ-loop
 loop-holds c = (omega arith, omega arith, refl, refl, refl, refl)
 
--- src/play.rt:35:13
 same-length : tie.Need-same-length Inv-loop μ-loop
 same-length c = c .before .before .loop .inv .2
 
--- src/play.rt:35:13
 same-length-2 : tie.Need-same-length-2 Inv-loop μ-loop
 same-length-2 c = c .before .before .loop .inv .3
 
--- src/play.rt:35:13
 returns : tie.Need-returns Inv-loop μ-loop
 returns c =
     let e : playedTo (c .before .before .before .before .before .before .args .passes .now) (c .before .before .loop .i) ≡ playedPasses (c .before .before .before .before .before .before .args .passes .now) (length (c .before .before .before .before .before .before .args .replies .now)) =
@@ -46,35 +42,27 @@ returns c =
       c .before .before .loop .inv .5 ∙ replies-end (c .before .before .before .before .before .before .args .state .now) (c .before .before .before .before .before .before .args .passes .now) (c .before .before .before .before .before .before .args .replies .now) (length (c .before .before .before .before .before .before .args .replies .now)) (c .before .before .loop .i) (c .before .before .loop .inv .0) e,
     )
 
--- src/play.rt:37:38
 mul-play-one : tie.Need-mul-play-one Inv-loop μ-loop
 mul-play-one c = search needs
 
--- src/play.rt:37:38
 shared-slice-read-play-one : tie.Need-shared-slice-read-play-one Inv-loop μ-loop
 shared-slice-read-play-one c = omega arith
 
--- src/play.rt:37:22
 play-one-requires : tie.Need-play-one-requires Inv-loop μ-loop
 play-one-requires c κs = search needs
 
--- src/play.rt:37:9
 mul-replies : tie.Need-mul-replies Inv-loop μ-loop
 mul-replies c = search needs
 
--- src/play.rt:37:9
 slice-write-replies : tie.Need-slice-write-replies Inv-loop μ-loop
 slice-write-replies c = c .before .before .before .before .before .if1 .left
 
--- src/play.rt:38:9
 add-i : tie.Need-add-i Inv-loop μ-loop
 add-i c = omega arith
 
--- src/play.rt:33:5
 loop-less : tie.Need-loop-less Inv-loop μ-loop
 loop-less c = omega arith
 
--- src/play.rt:33:5
 loop-again : tie.Need-loop-again Inv-loop μ-loop
 loop-again c = (
   omega arith,
@@ -85,15 +73,12 @@ loop-again c = (
   replies-more (c .before .before .before .before .before .before .before .before .before .before .before .args .state .now) (c .before .before .before .before .before .before .before .before .before .before .before .args .passes .now) (c .before .before .before .before .before .before .before .before .before .before .before .args .replies .now) (c .before .before .before .before .before .before .before .loop .i) (c .before .before .before .before .before .before .loop-test .taken) (c .before .before .before .before .before .before .before .loop .state) (c .before .before .before .before .before .before .before .loop .replies) (c .before .before .play-one .result) (c .before .before .before .before .before .before .before .loop .inv .4) (c .before .before .before .before .before .before .before .loop .inv .5) (omega (arith, c .before .before .before .before .before .if1 .left, c .before .before .before .before .before .before .before .loop .inv .3)) (c .before .before .play-one .ensures .0),
 )
 
--- src/play.rt:28:1
 same-length-3 : tie.Need-same-length-3 Inv-loop μ-loop
 same-length-3 c = c .before .loop .inv .2
 
--- src/play.rt:28:1
 same-length-4 : tie.Need-same-length-4 Inv-loop μ-loop
 same-length-4 c = c .before .loop .inv .3
 
--- src/play.rt:28:1
 returns-2 : tie.Need-returns-2 Inv-loop μ-loop
 returns-2 c =
     let e : playedTo (c .before .before .before .before .before .args .passes .now) (c .before .loop .i) ≡ playedPasses (c .before .before .before .before .before .args .passes .now) (length (c .before .before .before .before .before .args .replies .now)) =

@@ -3,7 +3,7 @@
 use mathlib.Core.Path.{_≡_}
 use mathlib.Core.Bool.{true}
 use borrow.Author.Tests.{not-true, not-false}
-use Rattle.dispatcher.specs.Code.{Good}
+use Rattle.orders.specs.Code.{Good}
 use Rattle.dispatcher.proofs.ShowLaws.{show-unsound, show-few, show-below, show-short, show-stored}
 use borrow.Author.Needs.{needs}
 use Rattle.dispatcher.proofs.show.show.Statement.{statement}

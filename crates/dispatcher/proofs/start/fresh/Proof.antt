@@ -5,7 +5,7 @@ use mathlib.Core.Path.{_≡_}
 use native.Mathlib.Omega.{arith}
 use borrow.Author.Needs.{needs}
 use lib.ListN.{length}
-use Rattle.plan.proofs.Lists.{length-mapped}
+use Rattle.arith.proofs.Loops.{length-mapped}
 use Rattle.dispatcher.proofs.StartLaws.{Making, making-none, making-more, making-all}
 use Rattle.dispatcher.proofs.start.fresh.Statement.{statement}
 use Rattle.dispatcher.proofs.start.fresh.Tie as tie

@@ -6,10 +6,10 @@ use native.Mathlib.Omega.{arith}
 use lib.ListN.{length}
 use Rattle.plan.specs.Levels.{baseSpeeds}
 use Rattle.plan.specs.Blocks.{tasksOf}
-use Rattle.plan.proofs.Lists.{length-mapped}
-use Rattle.dispatcher.specs.StateBlock.{encode}
-use Rattle.dispatcher.specs.Passes.{startState}
-use Rattle.dispatcher.specs.Calls.{startOrder}
+use Rattle.arith.proofs.Loops.{length-mapped}
+use Rattle.reclaiming.specs.StateBlock.{encode}
+use Rattle.reclaiming.specs.Passes.{startState}
+use Rattle.reclaiming.specs.Calls.{startOrder}
 use Rattle.dispatcher.proofs.StartLaws.{plan-few, plan-count, level-below, speed-some, Newly, newly, new-size, new-periods, new-ready, new-reply, new-stored, left-short, left-stored}
 use borrow.Author.Needs.{needs}
 use Rattle.dispatcher.proofs.start.started.Statement.{statement}

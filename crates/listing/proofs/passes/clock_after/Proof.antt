@@ -1,7 +1,7 @@
 use mathlib.Core.Path.{sym, ap}
 use native.Mathlib.Omega.{arith}
-use Rattle.dispatcher.specs.declared.Reply.{Reply}
-use Rattle.listing.specs.Listing.{clockAfter}
+use Rattle.reclaiming.specs.declared.Reply.{Reply}
+use Rattle.transcript.specs.Listing.{clockAfter}
 use borrow.Author.Needs.{needs}
 use Rattle.listing.proofs.passes.clock_after.Statement.{statement}
 use Rattle.listing.proofs.passes.clock_after.Tie as tie

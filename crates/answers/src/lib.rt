@@ -1,0 +1,48 @@
+// An answer packed into one number, as C gets it.
+use plan::Verdict;
+use plan::Written;
+use reclaiming::Reply;
+ghost use mathlib.Core.Path.{_≡_};
+ghost use Prim.Native.Nat.{_<_, _^_};
+ghost use Rattle.plan.specs.Numbers.{verdictNumber, writtenNumber};
+ghost use Rattle.reclaiming.specs.Numbers.{replyNumber};
+
+// A verdict as one number.
+pub fn verdict_number(v: Verdict) -> u64
+    requires { ⌜ verdictNumber v < 2 ^ 36 ⌝ }
+    ensures { λ r. ⌜ r ≡ verdictNumber v ⌝ }
+{
+    match v {
+        Verdict::Refused(n) => n as u64,
+        Verdict::Admitted {
+            nominal,
+            hyperperiod,
+        } => 256 * (nominal as u64) + 65536 * (hyperperiod as u64),
+    }
+}
+
+// What writing answers as one number.
+pub fn written_number(w: Written) -> u64
+    requires { ⌜ writtenNumber w < 2 ^ 36 ⌝ }
+    ensures { λ r. ⌜ r ≡ writtenNumber w ⌝ }
+{
+    match w {
+        Written::Refused(n) => n as u64,
+        Written::Bytes(n) => 256 * (n as u64),
+    }
+}
+
+// A reply as one number.
+pub fn reply_number(r: Reply) -> u64
+    requires { ⌜ replyNumber r < 2 ^ 64 ⌝ }
+    ensures { λ x. ⌜ x ≡ replyNumber r ⌝ }
+{
+    match r {
+        Reply::Refused(n) => n as u64,
+        Reply::Idle { hold } => 512 + 4294967296 * (hold as u64),
+        Reply::Run { task, level, hold } => 256
+            + 65536 * (task as u64)
+            + 16777216 * (level as u64)
+            + 4294967296 * (hold as u64),
+    }
+}

@@ -1,0 +1,82 @@
+-- Laws of questions and of the first no.
+-- Assumes nothing.
+use Prim.Native.Nat.{ℕ, suc, _≤_, _<_}
+use mathlib.Core.Bool.{Bool, true, false}
+use mathlib.Core.Path.{_≡_, refl, sym, subst, ap, _∙_}
+use native.Mathlib.Omega.{arith}
+use lib.Dec.{leb}
+use Rattle.arith.specs.Choice.{pick, every}
+use Rattle.arith.proofs.Tests.{both-left, both-right, both-true, both-false}
+use Rattle.arith.specs.Asking.{within, Question, firstNo}
+use borrow.Author.Tests.{leb-true, le-leb, lt-leb}
+use mathlib.Core.List.{List, [], _∷_, _++_}
+use Rattle.arith.specs.Digits.{number}
+
+-- a value from low to high
+pub within-low : (low high x : ℕ) → within low high x ≡ true → low ≤ x
+within-low low high x h = leb-true low x (both-left (leb low x) (leb x high) h)
+
+pub within-high : (low high x : ℕ) → within low high x ≡ true → x ≤ high
+within-high low high x h = leb-true x high (both-right (leb low x) (leb x high) h)
+
+pub within-true : (low high x : ℕ) → low ≤ x → x ≤ high → within low high x ≡ true
+within-true low high x l h = both-true (le-leb low x l) (le-leb x high h)
+
+-- the first of two questions is answered yes, and so is the rest
+pub yes-first : (n : ℕ) (b : Bool) (rest : ℕ) → pick b rest (suc n) ≡ 0 → b ≡ true
+yes-first n true rest h = refl
+yes-first n false rest h = absurd (omega arith)
+
+pub yes-rest : (n : ℕ) (b : Bool) (rest : ℕ) → pick b rest (suc n) ≡ 0 → rest ≡ 0
+yes-rest n true rest h = h
+yes-rest n false rest h = absurd (omega arith)
+
+pub yes-both : (n : ℕ) {b : Bool} {rest : ℕ} → b ≡ true → rest ≡ 0 → pick b rest n ≡ 0
+yes-both n {b} {rest} h r = subst (λ (t : Bool). pick t rest n ≡ 0) (sym h) r
+
+-- a question answered no decides; one answered yes leaves it to the rest
+pub ask-no : (n : ℕ) {b : Bool} (rest : ℕ) → b ≡ false → pick b rest n ≡ n
+ask-no n rest h = ap (λ (b : Bool). pick b rest n) h
+
+pub ask-yes : (n : ℕ) {b : Bool} {rest m : ℕ} → b ≡ true → rest ≡ m → pick b rest n ≡ m
+ask-yes n {b} {rest} h e = ap (λ (t : Bool). pick t rest n) h ∙ e
+
+-- a value out of its range
+pub within-under : (low high x : ℕ) → x < low → within low high x ≡ false
+within-under low high x h = simp (lt-leb low x h)
+
+pub within-over : (low high x : ℕ) → high < x → within low high x ≡ false
+within-over low high x h = simp (lt-leb x high h, both-false)
+
+-- questions put after others: a no among those decides, and where there is none these do
+pub no-before : (qs rest : List Question) (n : ℕ) → 0 < n → firstNo qs ≡ n → firstNo (qs ++ rest) ≡ n
+no-before [] rest n p h = absurd (omega arith)
+no-before (q ∷ qs) rest n p h = step (q .reply) (firstNo qs) (firstNo (qs ++ rest)) (q .number) (no-before qs rest n p) h
+  where
+    step : (b : Bool) (x y m : ℕ) → (x ≡ n → y ≡ n) → pick b x m ≡ n → pick b y m ≡ n
+    step true x y m f e = f e
+    step false x y m f e = e
+
+abbrev pub numbered : Question → Bool
+numbered q = leb 1 (q .number)
+
+pub yes-before :
+    (qs rest : List Question) → every numbered qs ≡ true → firstNo qs ≡ 0 → firstNo (qs ++ rest) ≡ firstNo rest
+yes-before [] rest p h = refl
+yes-before (q ∷ qs) rest p h =
+    step (q .reply) (firstNo qs) (firstNo (qs ++ rest)) (q .number)
+    (leb-true 1 (q .number) (both-left (numbered q) (every numbered qs) p))
+    (yes-before qs rest (both-right (numbered q) (every numbered qs) p))
+    h
+  where
+    step : (b : Bool) (x y m : ℕ) → 1 ≤ m → (x ≡ 0 → y ≡ firstNo rest) → pick b x m ≡ 0 → pick b y m ≡ firstNo rest
+    step true x y m l f e = f e
+    step false x y m l f e = absurd (omega arith)
+
+pub yes-of : (qs rest : List Question) → firstNo (qs ++ rest) ≡ 0 → firstNo qs ≡ 0
+yes-of [] rest h = refl
+yes-of (q ∷ qs) rest h = step (q .reply) (firstNo (qs ++ rest)) (firstNo qs) (q .number) (yes-of qs rest) h
+  where
+    step : (b : Bool) (x y m : ℕ) → (x ≡ 0 → y ≡ 0) → pick b x m ≡ 0 → pick b y m ≡ 0
+    step true x y m f e = f e
+    step false x y m f e = e

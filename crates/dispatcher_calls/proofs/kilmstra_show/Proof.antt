@@ -1,0 +1,24 @@
+-- `kilmstra_show` meets its contract.
+-- Assumes nothing.
+use mathlib.Core.Path.{ap, _∙_}
+use lib.ListN.{length}
+use Rattle.plan.specs.Numbers.{writtenNumber}
+use Rattle.reclaiming.proofs.NumberLaws.{show-most}
+use borrow.Author.Needs.{needs}
+use Rattle.dispatcher_calls.proofs.kilmstra_show.Statement.{statement}
+use Rattle.dispatcher_calls.proofs.kilmstra_show.Tie as tie
+
+show-requires : tie.Need-show-requires
+show-requires c κs = search needs
+
+written-number-requires : tie.Need-written-number-requires
+written-number-requires c κs = show-most (c .before .before .before .before .before .before .args .state .now) (length (c .before .before .before .before .before .before .args .buffer .now)) (c .before .before .show .result) (c .before .before .show .ensures .0)
+
+same-length : tie.Need-same-length
+same-length c = search needs
+
+returns : tie.Need-returns
+returns c = (c .written-number .ensures ∙ ap writtenNumber (c .before .before .before .show .ensures .0), c .before .before .before .show .ensures .1)
+
+pub kilmstra-show-spec : {M : Type 1} → statement M
+kilmstra-show-spec = tie.close (tie.spec show-requires written-number-requires same-length returns)

@@ -1,0 +1,24 @@
+-- `kilmstra_start` meets its contract.
+-- Assumes nothing.
+use mathlib.Core.Path.{ap, _∙_}
+use lib.ListN.{length}
+use Rattle.reclaiming.specs.Numbers.{replyNumber}
+use Rattle.reclaiming.proofs.NumberLaws.{start-most}
+use borrow.Author.Needs.{needs}
+use Rattle.dispatcher_calls.proofs.kilmstra_start.Statement.{statement}
+use Rattle.dispatcher_calls.proofs.kilmstra_start.Tie as tie
+
+start-requires : tie.Need-start-requires
+start-requires c κs = search needs
+
+reply-number-requires : tie.Need-reply-number-requires
+reply-number-requires c κs = start-most (c .before .before .before .before .before .before .args .block .now) (length (c .before .before .before .before .before .before .args .state .now)) (c .before .before .start .result) (c .before .before .start .ensures .0)
+
+same-length : tie.Need-same-length
+same-length c = search needs
+
+returns : tie.Need-returns
+returns c = (c .reply-number .ensures ∙ ap replyNumber (c .before .before .before .start .ensures .0), c .before .before .before .start .ensures .1)
+
+pub kilmstra-start-spec : {M : Type 1} → statement M
+kilmstra-start-spec = tie.close (tie.spec start-requires reply-number-requires same-length returns)

@@ -1,0 +1,18 @@
+use mathlib.Core.List.{[]}
+use Rattle.plan.specs.Levels.{baseSpeeds}
+use Rattle.judging.proofs.Judgements.{refused-is}
+use borrow.Author.Needs.{needs}
+use Rattle.judging.proofs.refused.Statement.{statement}
+use Rattle.judging.proofs.refused.Tie as tie
+use Rattle.judging.proofs.refused.Reads as reads
+use Rattle.judging.proofs.refused.Lts as lts
+use Rattle.judging.proofs.empty_plan.Reads as empty-plan-reads
+
+empty-plan-requires : tie.Need-empty-plan-requires
+empty-plan-requires c κs = search needs
+
+returns : tie.Need-returns
+returns c = refused-is (c .before .args .n) (c .empty-plan .result) baseSpeeds [] (c .before .pre) (c .empty-plan .ensures)
+
+pub refused-spec : {M : Type 1} → statement M
+refused-spec = tie.close (tie.spec empty-plan-requires returns)

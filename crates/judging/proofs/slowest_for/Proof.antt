@@ -1,0 +1,63 @@
+use Prim.Native.Nat.{zero-le, _≤_, _-_, _^_}
+use native.Mathlib.Omega.{arith}
+use Rattle.arith.specs.Choice.{first}
+use Rattle.arith.proofs.Divisors.{product-below}
+use Rattle.plan.specs.Levels.{baseSpeeds}
+use Rattle.judging.proofs.Judgements.{does, slowest-found, slowest-next, slowest-none}
+use Rattle.judging.proofs.slowest_for.Statement.{statement}
+use Rattle.judging.proofs.slowest_for.Tie as tie
+use Rattle.judging.proofs.slowest_for.Reads as reads
+use Rattle.judging.proofs.slowest_for.Lts as lts
+use Rattle.judging.proofs.speed_of.Reads as speed-of-reads
+
+abbrev Inv-loop : tie.InvT-loop
+Inv-loop work span lowest₀ lowest = lowest ≤ first (does work span) baseSpeeds
+
+abbrev μ-loop : tie.MeasureT-loop
+μ-loop work span lowest₀ lowest = 8 - lowest
+
+loop-holds : tie.Need-loop-holds Inv-loop μ-loop
+loop-holds c = zero-le
+
+speed-of-requires : tie.Need-speed-of-requires Inv-loop μ-loop
+speed-of-requires c κs = omega arith
+
+cast-if1 : tie.Need-cast-if1 Inv-loop μ-loop
+cast-if1 c = omega (arith, c .speed-of .ok)
+
+mul-if1 : tie.Need-mul-if1 Inv-loop μ-loop
+mul-if1 c =
+    record {
+      fits = product-below (2 ^ 32) (c .before .before .before .args .span) (c .speed-of .result) (omega (arith, c .before .before .before .fits .span)) (omega (arith, c .speed-of .ok));
+    }
+
+returns : tie.Need-returns Inv-loop μ-loop
+returns c = slowest-found (c .before .before .before .before .args .work) (c .before .before .before .before .args .span) (c .before .before .before .loop .lowest) (c .before .speed-of .result) (c .before .before .before .loop .inv) (omega arith) (c .before .speed-of .ensures) (omega (arith, c .if1 .taken))
+
+add-lowest : tie.Need-add-lowest Inv-loop μ-loop
+add-lowest c = omega arith
+
+loop-less : tie.Need-loop-less Inv-loop μ-loop
+loop-less c = omega arith
+
+loop-again : tie.Need-loop-again Inv-loop μ-loop
+loop-again c = slowest-next (c .before .before .before .before .args .work) (c .before .before .before .before .args .span) (c .before .before .before .loop .lowest) (c .before .speed-of .result) (c .before .before .before .loop .inv) (omega arith) (c .before .speed-of .ensures) (c .if1 .left)
+
+returns-2 : tie.Need-returns-2 Inv-loop μ-loop
+returns-2 c = slowest-none (c .before .before .args .work) (c .before .before .args .span) (c .before .loop .lowest) (c .before .loop .inv) (c .loop-test .left)
+
+pub slowest-for-spec : {M : Type 1} → statement M
+slowest-for-spec =
+    tie.close
+    (tie.spec
+    Inv-loop
+    μ-loop
+    loop-holds
+    speed-of-requires
+    cast-if1
+    mul-if1
+    returns
+    add-lowest
+    loop-less
+    loop-again
+    returns-2)

@@ -1,0 +1,21 @@
+use native.Mathlib.Omega.{arith}
+use Rattle.judging.proofs.Judgements.{period-low, period-high, worst-low, worst-high}
+use Rattle.judging.proofs.task_in_range.Statement.{statement}
+use Rattle.judging.proofs.task_in_range.Tie as tie
+use Rattle.judging.proofs.task_in_range.Reads as reads
+use Rattle.judging.proofs.task_in_range.Lts as lts
+
+returns : tie.Need-returns
+returns c = period-low (c .before .before .args .t) (c .if1 .taken)
+
+returns-2 : tie.Need-returns-2
+returns-2 c = period-high (c .before .before .before .before .args .t) (omega arith)
+
+returns-3 : tie.Need-returns-3
+returns-3 c = worst-low (c .before .before .before .before .before .before .args .t) (omega arith) (omega arith) (c .if3 .taken)
+
+returns-4 : tie.Need-returns-4
+returns-4 c = worst-high (c .before .before .before .before .before .before .before .args .t) (omega arith) (omega arith) (omega arith)
+
+pub task-in-range-spec : {M : Type 1} → statement M
+task-in-range-spec = tie.close (tie.spec returns returns-2 returns-3 returns-4)

@@ -1,0 +1,110 @@
+-- Texts stored one after another.
+-- Assumes nothing.
+use Prim.Native.Nat.{ℕ, zero, suc, _+_, _-_, _/_, _%_, _<_, _≤_}
+use mathlib.Core.Bool.{Bool}
+use mathlib.Core.Path.{_≡_, refl, sym, subst, ap, ap₂, _∙_}
+use mathlib.Core.List.{List, [], _∷_, _++_}
+use native.Mathlib.Nat.{add-zero}
+use native.Mathlib.Numerals.{add-one}
+use native.Mathlib.Omega.{arith}
+use borrow.Author.Tests.{lt-ltb, le-ltb}
+use lib.ListN.{length, getD, drop, set, length-append}
+use lib.Seq.{sets, drop-cons, drop-length}
+use Rattle.arith.specs.Choice.{pick}
+use Rattle.reclaiming.specs.declared.Reply.{Reply}
+use Rattle.transcript.specs.Text.{decimalWithin}
+use Rattle.transcript.specs.Listing.{replyLine}
+use Rattle.lines.specs.Stores.{Put}
+
+-- a run of two texts is stored text by text
+pub sets-append : (l : List ℕ) (at : ℕ) (s t : List ℕ) → sets l at (s ++ t) ≡ sets (sets l at s) (at + length s) t
+sets-append l at [] t = ap (λ (k : ℕ). sets l k t) (sym (add-zero at))
+sets-append l at (a ∷ s) t =
+    let e : suc at + length s ≡ at + suc (length s) = omega arith in
+    sets-append (set l at a) (suc at) s t ∙ ap (λ (k : ℕ). sets (sets (set l at a) (suc at) s) k t) e
+
+pub then :
+    {m n at r q : ℕ} {a b c s t : List ℕ} → Put m a at s r b → Put n b r t q c → Put (m + n) a at (s ++ t) q c
+then {m} {n} {at} {r} {q} {a} {b} {c} {s} {t} p w = record {
+  place = omega (arith, p .place, w .place, length-append s t);
+  bytes = w .bytes ∙ ap₂ (λ (x : List ℕ) (k : ℕ). sets x k t) (p .bytes) (p .place) ∙ sym (sets-append a at s t);
+  near = omega (arith, p .near, w .near);
+}
+
+-- a wider bound
+pub wider : {m n at r : ℕ} {a b s : List ℕ} → Put m a at s r b → m ≤ n → Put n a at s r b
+wider p h = record { place = p .place; bytes = p .bytes; near = omega (arith, p .near) }
+
+-- the same text, otherwise written
+pub as-text : {m n at r : ℕ} {a b s t : List ℕ} → Put m a at s r b → s ≡ t → m ≤ n → Put n a at t r b
+as-text {m} {n} {at} {r} {a} {b} p e h = wider (subst (λ (x : List ℕ). Put m a at x r b) e p) h
+
+-- a word stored byte by byte: what is still to be stored
+pub word-more :
+    (word out whole : List ℕ) (at i : ℕ) →
+    i < length word →
+    sets out (at + i) (drop i word) ≡ whole →
+    sets (set out (at + i) (getD word i 0)) (at + (i + 1)) (drop (i + 1) word) ≡ whole
+word-more word out whole at i h inv =
+    let e : at + (i + 1) ≡ suc (at + i) = omega arith in
+    ap₂ (λ (k j : ℕ). sets (set out (at + i) (getD word i 0)) k (drop j word)) e (add-one i)
+    ∙ sym (ap (λ (l : List ℕ). sets out (at + i) l) (drop-cons word i 0 h))
+    ∙ inv
+
+pub word-all :
+    (word out start : List ℕ) (at i : ℕ) →
+    length word ≤ 7 →
+    i ≡ length word →
+    sets out (at + i) (drop i word) ≡ sets start at word →
+    Put 7 start at word (at + i) out
+word-all word out start at i few e inv = record {
+  place = ap (λ (k : ℕ). at + k) e;
+  bytes = ap (λ (l : List ℕ). sets out (at + i) l) (sym (drop-length word) ∙ ap (λ (k : ℕ). drop k word) (sym e)) ∙ inv;
+  near = omega arith;
+}
+
+-- a number in decimal: no digit before its last, a number of one digit, and one of more
+pub digits-none :
+    (more n : ℕ) {at r : ℕ} {a b : List ℕ} →
+    more ≡ 0 →
+    Put 1 a at ((48 + n % 10) ∷ []) r b →
+    Put (more + 1) a at (decimalWithin more n) r b
+digits-none zero n e p = p
+digits-none (suc more) n e p = absurd (omega arith)
+
+pub digits-one :
+    (more n : ℕ) {at r : ℕ} {a b : List ℕ} →
+    (more ≡ 0 → ⊥) →
+    n < 10 →
+    Put 1 a at ((48 + n % 10) ∷ []) r b →
+    Put (more + 1) a at (decimalWithin more n) r b
+digits-one zero n h l p = absurd (h refl)
+digits-one (suc more) n h l p =
+    let e : n % 10 ≡ n = omega arith in
+    as-text p
+    (ap (λ (k : ℕ). (48 + k) ∷ []) e
+    ∙ sym (ap (λ (t : Bool). pick t ((48 + n) ∷ []) (decimalWithin more (n / 10) ++ ((48 + n % 10) ∷ []))) (lt-ltb n 10 l)))
+    (omega arith)
+
+pub digits-more :
+    (more n : ℕ) {at r q : ℕ} {a b c : List ℕ} →
+    (more ≡ 0 → ⊥) →
+    10 ≤ n →
+    Put (more - 1 + 1) a at (decimalWithin (more - 1) (n / 10)) r b →
+    Put 1 b r ((48 + n % 10) ∷ []) q c →
+    Put (more + 1) a at (decimalWithin more n) q c
+digits-more zero n h l p w = absurd (h refl)
+digits-more (suc more) n h l p w =
+    let e : suc more - 1 ≡ more = omega arith in
+    as-text (then p w)
+    (ap (λ (k : ℕ). decimalWithin k (n / 10) ++ ((48 + n % 10) ∷ [])) e
+    ∙ sym (ap (λ (t : Bool). pick t ((48 + n) ∷ []) (decimalWithin more (n / 10) ++ ((48 + n % 10) ∷ []))) (le-ltb n 10 l)))
+    (omega arith)
+
+-- the line of a reply, by its case
+pub replied :
+    (clock : ℕ) (x y : Reply) {at r : ℕ} {a b : List ℕ} →
+    x ≡ y →
+    Put 52 a at (replyLine clock y) r b →
+    Put 52 a at (replyLine clock x) r b
+replied clock x y {at} {r} {a} {b} e p = subst (λ (z : Reply). Put 52 a at (replyLine clock z) r b) (sym e) p

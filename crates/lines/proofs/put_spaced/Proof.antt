@@ -1,0 +1,19 @@
+use Rattle.lines.proofs.Puts.{then}
+use borrow.Author.Needs.{needs}
+use Rattle.lines.proofs.put_spaced.Statement.{statement}
+use Rattle.lines.proofs.put_spaced.Tie as tie
+
+put-byte-requires : tie.Need-put-byte-requires
+put-byte-requires c κs = search needs
+
+put-decimal-requires : tie.Need-put-decimal-requires
+put-decimal-requires c κs = search needs
+
+same-length : tie.Need-same-length
+same-length c = search needs
+
+returns : tie.Need-returns
+returns c = then (c .before .before .before .before .before .before .put-byte .ensures) (c .before .before .put-decimal .ensures)
+
+pub put-spaced-spec : {M : Type 1} → statement M
+put-spaced-spec = tie.close (tie.spec put-byte-requires put-decimal-requires same-length returns)

@@ -1,0 +1,58 @@
+use Rattle.reclaiming.specs.declared.Reply.the-variants as reply
+use Rattle.lines.proofs.Puts.{replied}
+use borrow.Author.Needs.{needs}
+use Rattle.lines.proofs.reply_line.Statement.{statement}
+use Rattle.lines.proofs.reply_line.Tie as tie
+
+enum-known-r : tie.Need-enum-known-r
+enum-known-r c = search needs
+
+run-line-requires : tie.Need-run-line-requires
+run-line-requires c κs = search needs
+
+enum-known-r-2 : tie.Need-enum-known-r-2
+enum-known-r-2 c = search needs
+
+idle-line-requires : tie.Need-idle-line-requires
+idle-line-requires c κs = search needs
+
+enum-known-r-3 : tie.Need-enum-known-r-3
+enum-known-r-3 c = search needs
+
+refused-line-requires : tie.Need-refused-line-requires
+refused-line-requires c κs = search needs
+
+same-length : tie.Need-same-length
+same-length c = search needs
+
+returns : tie.Need-returns
+returns c = replied (c .before .before .before .before .before .before .before .before .args .clock) (c .before .before .before .before .before .before .before .before .args .r) (reply.Run (c .before .before .before .before .before .r .given .0 .0) (c .before .before .before .before .before .r .given .0 .1 .0) (c .before .before .before .before .before .r .given .0 .1 .1 .0)) (c .before .before .before .before .before .r .given .1) (c .before .before .run-line .ensures)
+
+same-length-2 : tie.Need-same-length-2
+same-length-2 c = search needs
+
+returns-2 : tie.Need-returns-2
+returns-2 c = replied (c .before .before .before .before .before .before .before .before .args .clock) (c .before .before .before .before .before .before .before .before .args .r) (reply.Idle (c .before .before .before .before .before .r2 .given .0 .0)) (c .before .before .before .before .before .r2 .given .1) (c .before .before .idle-line .ensures)
+
+same-length-3 : tie.Need-same-length-3
+same-length-3 c = search needs
+
+returns-3 : tie.Need-returns-3
+returns-3 c = replied (c .before .before .before .before .before .before .before .before .args .clock) (c .before .before .before .before .before .before .before .before .args .r) (reply.Refused (c .before .before .before .before .before .r3 .given .0 .0)) (c .before .before .before .before .before .r3 .given .1) (c .before .before .refused-line .ensures)
+
+pub reply-line-spec : {M : Type 1} → statement M
+reply-line-spec =
+    tie.close
+    (tie.spec
+    enum-known-r
+    run-line-requires
+    enum-known-r-2
+    idle-line-requires
+    enum-known-r-3
+    refused-line-requires
+    same-length
+    returns
+    same-length-2
+    returns-2
+    same-length-3
+    returns-3)

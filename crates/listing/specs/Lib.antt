@@ -1,3 +1,0 @@
-pub mod Text
-pub mod Listing
-pub mod Stores

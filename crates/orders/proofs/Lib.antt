@@ -1,0 +1,3 @@
+pub mod NeedTests
+pub mod SoundLaws
+pub mod OrderLaws

@@ -1,0 +1,42 @@
+-- `choose` meets its contract: the next arrival, and the order up to it.
+-- Assumes nothing.
+use borrow.Author.Needs.{needs}
+use Rattle.orders.proofs.OrderLaws.{choose-next, choose-when}
+use Rattle.orders.proofs.order.choose.Statement.{statement}
+use Rattle.orders.proofs.order.choose.Tie as tie
+
+count-at-requires : tie.Need-count-at-requires
+count-at-requires c κs = search needs
+
+clock-at-requires : tie.Need-clock-at-requires
+clock-at-requires c κs = search needs
+
+next-arrival-requires : tie.Need-next-arrival-requires
+next-arrival-requires c κs =
+    choose-next (c .before .before .before .before .before .args .block .now) (c .before .before .before .before .before .args .keys .now) (c .before .before .before .before .before .pre .0 .0) (c .before .before .before .before .before .pre .0 .1) (c .before .before .before .before .before .pre .1) (c .before .before .count-at .result) (c .before .before .count-at .ensures) (c .clock-at .result) (c .clock-at .ensures)
+
+choose-until-requires : tie.Need-choose-until-requires
+choose-until-requires c κs = (
+  (c .before .before .before .before .before .before .before .pre .0 .0, c .before .before .before .before .before .before .before .pre .0 .2, c .before .before .before .before .before .before .before .pre .0 .3),
+  (
+    c .before .before .before .before .before .before .before .pre .1,
+    choose-when (c .before .before .before .before .before .before .before .args .block .now) (c .before .before .before .before .before .before .before .args .keys .now) (c .before .before .before .before .before .before .before .pre .0 .0) (c .before .before .before .before .before .before .before .pre .0 .1) (c .before .before .before .before .before .before .before .pre .1) (c .before .before .before .before .count-at .result) (c .before .before .before .before .count-at .ensures) (c .before .before .clock-at .result) (c .before .before .clock-at .ensures) (c .before .next-arrival .result) (c .before .next-arrival .ensures),
+  ),
+)
+
+same-length : tie.Need-same-length
+same-length c = search needs
+
+returns : tie.Need-returns
+returns c = search needs
+
+pub choose-spec : {M : Type 1} → statement M
+choose-spec =
+    tie.close
+    (tie.spec
+    count-at-requires
+    clock-at-requires
+    next-arrival-requires
+    choose-until-requires
+    same-length
+    returns)

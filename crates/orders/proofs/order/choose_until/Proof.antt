@@ -1,0 +1,44 @@
+-- `choose_until` meets its contract: the order that is chosen, stored, and its hold.
+-- Assumes nothing.
+use borrow.Author.Needs.{needs}
+use Rattle.orders.proofs.OrderLaws.{choose-stored, choose-reply}
+use Rattle.orders.proofs.order.choose_until.Statement.{statement}
+use Rattle.orders.proofs.order.choose_until.Tie as tie
+
+count-at-requires : tie.Need-count-at-requires
+count-at-requires c κs = search needs
+
+chosen-requires : tie.Need-chosen-requires
+chosen-requires c κs = search needs
+
+put-order-requires : tie.Need-put-order-requires
+put-order-requires c κs = search needs
+
+hold-of-requires : tie.Need-hold-of-requires
+hold-of-requires c κs = search needs
+
+order-of-requires : tie.Need-order-of-requires
+order-of-requires c κs = search needs
+
+same-length : tie.Need-same-length
+same-length c = search needs
+
+returns : tie.Need-returns
+returns c = (
+  choose-reply (c .before .before .before .before .before .before .before .before .before .before .args .block .now) (c .before .before .before .before .before .before .before .before .before .before .pre .0 .1) (c .before .before .before .before .before .before .before .before .before .before .args .next) (c .before .before .before .before .before .before .before .before .before .before .pre .1 .1) (c .before .before .before .before .before .before .chosen .result) (c .before .before .before .before .before .before .chosen .ensures)
+      (c .before .hold-of .result) (c .order-of .result) (c .before .hold-of .ensures) (c .order-of .ensures),
+  choose-stored (c .before .before .before .before .before .before .before .before .before .before .args .block .now) (c .before .before .before .before .before .before .before .before .before .before .pre .0 .1) (c .before .before .before .before .before .before .before .before .before .before .args .next) (c .before .before .before .before .before .before .before .before .before .before .pre .1 .1) (c .before .before .before .before .before .before .chosen .result) (c .before .before .before .before .before .before .chosen .ensures)
+      (c .before .before .before .before .put-order .last .0) (c .before .before .before .before .put-order .ensures),
+)
+
+pub choose-until-spec : {M : Type 1} → statement M
+choose-until-spec =
+    tie.close
+    (tie.spec
+    count-at-requires
+    chosen-requires
+    put-order-requires
+    hold-of-requires
+    order-of-requires
+    same-length
+    returns)

@@ -1,0 +1,52 @@
+-- `standing` meets its contract: the order is to stay idle, or runs one of the tasks.
+-- Assumes nothing.
+use native.Mathlib.Omega.{arith}
+use borrow.Author.Needs.{needs}
+use Rattle.orders.proofs.OrderLaws.{standing-task, standing-level, standing-run}
+use Rattle.orders.proofs.order.standing.Statement.{statement}
+use Rattle.orders.proofs.order.standing.Tie as tie
+
+shared-slice-read-task : tie.Need-shared-slice-read-task
+shared-slice-read-task c = search needs
+
+cast-task : tie.Need-cast-task
+cast-task c = omega (arith, c .shared-slice-known2 .given 4)
+
+shared-slice-read-level : tie.Need-shared-slice-read-level
+shared-slice-read-level c = search needs
+
+cast-level : tie.Need-cast-level
+cast-level c = omega (arith, c .shared-slice-known3 .given 5)
+
+cast-t8 : tie.Need-cast-t8
+cast-t8 c = omega (arith, c .before .shared-slice-known3 .given 5)
+
+returns : tie.Need-returns
+returns c = search needs
+
+work-at-requires : tie.Need-work-at-requires
+work-at-requires c κs = (standing-task (c .before .before .before .before .args .block .now) (c .before .before .before .before .pre .0) (c .before .before .before .before .pre .1) (c .if1 .left), c .before .before .before .before .pre .0 .size)
+
+running-order-requires : tie.Need-running-order-requires
+running-order-requires c κs = (
+  standing-task (c .before .before .before .before .before .args .block .now) (c .before .before .before .before .before .pre .0) (c .before .before .before .before .before .pre .1) (c .before .if1 .left),
+  standing-level (c .before .before .before .before .before .args .block .now) (c .before .before .before .before .before .pre .0) (c .before .before .before .before .before .pre .1) (c .before .if1 .left),
+)
+
+returns-2 : tie.Need-returns-2
+returns-2 c =
+    standing-run (c .before .before .before .before .before .before .args .block .now) (c .before .before .before .before .before .before .pre .0) (c .before .before .before .before .before .before .pre .1) (c .before .before .if1 .left) (c .before .work-at .result) (c .running-order .result) (c .before .work-at .ensures .0) (c .running-order .ensures)
+
+pub standing-spec : {M : Type 1} → statement M
+standing-spec =
+    tie.close
+    (tie.spec
+    shared-slice-read-task
+    cast-task
+    shared-slice-read-level
+    cast-level
+    cast-t8
+    returns
+    work-at-requires
+    running-order-requires
+    returns-2)

@@ -1,0 +1,70 @@
+-- `test_block` meets its contract, by each way out.
+-- Assumes nothing.
+use mathlib.Core.Path.{refl}
+use native.Mathlib.Omega.{arith}
+use borrow.Author.Needs.{needs}
+use borrow.Author.Tests.{not-true, not-false}
+use Rattle.state.specs.Code.{Holds}
+use Rattle.orders.proofs.SoundLaws.{length-not, count-none, count-above, layout-not, state-tested}
+use Rattle.orders.proofs.sound.test_block.Statement.{statement}
+use Rattle.orders.proofs.sound.test_block.Tie as tie
+
+holds : (c : tie.Else3) → Holds (c .before .before .before .before .before .args .block .now)
+holds c = record { size = c .before .before .before .if1 .left; few = c .if3 .left }
+
+not-sound-requires : tie.Need-not-sound-requires
+not-sound-requires c κs = search needs
+
+returns : tie.Need-returns
+returns c = length-not (c .before .before .before .args .block .now) (c .not-sound .result) (c .before .if1 .taken) (c .not-sound .ensures)
+
+shared-slice-read-count : tie.Need-shared-slice-read-count
+shared-slice-read-count c = search needs
+
+cast-count : tie.Need-cast-count
+cast-count c = omega (arith, c .shared-slice-known2 .given 6)
+
+not-sound-requires-2 : tie.Need-not-sound-requires-2
+not-sound-requires-2 c κs = search needs
+
+returns-2 : tie.Need-returns-2
+returns-2 c = count-none (c .before .before .before .before .before .args .block .now) (c .not-sound2 .result) (c .before .if2 .taken) (c .not-sound2 .ensures)
+
+not-sound-requires-3 : tie.Need-not-sound-requires-3
+not-sound-requires-3 c κs = search needs
+
+returns-3 : tie.Need-returns-3
+returns-3 c = count-above (c .before .before .before .before .before .before .args .block .now) (c .not-sound3 .result) (c .before .if3 .taken) (c .not-sound3 .ensures)
+
+laid-out-requires : tie.Need-laid-out-requires
+laid-out-requires c κs = search needs
+
+not-sound-requires-4 : tie.Need-not-sound-requires-4
+not-sound-requires-4 c κs = search needs
+
+returns-4 : tie.Need-returns-4
+returns-4 c = layout-not (c .before .before .before .before .before .before .before .before .args .block .now) (c .not-sound4 .result) (c .before .before .laid-out .result) (c .before .before .laid-out .ensures) (not-true _ (c .before .if4 .taken)) (c .not-sound4 .ensures)
+
+test-state-requires : tie.Need-test-state-requires
+test-state-requires c κs = (holds (c .before .before), refl, omega (arith, c .before .before .before .if2 .left))
+
+returns-5 : tie.Need-returns-5
+returns-5 c = state-tested (c .before .before .before .before .before .before .before .before .args .block .now) (c .test-state .result) (c .before .before .laid-out .result) (c .before .before .laid-out .ensures) (not-false _ (c .before .if4 .left)) (holds (c .before .before .before)) (c .test-state .ensures .0) (c .test-state .ensures .1)
+
+pub test-block-spec : {M : Type 1} → statement M
+test-block-spec =
+    tie.close
+    (tie.spec
+    not-sound-requires
+    returns
+    shared-slice-read-count
+    cast-count
+    not-sound-requires-2
+    returns-2
+    not-sound-requires-3
+    returns-3
+    laid-out-requires
+    not-sound-requires-4
+    returns-4
+    test-state-requires
+    returns-5)

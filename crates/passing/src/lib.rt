@@ -1,0 +1,117 @@
+// A pass: its questions, and what it makes of a state, in its bytes.
+use orders::Choice;
+use orders::order::choose;
+use orders::order::choose_until;
+use orders::order::hold_of;
+use orders::order::order_of;
+use orders::order::standing;
+use orders::sound::test_block;
+use reclaiming::Reply;
+use state::clock::Clock;
+use state::image::clock_at;
+use state::image::count_at;
+use state::urgency::next_arrival;
+use ticks::move_on;
+use ticks::renewed;
+ghost use mathlib.Core.Path.{_≡_};
+ghost use Prim.Native.Nat.{_≤_};
+ghost use Rattle.plan.specs.Levels.{baseSpeeds};
+ghost use Rattle.arith.specs.Asking.{firstNo};
+ghost use Rattle.reclaiming.specs.StateBlock.{State, planIn, timing, encode, decode};
+ghost use Rattle.reclaiming.specs.Orders.{nextArrival};
+ghost use Rattle.reclaiming.specs.Passes.{passedState};
+ghost use Rattle.reclaiming.specs.Questions.{largestClock, passQuestions};
+ghost use Rattle.reclaiming.specs.Calls.{passOrder, passReply, passBytes};
+ghost use Rattle.state.specs.Code.{timingIn};
+ghost use Rattle.orders.specs.Code.{OrderIn, Good};
+ghost use Rattle.ticks.specs.Code.{finishQuestions};
+
+// The first no of the questions 13 and 14, or 0.
+fn finish_number(c: Choice, d: u32, finished: bool) -> u32
+    ensures { λ r. ⌜ ((s : State) → OrderIn s c → r ≡ firstNo (finishQuestions s d finished)) ⌝ }
+{
+    if c.task == 255 {
+        if finished {
+            return 13;
+        }
+        return 0;
+    }
+    if d < c.time {
+        return 0;
+    }
+    if d > c.time {
+        return 14;
+    }
+    if finished {
+        return 0;
+    }
+    14
+}
+
+// The first no of the questions 11 to 15, or 0.
+fn pass_number(clock: Clock, c: Choice, next: u32, d: u32, finished: bool) -> u32
+    requires { ⌜ clock .ticks ≤ largestClock ⌝ }
+    ensures { λ r. ⌜ ((s : State) → clock .ticks ≡ s .clock → OrderIn s c → next ≡ nextArrival (timing baseSpeeds (planIn s)) (s .clock) → r ≡ firstNo (passQuestions baseSpeeds s d finished)) ⌝ }
+{
+    if d < 1 {
+        return 11;
+    }
+    if d > next {
+        return 12;
+    }
+    let n = finish_number(c, d, finished);
+    if n != 0 {
+        return n;
+    }
+    if !clock.has_room(d) {
+        return 15;
+    }
+    0
+}
+
+// A pass that the questions let through: the state after it, and its order.
+fn passed(
+    block: &mut [u8],
+    keys: &[u64; 16],
+    c: Choice,
+    highest: usize,
+    next: u32,
+    d: u32,
+    finished: bool,
+) -> Reply
+    requires { ⌜ Good (now block) (now keys) highest × OrderIn (decode (now block)) c ⌝ }
+    requires { ⌜ next ≡ nextArrival (timingIn (now block)) (decode (now block) .clock) ⌝ }
+    requires { ⌜ firstNo (passQuestions baseSpeeds (decode (now block)) d finished) ≡ 0 ⌝ }
+    ensures { λ r. ⌜ r ≡ passOrder baseSpeeds (decode (now (block .entry))) d finished ⌝ }
+    ensures { λ _. ⌜ now (block .exit) ≡ encode (passedState baseSpeeds (timingIn (now (block .entry))) (decode (now (block .entry))) d finished) ⌝ }
+{
+    move_on(block, keys, c, highest, next, d, finished);
+    if d < next {
+        if finished {
+            return choose_until(block, keys, next - d);
+        }
+        return order_of(c, hold_of(c, next) - d);
+    }
+    let u = renewed(block, keys, count_at(block), clock_at(block));
+    choose(block, &u)
+}
+
+// A pass over the state in a block. Refused, it leaves every byte; accepted, the block holds the state after it.
+pub fn pass(state: &mut [u8], d: u32, finished: bool) -> Reply
+    ensures { λ r. ⌜ r ≡ passReply baseSpeeds (now (state .entry)) d finished ⌝ }
+    ensures { λ _. ⌜ now (state .exit) ≡ passBytes baseSpeeds (now (state .entry)) d finished ⌝ }
+{
+    let b = test_block(state);
+    if !b.sound {
+        return Reply::Refused(10);
+    }
+    let keys = b.keys;
+    let clock = clock_at(state);
+    let next = next_arrival(&keys, count_at(state), clock);
+    let c = standing(state);
+    let n = pass_number(Clock::new(clock), c, next, d, finished);
+    if n != 0 {
+        return Reply::Refused(n);
+    }
+    passed(state, &keys, c, b.nominal, next, d, finished)
+}

@@ -1,0 +1,29 @@
+use mathlib.Core.Path.{ap, _∙_}
+use Rattle.plan.specs.declared.Plan.{Plan}
+use Rattle.plan.specs.declared.Judged.{Judged}
+use Rattle.plan.specs.Levels.{baseSpeeds}
+use Rattle.plan.specs.Answers.{judgedPlan}
+use Rattle.plan.specs.Numbers.{verdictNumber}
+use Rattle.plan_calls.proofs.Packing.{judged-most}
+use borrow.Author.Needs.{needs}
+use Rattle.plan_calls.proofs.kilmstra_plan_judge.Statement.{statement}
+use Rattle.plan_calls.proofs.kilmstra_plan_judge.Tie as tie
+
+plan-from-requires : tie.Need-plan-from-requires
+plan-from-requires c κs = search needs
+
+judge-requires : tie.Need-judge-requires
+judge-requires c κs = search needs
+
+verdict-number-requires : tie.Need-verdict-number-requires
+verdict-number-requires c κs = judged-most (c .before .plan-from .result) (c .judge .result) (c .judge .ensures)
+
+returns : tie.Need-returns
+returns c =
+    c .verdict-number .ensures
+    ∙ ap (λ (j : Judged). verdictNumber (j .verdict)) (c .before .judge .ensures)
+    ∙ ap (λ (p : Plan). verdictNumber (judgedPlan baseSpeeds p .verdict)) (c .before .before .plan-from .ensures)
+
+pub kilmstra-plan-judge-spec : {M : Type 1} → statement M
+kilmstra-plan-judge-spec =
+    tie.close (tie.spec plan-from-requires judge-requires verdict-number-requires returns)

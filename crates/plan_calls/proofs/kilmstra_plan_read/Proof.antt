@@ -1,0 +1,19 @@
+use mathlib.Core.Path.{ap, _∙_}
+use Rattle.plan.specs.declared.Judged.{Judged}
+use Rattle.plan.specs.Numbers.{verdictNumber}
+use Rattle.plan_calls.proofs.Packing.{read-most}
+use borrow.Author.Needs.{needs}
+use Rattle.plan_calls.proofs.kilmstra_plan_read.Statement.{statement}
+use Rattle.plan_calls.proofs.kilmstra_plan_read.Tie as tie
+
+read-requires : tie.Need-read-requires
+read-requires c κs = search needs
+
+verdict-number-requires : tie.Need-verdict-number-requires
+verdict-number-requires c κs = read-most (c .before .before .args .block .now) (c .read .result) (c .read .ensures)
+
+returns : tie.Need-returns
+returns c = c .verdict-number .ensures ∙ ap (λ (j : Judged). verdictNumber (j .verdict)) (c .before .read .ensures)
+
+pub kilmstra-plan-read-spec : {M : Type 1} → statement M
+kilmstra-plan-read-spec = tie.close (tie.spec read-requires verdict-number-requires returns)

@@ -1,0 +1,35 @@
+use mathlib.Core.Path.{ap, _∙_}
+use lib.ListN.{length}
+use Rattle.plan.specs.declared.Plan.{Plan}
+use Rattle.plan.specs.Levels.{baseSpeeds}
+use Rattle.plan.specs.Answers.{writePlan, writeBuffer}
+use Rattle.plan.specs.Numbers.{writtenNumber}
+use Rattle.plan_calls.proofs.Packing.{wrote-most}
+use borrow.Author.Needs.{needs}
+use Rattle.plan_calls.proofs.kilmstra_plan_write.Statement.{statement}
+use Rattle.plan_calls.proofs.kilmstra_plan_write.Tie as tie
+
+plan-from-requires : tie.Need-plan-from-requires
+plan-from-requires c κs = search needs
+
+write-requires : tie.Need-write-requires
+write-requires c κs = search needs
+
+written-number-requires : tie.Need-written-number-requires
+written-number-requires c κs = wrote-most (c .before .before .before .before .plan-from .result) (length (c .before .before .before .before .before .before .before .args .buffer .now)) (c .before .before .write .result) (c .before .before .write .ensures .0)
+
+same-length : tie.Need-same-length
+same-length c = search needs
+
+returns : tie.Need-returns
+returns c = (
+  c .written-number .ensures
+      ∙ ap writtenNumber (c .before .before .before .write .ensures .0)
+      ∙ ap (λ (p : Plan). writtenNumber (writePlan baseSpeeds p (length (c .before .before .before .before .before .before .before .before .args .buffer .now)))) (c .before .before .before .before .before .plan-from .ensures),
+  c .before .before .before .write .ensures .1 ∙ ap (λ (p : Plan). writeBuffer baseSpeeds p (c .before .before .before .before .before .before .before .before .args .buffer .now)) (c .before .before .before .before .before .plan-from .ensures),
+)
+
+pub kilmstra-plan-write-spec : {M : Type 1} → statement M
+kilmstra-plan-write-spec =
+    tie.close
+    (tie.spec plan-from-requires write-requires written-number-requires same-length returns)

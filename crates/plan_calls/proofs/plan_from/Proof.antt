@@ -1,0 +1,78 @@
+use Prim.Native.Nat.{_≤_, _-_}
+use mathlib.Core.Path.{_≡_, refl, ap}
+use native.Mathlib.Omega.{arith}
+use borrow.Author.Needs.{needs}
+use Rattle.plan.specs.declared.Plan.{Plan}
+use Rattle.plan_calls.proofs.Packing.{upTo, task-put, plan-put}
+use Rattle.plan_calls.proofs.plan_from.Statement.{statement}
+use Rattle.plan_calls.proofs.plan_from.Tie as tie
+
+abbrev Inv-loop : tie.InvT-loop
+Inv-loop count numbers p₀ i₀ p i = (i ≤ 16) × (p .count ≡ count) × (p .tasks ≡ upTo numbers i)
+
+abbrev μ-loop : tie.MeasureT-loop
+μ-loop count numbers p₀ i₀ p i = 16 - i
+
+empty-plan-requires : tie.Need-empty-plan-requires Inv-loop μ-loop
+empty-plan-requires c κs = search needs
+
+loop-holds : tie.Need-loop-holds Inv-loop μ-loop
+loop-holds c = (omega arith, refl, ap (λ (x : Plan). x .tasks) (c .empty-plan .ensures))
+
+mul-number-at : tie.Need-mul-number-at Inv-loop μ-loop
+mul-number-at c = omega arith
+
+number-at-requires : tie.Need-number-at-requires Inv-loop μ-loop
+number-at-requires c κs = search needs
+
+mul-number-at-2 : tie.Need-mul-number-at-2 Inv-loop μ-loop
+mul-number-at-2 c = omega arith
+
+add-number-at : tie.Need-add-number-at Inv-loop μ-loop
+add-number-at c = omega arith
+
+number-at-requires-2 : tie.Need-number-at-requires-2 Inv-loop μ-loop
+number-at-requires-2 c κs = search needs
+
+mul-t : tie.Need-mul-t Inv-loop μ-loop
+mul-t c = omega arith
+
+element-set-from-t : tie.Need-element-set-from-t Inv-loop μ-loop
+element-set-from-t c = omega arith
+
+add-i : tie.Need-add-i Inv-loop μ-loop
+add-i c = omega arith
+
+loop-less : tie.Need-loop-less Inv-loop μ-loop
+loop-less c = omega arith
+
+loop-again : tie.Need-loop-again Inv-loop μ-loop
+loop-again c = (
+  omega arith,
+  c .before .before .before .loop .inv .1,
+  task-put (c .before .before .before .before .before .before .args .numbers .now) (c .before .before .before .loop .p .tasks) (c .before .before .before .loop .i) (c .before .number-at .result) (c .number-at2 .result) (omega arith) (c .before .before .before .loop .inv .2) (c .before .number-at .ensures) (c .number-at2 .ensures),
+)
+
+returns : tie.Need-returns Inv-loop μ-loop
+returns c =
+    plan-put (c .before .before .before .before .args .numbers .now) (c .before .before .before .before .args .count) (c .before .loop .p) (c .before .loop .i) (omega arith) (c .before .loop .inv .1) (c .before .loop .inv .2)
+
+pub plan-from-spec : {M : Type 1} → statement M
+plan-from-spec =
+    tie.close
+    (tie.spec
+    Inv-loop
+    μ-loop
+    empty-plan-requires
+    loop-holds
+    mul-number-at
+    number-at-requires
+    mul-number-at-2
+    add-number-at
+    number-at-requires-2
+    mul-t
+    element-set-from-t
+    add-i
+    loop-less
+    loop-again
+    returns)

@@ -1,0 +1,119 @@
+-- The dispatcher's book against the entries: a job that has arrived is closed in it, or it is its task's latest and has work left.
+-- Assumes nothing.
+use Prim.Native.Nat.{ℕ, suc, _+_, _-_, _*_, _/_, _%_, _≤_, _<_}
+use mathlib.Core.Path.{_≡_, refl, sym, subst, ap, _∙_}
+use mathlib.Core.Bool.{Bool, true, false}
+use mathlib.Core.List.{List, [], _∷_}
+use mathlib.Core.Logic.{_⊎_, inl, inr, ⊎-elim, _≢_}
+use native.Mathlib.Nat.{lt-div-mul-add}
+use native.Mathlib.Omega.{arith}
+use lib.Dec.{T}
+use native.Mathlib.Decide.{decLe, ℕ-discrete}
+use Rattle.arith.specs.Choice.{pick}
+use Rattle.arith.proofs.Tests.{passed, failed, tested}
+use Rattle.schedule.specs.PlainSchedule.{Timing, Job, latest, deadline}
+use Rattle.schedule.specs.Feasibility.{In}
+use Rattle.schedule.proofs.Drain.{Quiet}
+use Rattle.schedule.proofs.Periods.{multiple-last, quiet-last}
+use Rattle.reclaiming.specs.Run.{Arrived}
+
+-- a job is its task's latest, with work left
+abbrev pub OpenLatest : Timing → ℕ → (ℕ → ℕ) → Job → Type 0
+OpenLatest τ t work j = (j ≡ latest τ t (j .task)) × (0 < work (j .task))
+
+abbrev pub Held : Timing → ℕ → (ℕ → ℕ) → List Job → Type 0
+Held τ t work closed = (j : Job) → Arrived τ t j → In j closed ⊎ OpenLatest τ t work j
+
+-- the arrival at a tick that a period divides is the task's latest
+arrived-now : (τ : Timing) (t : ℕ) (j : Job) → 0 < τ .period (j .task) → t % τ .period (j .task) ≡ 0 → j .arrival ≡ t → j ≡ latest τ t (j .task)
+arrived-now τ t j p z e =
+    let a : j .arrival ≡ t / τ .period (j .task) * τ .period (j .task) = e ∙ sym (multiple-last (τ .period (j .task)) p t z) in
+    λ i. record { task = j .task; arrival = a i }
+
+-- at tick 0 every task has its first job
+pub held-start : (τ : Timing) (work : ℕ → ℕ) → ((i : ℕ) → i < τ .count → 0 < τ .period i) → ((i : ℕ) → i < τ .count → 0 < work i) → Held τ 0 work []
+held-start τ work periods some j a =
+    let z : j .arrival ≡ 0 = omega (arith, a .arrival) in
+    inr
+    (arrived-now τ 0 j (periods (j .task) (a .task)) (subst (λ (k : ℕ). k % τ .period (j .task) ≡ 0) z (a .multiple)) z, some (j .task) (a .task))
+
+-- a latest job's deadline has not come
+pub latest-deadline : (τ : Timing) (t : ℕ) (i : ℕ) → 0 < τ .period i → t < deadline τ (latest τ t i)
+latest-deadline τ t i p = lt-div-mul-add p
+
+-- a pass over d ticks keeps it
+module _ (τ : Timing) (t d : ℕ) (work work′ : ℕ → ℕ) (closed : List Job) (finished : Bool) (x : ℕ)
+    (later : 0 < d)
+    (periods : (i : ℕ) → i < τ .count → 0 < τ .period i)
+    (quiet : Quiet τ (τ .count) t d)
+    -- a task with an arrival at the end has a new job there
+    (renewed : (i : ℕ) → i < τ .count → (t + d) % τ .period i ≡ 0 → 0 < work′ i)
+    -- another task's job keeps some work, unless it is the one that finished
+    (kept : (i : ℕ) → i < τ .count → (t + d) % τ .period i ≢ 0 → 0 < work i → ((i ≡ x) × (finished ≡ true) → ⊥) → 0 < work′ i)
+    -- no open job is replaced: one that is open when the next arrives has just finished
+    (never : (i : ℕ) → i < τ .count → (t + d) % τ .period i ≡ 0 → 0 < work i → (i ≡ x) × (finished ≡ true))
+  where
+    abbrev closed′ : List Job
+    closed′ = pick finished (latest τ t x ∷ closed) closed
+
+    still : (j : Job) → In j closed → In j closed′
+    still j m =
+        elim (tested finished) as (λ b _. In j (pick b (latest τ t x ∷ closed) closed)) [ passed ↦ inr m | failed ↦ m ]
+
+    ended : (j : Job) → j ≡ latest τ t x → finished ≡ true → In j closed′
+    ended j e f = subst (λ (b : Bool). In j (pick b (latest τ t x ∷ closed) closed)) (sym f) (inl e)
+
+    quietly : (i : ℕ) → i < τ .count → (t + d) % τ .period i ≢ 0 → latest τ t i ≡ latest τ (t + d) i
+    quietly i h z =
+        let q : (t + d) / τ .period i ≡ t / τ .period i = quiet-last (τ .period i) (periods i h) t d up in
+        λ k. record { task = i; arrival = sym q k * τ .period i }
+      where
+        up : (k : ℕ) → 0 < k → k ≤ d → (t + k) % τ .period i ≢ 0
+        up k a b =
+            elim (ℕ-discrete k d) [ yes e ↦ subst (λ (u : ℕ). (t + u) % τ .period i ≢ 0) (sym e) z | no e ↦ quiet i k h a (omega arith) ]
+
+    -- an old job that was open: it has just finished, or it stays
+    older : (j : Job) → j .task < τ .count → OpenLatest τ t work j → In j closed′ ⊎ OpenLatest τ (t + d) work′ j
+    older j h s =
+        elim (ℕ-discrete ((t + d) % τ .period (j .task)) 0) [
+          | yes z ↦
+              let f : (j .task ≡ x) × (finished ≡ true) = never (j .task) h z s.1 in
+              inl (ended j (s.0 ∙ ap (latest τ t) f.0) f.1)
+          | no z ↦
+              elim (tested finished) as (λ b _. finished ≡ b → In j closed′ ⊎ OpenLatest τ (t + d) work′ j) [
+                | passed ↦ λ f.
+                    elim (ℕ-discrete (j .task) x) [
+                      | yes e ↦ inl (ended j (s.0 ∙ ap (latest τ t) e) f)
+                      | no e ↦ inr (s.0 ∙ quietly (j .task) h z, kept (j .task) h z s.1 (λ g. e g.0))
+                    ]
+                | failed ↦ λ f. inr (s.0 ∙ quietly (j .task) h z, kept (j .task) h z s.1 (λ g. not-both f g.1))
+              ] refl
+        ]
+      where
+        not-both : finished ≡ false → finished ≡ true → ⊥
+        not-both a b = subst (λ (c : Bool). T c) (sym b ∙ a) tt
+
+    -- a job that arrives within the ticks arrives at their end
+    newer : (j : Job) → Arrived τ (t + d) j → t < j .arrival → OpenLatest τ (t + d) work′ j
+    newer j a l =
+        let i : ℕ = j .task in
+        let place : j .arrival ≡ t + d = at-end (decLe (suc (j .arrival)) (t + d)) in
+        let z : (t + d) % τ .period i ≡ 0 = subst (λ (k : ℕ). k % τ .period i ≡ 0) place (a .multiple) in
+        (arrived-now τ (t + d) j (periods i (a .task)) z place, renewed i (a .task) z)
+      where
+        at-end : Dec (j .arrival < t + d) → j .arrival ≡ t + d
+        at-end (yes h) =
+            let e : t + (j .arrival - t) ≡ j .arrival = omega arith in
+            absurd
+            (quiet (j .task) (j .arrival - t) (a .task) (omega arith) (omega arith)
+            (subst (λ (k : ℕ). k % τ .period (j .task) ≡ 0) (sym e) (a .multiple)))
+        at-end (no h) = omega (arith, a .arrival)
+
+    pub held-pass : Held τ t work closed → Held τ (t + d) work′ closed′
+    held-pass held j a =
+        elim (decLe (j .arrival) t) [
+          | yes h ↦
+              let before : Arrived τ t j = record { task = a .task; arrival = h; multiple = a .multiple } in
+              ⊎-elim (λ m. inl (still j m)) (λ s. older j (a .task) s) (held j before)
+          | no h ↦ inr (newer j a (omega arith))
+        ]

@@ -1,0 +1,17 @@
+pub mod Listing
+pub mod Starred
+pub mod Fine
+pub mod Plans
+pub mod StateCodec
+pub mod Soundness
+pub mod NextArrival
+pub mod OrderFacts
+pub mod Allowances
+pub mod Worked
+pub mod PassSound
+pub mod Books
+pub mod Runs
+pub mod Demand
+pub mod PlayLaws
+pub mod PassedStates
+pub mod NumberLaws

@@ -1,0 +1,85 @@
+-- What a pass makes of each entry, read off the state after it.
+-- Assumes nothing.
+use Prim.Native.Nat.{ℕ, _+_, _-_, _%_, _<_}
+use mathlib.Core.Path.{_≡_, refl, ap, _∙_}
+use mathlib.Core.Bool.{Bool}
+use mathlib.Core.List.{List, [], _∷_}
+use mathlib.Core.Logic.{_≢_}
+use lib.Dec.{eqb}
+use lib.ListN.{getD}
+use Rattle.arith.specs.Choice.{pick}
+use Rattle.arith.proofs.Tests.{eq-yes, eq-not, testEq, passed, failed, tested}
+use Rattle.plan.specs.Blocks.{noTask}
+use Rattle.schedule.specs.PlainSchedule.{Timing, Pending}
+use Rattle.reclaiming.specs.declared.Entry.{Entry}
+use Rattle.reclaiming.specs.StateBlock.{State, noEntry, workOf, remainingOf, planIn}
+use Rattle.reclaiming.specs.Orders.{chooseOrder, orderFor, openJobs}
+use Rattle.reclaiming.specs.Passes.{passedState, movedState, choosesAnew, newEntry, entryAfter, workedOf, drainedOf}
+use Rattle.arith.specs.Ranges.{listTo}
+use Rattle.arith.proofs.RangeLaws.{getD-listTo}
+
+-- choosing an order leaves the clock and the entries
+chosen-clock : (speeds : List ℕ) (τ : Timing) (s : State) (q : List Pending) → orderFor speeds τ s q .clock ≡ s .clock
+chosen-clock speeds τ s [] = refl
+chosen-clock speeds τ s (e ∷ q) = refl
+
+chosen-entries : (speeds : List ℕ) (τ : Timing) (s : State) (q : List Pending) → orderFor speeds τ s q .entries ≡ s .entries
+chosen-entries speeds τ s [] = refl
+chosen-entries speeds τ s (e ∷ q) = refl
+
+module _ (speeds : List ℕ) (τ : Timing) where
+  pub choose-clock : (s : State) → chooseOrder speeds τ s .clock ≡ s .clock
+  choose-clock s = chosen-clock speeds τ s (openJobs τ s)
+
+  pub choose-entries : (s : State) → chooseOrder speeds τ s .entries ≡ s .entries
+  choose-entries s = chosen-entries speeds τ s (openJobs τ s)
+
+  module _ (s : State) (d : ℕ) (finished : Bool) where
+    abbrev next : State
+    next = passedState speeds τ s d finished
+
+    abbrev moved : State
+    moved = movedState speeds τ s d finished
+
+    pub passed-clock : next .clock ≡ s .clock + d
+    passed-clock =
+        elim (tested (choosesAnew τ s d finished)) as (λ b _. pick b (chooseOrder speeds τ moved) moved .clock ≡ s .clock + d)
+        [ passed ↦ choose-clock moved | failed ↦ refl ]
+
+    pub passed-entries : next .entries ≡ listTo (τ .count) (entryAfter speeds τ s d finished)
+    passed-entries =
+        elim (tested (choosesAnew τ s d finished)) as (λ b _. pick b (chooseOrder speeds τ moved) moved .entries ≡ listTo (τ .count) (entryAfter speeds τ s d finished))
+        [ passed ↦ choose-entries moved | failed ↦ refl ]
+
+    module _ (i : ℕ) (h : i < τ .count) where
+      -- the entry where no job arrives
+      abbrev aged : Entry
+      aged = record { period = τ .period i; worst = getD (s .entries) i noEntry .worst; work = workedOf speeds s d finished i; remaining = drainedOf τ s d i }
+
+      pub passed-entry : getD (next .entries) i noEntry ≡ entryAfter speeds τ s d finished i
+      passed-entry =
+          ap (λ (l : List Entry). getD l i noEntry) passed-entries
+          ∙ getD-listTo (τ .count) (entryAfter speeds τ s d finished) i noEntry h
+
+      -- where a job arrives it is new
+      pub new-work : (s .clock + d) % τ .period i ≡ 0 → workOf next i ≡ getD (planIn s) i noTask .worst
+      new-work z =
+          ap (λ (e : Entry). e .work) passed-entry
+          ∙ elim (testEq ((s .clock + d) % τ .period i) 0)
+          as (λ b _. pick {A = Entry} b (newEntry τ (planIn s) i) aged .work ≡ getD (planIn s) i noTask .worst)
+          [ eq-yes e ↦ refl | eq-not e ↦ absurd (e z) ]
+
+      -- elsewhere it is what the ticks left of the old one
+      pub old-work : (s .clock + d) % τ .period i ≢ 0 → workOf next i ≡ workedOf speeds s d finished i
+      old-work z =
+          ap (λ (e : Entry). e .work) passed-entry
+          ∙ elim (testEq ((s .clock + d) % τ .period i) 0)
+          as (λ b _. pick {A = Entry} b (newEntry τ (planIn s) i) aged .work ≡ workedOf speeds s d finished i)
+          [ eq-yes e ↦ absurd (z e) | eq-not e ↦ refl ]
+
+      pub passed-remaining : remainingOf next i ≡ pick (eqb ((s .clock + d) % τ .period i) 0) (τ .allotment i) (drainedOf τ s d i)
+      passed-remaining =
+          ap (λ (e : Entry). e .remaining) passed-entry
+          ∙ elim (tested (eqb ((s .clock + d) % τ .period i) 0))
+          as (λ b _. pick {A = Entry} b (newEntry τ (planIn s) i) aged .remaining ≡ pick b (τ .allotment i) (drainedOf τ s d i))
+          [ passed ↦ refl | failed ↦ refl ]

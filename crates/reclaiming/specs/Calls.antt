@@ -1,0 +1,85 @@
+-- 01, "Blocks" and "Questions put to every call": what starting, passing and showing return, and every byte that they leave in a lent
+-- block, refused calls included.
+-- Assumes nothing.
+use Prim.Native.Nat.{ℕ, zero, suc}
+use mathlib.Core.Bool.{Bool}
+use mathlib.Core.List.{List, [], _∷_, _++_}
+use lib.ListN.{length}
+use Rattle.arith.specs.Digits.{digits}
+use Rattle.plan.specs.declared.Written.{Written}
+use Rattle.plan.specs.Blocks.{tasksIn}
+use Rattle.arith.specs.Asking.{firstNo}
+use Rattle.plan.specs.Answers.{writtenBy, storedBy}
+use Rattle.schedule.specs.PlainSchedule.{Pending, queueOf}
+use Rattle.reclaiming.specs.declared.Reply.{Reply}
+use Rattle.reclaiming.specs.declared.Reply.the-variants as reply
+use Rattle.reclaiming.specs.StateBlock.{State, remainingOf, planIn, timing, encode, decode}
+use Rattle.reclaiming.specs.Orders.{holdOf, orderWith}
+use Rattle.reclaiming.specs.Passes.{startState, passedState, passedHold}
+use Rattle.reclaiming.specs.Questions.{starting, passing, showing}
+
+-- 01: "starting and passing [return] the order"; a refusal's number "is all that is returned"
+abbrev pub repliedBy : ℕ → Reply → Reply
+repliedBy zero order = order
+repliedBy (suc n) order = reply.Refused (suc n)
+
+-- 01's number of each case of a reply, 0 where it is an order
+abbrev pub refusalOf : Reply → ℕ
+refusalOf (reply.Run task level hold) = 0
+refusalOf (reply.Idle hold) = 0
+refusalOf (reply.Refused n) = n
+
+-- starting
+abbrev pub startNumber : List ℕ → List ℕ → ℕ → ℕ
+startNumber speeds block room = firstNo (starting speeds block room)
+
+abbrev pub startOrder : List ℕ → State → Reply
+startOrder speeds s = orderWith s (holdOf speeds (timing speeds (planIn s)) s)
+
+abbrev pub startReply : List ℕ → List ℕ → ℕ → Reply
+startReply speeds block room =
+    repliedBy (startNumber speeds block room) (startOrder speeds (startState speeds (tasksIn block)))
+
+abbrev pub startBuffer : List ℕ → List ℕ → List ℕ → List ℕ
+startBuffer speeds block buffer =
+    storedBy (startNumber speeds block (length buffer)) (encode (startState speeds (tasksIn block))) buffer
+
+-- passing
+abbrev pub passNumber : List ℕ → List ℕ → ℕ → Bool → ℕ
+passNumber speeds bytes d finished = firstNo (passing speeds bytes d finished)
+
+abbrev pub passOrder : List ℕ → State → ℕ → Bool → Reply
+passOrder speeds s d finished =
+    orderWith (passedState speeds (timing speeds (planIn s)) s d finished)
+    (passedHold speeds (timing speeds (planIn s)) s d finished)
+
+abbrev pub passReply : List ℕ → List ℕ → ℕ → Bool → Reply
+passReply speeds bytes d finished =
+    repliedBy (passNumber speeds bytes d finished) (passOrder speeds (decode bytes) d finished)
+
+abbrev pub passBytes : List ℕ → List ℕ → ℕ → Bool → List ℕ
+passBytes speeds bytes d finished =
+    storedBy (passNumber speeds bytes d finished)
+    (encode (passedState speeds (timing speeds (planIn (decode bytes))) (decode bytes) d finished))
+    bytes
+
+-- 01: "The queue is shown as 3 bytes an entry, task then plain ticks left, most urgent first, entries with plain ticks left only."
+abbrev pub queueBytes : List Pending → List ℕ
+queueBytes [] = []
+queueBytes (e ∷ q) = e .job .task ∷ digits 256 2 (e .remaining) ++ queueBytes q
+
+abbrev pub readyQueue : List ℕ → State → List Pending
+readyQueue speeds s = queueOf (timing speeds (planIn s)) (s .clock) (remainingOf s) (length (s .entries))
+
+abbrev pub shownBytes : List ℕ → List ℕ → List ℕ
+shownBytes speeds bytes = queueBytes (readyQueue speeds (decode bytes))
+
+abbrev pub showNumber : List ℕ → List ℕ → ℕ → ℕ
+showNumber speeds bytes room = firstNo (showing speeds bytes (length (shownBytes speeds bytes)) room)
+
+abbrev pub showReply : List ℕ → List ℕ → ℕ → Written
+showReply speeds bytes room = writtenBy (showNumber speeds bytes room) (shownBytes speeds bytes)
+
+abbrev pub showBuffer : List ℕ → List ℕ → List ℕ → List ℕ
+showBuffer speeds bytes buffer =
+    storedBy (showNumber speeds bytes (length buffer)) (shownBytes speeds bytes) buffer

@@ -1,0 +1,10 @@
+pub mod Questions
+pub mod StateBlock
+pub mod Orders
+pub mod Passes
+pub mod Calls
+pub mod Run
+pub mod Promises
+pub mod Cases
+pub mod Play
+pub mod Numbers

@@ -1,0 +1,57 @@
+-- 01, "Orders and passes": which order is chosen. A job's work, remaining ticks and urgency are given by task number.
+-- Assumes nothing.
+use Prim.Native.Nat.{ℕ, _-_, _%_, min}
+use mathlib.Core.List.{List, [], _∷_}
+use lib.Dec.{leb, eqb}
+use Rattle.arith.specs.Choice.{pick, first}
+use Rattle.arith.specs.Sum.{sumTo}
+use Rattle.arith.specs.Need.{need}
+use Rattle.plan.specs.Levels.{speedOf}
+use Rattle.schedule.specs.PlainSchedule.{Timing, Pending, moreUrgent, latest, queueOf}
+use Rattle.reclaiming.specs.declared.Reply.{Reply}
+use Rattle.reclaiming.specs.declared.Reply.the-variants as reply
+use Rattle.reclaiming.specs.StateBlock.{State, workOf, remainingOf}
+use Rattle.arith.specs.Ranges.{leastTo}
+
+-- "the ticks to the next arrival of any task"
+abbrev pub nextArrival : Timing → ℕ → ℕ
+nextArrival τ clock = leastTo (τ .count) (λ i. τ .period i - clock % τ .period i)
+
+-- 01: "The job's allowance is the sum of the plain ticks left of all jobs at least as urgent as it, itself included, finished or not
+-- in the dispatcher."
+abbrev pub allowance : Timing → State → ℕ → ℕ
+allowance τ s x =
+    sumTo (τ .count)
+    (λ j. pick (moreUrgent τ (latest τ (s .clock) x) (latest τ (s .clock) j)) 0 (remainingOf s j))
+
+-- the open jobs of the dispatcher, most urgent first, each with its work left
+abbrev pub openJobs : Timing → State → List Pending
+openJobs τ s = queueOf τ (s .clock) (workOf s) (τ .count)
+
+-- 01: "The level is the lowest at which the work left needs no more than the allowance."
+abbrev pub lowestLevel : List ℕ → ℕ → ℕ → ℕ
+lowestLevel speeds work allowed = first (λ (speed : ℕ). leb (need speed work) allowed) speeds
+
+-- 01: "The hold is the smaller of that time and the ticks to the next arrival of any task. An idle order's hold is the ticks to the
+-- next arrival."
+abbrev pub holdOf : List ℕ → Timing → State → ℕ
+holdOf speeds τ s =
+    pick (eqb (s .task) 255) (nextArrival τ (s .clock))
+    (min (need (speedOf speeds (s .level)) (workOf s (s .task))) (nextArrival τ (s .clock)))
+
+-- the same state with the order that is chosen in it
+abbrev pub withOrder : State → ℕ → ℕ → State
+withOrder s task level = record { clock = s .clock; task = task; level = level; entries = s .entries }
+
+-- 01: "An order is either to run a task or to stay idle. A run order names the most urgent open job, a level and a hold."
+abbrev pub orderFor : List ℕ → Timing → State → List Pending → State
+orderFor speeds τ s [] = withOrder s 255 0
+orderFor speeds τ s (e ∷ q) =
+    withOrder s (e .job .task) (lowestLevel speeds (workOf s (e .job .task)) (allowance τ s (e .job .task)))
+
+abbrev pub chooseOrder : List ℕ → Timing → State → State
+chooseOrder speeds τ s = orderFor speeds τ s (openJobs τ s)
+
+-- the order that stands in a state, with a hold
+abbrev pub orderWith : State → ℕ → Reply
+orderWith s hold = pick (eqb (s .task) 255) (reply.Idle hold) (reply.Run (s .task) (s .level) hold)

@@ -1,0 +1,78 @@
+-- 01, "Orders and passes": what a start and a pass make of a state.
+-- Assumes nothing.
+use Prim.Native.Nat.{ℕ, _+_, _-_, _*_, _%_}
+use mathlib.Core.Bool.{Bool, true}
+use mathlib.Core.List.{List}
+use lib.Dec.{eqb}
+use lib.ListN.{length, getD}
+use Rattle.arith.specs.Choice.{pick}
+use Rattle.plan.specs.declared.Task.{Task}
+use Rattle.plan.specs.Levels.{speedOf}
+use Rattle.plan.specs.Blocks.{noTask}
+use Rattle.schedule.specs.PlainSchedule.{Timing, drain, queueOf, leftIn}
+use Rattle.reclaiming.specs.declared.Entry.{Entry}
+use Rattle.reclaiming.specs.StateBlock.{State, noEntry, workOf, remainingOf, planIn, timing}
+use Rattle.reclaiming.specs.Orders.{holdOf, chooseOrder}
+use Rattle.arith.specs.Ranges.{listTo, someTo}
+
+-- 01: "a new job with full worst case and allotment"
+abbrev pub newEntry : Timing → List Task → ℕ → Entry
+newEntry τ ts i = record {
+  period = getD ts i noTask .period;
+  worst = getD ts i noTask .worst;
+  work = getD ts i noTask .worst;
+  remaining = τ .allotment i;
+}
+
+-- at the start every task has a new job, and an order is chosen
+abbrev pub startState : List ℕ → List Task → State
+startState speeds ts =
+    chooseOrder speeds (timing speeds ts)
+    (record { clock = 0; task = 255; level = 0; entries = listTo (length ts) (newEntry (timing speeds ts) ts) })
+
+-- 01: "d ticks are taken from the queue, most urgent entry first, entries at 0 leaving it"
+abbrev pub drainedOf : Timing → State → ℕ → ℕ → ℕ
+drainedOf τ s d i = leftIn i (drain d (queueOf τ (s .clock) (remainingOf s) (τ .count)))
+
+-- "the running job closes, or its work left falls by d times the level's speed"
+abbrev pub workedOf : List ℕ → State → ℕ → Bool → ℕ → ℕ
+workedOf speeds s d finished i =
+    pick (eqb i (s .task)) (pick finished 0 (workOf s i - d * speedOf speeds (s .level))) (workOf s i)
+
+-- "the clock moves; tasks whose period divides the clock get a new job with full worst case and allotment, replacing what stood there"
+abbrev pub arrivesAt : Timing → ℕ → ℕ → Bool
+arrivesAt τ clock i = eqb (clock % τ .period i) 0
+
+abbrev pub entryAfter : List ℕ → Timing → State → ℕ → Bool → ℕ → Entry
+entryAfter speeds τ s d finished i =
+    pick (arrivesAt τ (s .clock + d) i) (newEntry τ (planIn s) i)
+    (record {
+      period = τ .period i;
+      worst = getD (s .entries) i noEntry .worst;
+      work = workedOf speeds s d finished i;
+      remaining = drainedOf τ s d i;
+    })
+
+abbrev pub movedState : List ℕ → Timing → State → ℕ → Bool → State
+movedState speeds τ s d finished = record {
+  clock = s .clock + d;
+  task = s .task;
+  level = s .level;
+  entries = listTo (τ .count) (entryAfter speeds τ s d finished);
+}
+
+-- 01: "If a job finished or one arrived, a new order is chosen; otherwise task and level stay and the hold falls by d."
+abbrev pub choosesAnew : Timing → State → ℕ → Bool → Bool
+choosesAnew τ s d finished = pick finished true (someTo (τ .count) (arrivesAt τ (s .clock + d)))
+
+abbrev pub passedState : List ℕ → Timing → State → ℕ → Bool → State
+passedState speeds τ s d finished =
+    pick (choosesAnew τ s d finished)
+    (chooseOrder speeds τ (movedState speeds τ s d finished))
+    (movedState speeds τ s d finished)
+
+abbrev pub passedHold : List ℕ → Timing → State → ℕ → Bool → ℕ
+passedHold speeds τ s d finished =
+    pick (choosesAnew τ s d finished)
+    (holdOf speeds τ (passedState speeds τ s d finished))
+    (holdOf speeds τ s - d)

@@ -1,0 +1,80 @@
+-- 01, "Questions put to every call": those put to a state and to a pass, in their order, with their numbers.
+-- Assumes nothing.
+use Prim.Native.Nat.{ℕ, _+_}
+use mathlib.Core.Bool.{Bool, true, not}
+use mathlib.Core.List.{List, [], _∷_, _++_}
+use lib.Dec.{leb, ltb, eqb}
+use lib.ListN.{length}
+use Rattle.arith.specs.Choice.{pick, both, every}
+use Rattle.arith.specs.Need.{need}
+use Rattle.plan.specs.Levels.{speedOf, nominal}
+use Rattle.plan.specs.Questions.{judging, reading, roomQuestion}
+use Rattle.arith.specs.Asking.{Question, ask, firstNo}
+use Rattle.schedule.specs.PlainSchedule.{Timing, Pending}
+use Rattle.reclaiming.specs.declared.Entry.{Entry}
+use Rattle.reclaiming.specs.StateBlock.{State, workOf, planIn, timing, decode, laidOut}
+use Rattle.reclaiming.specs.Orders.{nextArrival, allowance, openJobs}
+
+-- 01: "The largest clock is 4,000,000,000 ticks."
+abbrev pub largestClock : ℕ
+largestClock = 4000000000
+
+-- the size of the state block
+abbrev pub stateLength : ℕ
+stateLength = 200
+
+-- 01: "for each task, work left at most the worst case, plain ticks left at most the allotment, and the time needed for the work left
+-- at the nominal level at most the plain ticks left"
+abbrev pub entrySound : ℕ → Entry → Bool
+entrySound speed e =
+    both (leb (e .work) (e .worst))
+    (both (leb (e .remaining) (need speed (e .worst))) (leb (need speed (e .work)) (e .remaining)))
+
+-- 01: "an idle order exactly if no job is open, else the most urgent open job at a level no higher than nominal that meets its allowance"
+abbrev pub orderSound : List ℕ → Timing → ℕ → State → List Pending → Bool
+orderSound speeds τ highest s [] = both (eqb (s .task) 255) (eqb (s .level) 0)
+orderSound speeds τ highest s (e ∷ q) =
+    both (eqb (s .task) (e .job .task))
+    (both (leb (s .level) highest)
+    (leb (need (speedOf speeds (s .level)) (workOf s (s .task))) (allowance τ s (s .task))))
+
+-- 01: "Sound means [..] a plan that passes 3, 6, 7, 8; a clock in range;" the entries and the order as above
+abbrev pub stateSound : List ℕ → State → Bool
+stateSound speeds s =
+    both (eqb (firstNo (judging speeds (length (s .entries)) (planIn s))) 0)
+    (both (leb (s .clock) largestClock)
+    (both (every (entrySound (speedOf speeds (nominal speeds (planIn s)))) (s .entries))
+    (orderSound speeds (timing speeds (planIn s)) (nominal speeds (planIn s)) s (openJobs (timing speeds (planIn s)) s))))
+
+abbrev pub sound : List ℕ → List ℕ → Bool
+sound speeds bytes = both (laidOut bytes) (stateSound speeds (decode bytes))
+
+-- a job is running unless the order is to stay idle
+abbrev pub running : State → Bool
+running s = not (eqb (s .task) 255)
+
+-- the running job's "time needed at the order's level"
+abbrev pub runningTime : List ℕ → State → ℕ
+runningTime speeds s = need (speedOf speeds (s .level)) (workOf s (s .task))
+
+-- 01: "Passing goes on"
+abbrev pub passQuestions : List ℕ → State → ℕ → Bool → List Question
+passQuestions speeds s d finished =
+    ask 11 (leb 1 d)
+    ∷ ask 12 (leb d (nextArrival (timing speeds (planIn s)) (s .clock)))
+    ∷ ask 13 (pick finished (running s) true)
+    ∷ ask 14 (pick (running s) (pick finished (leb d (runningTime speeds s)) (ltb d (runningTime speeds s))) true)
+    ∷ ask 15 (leb (s .clock + d) largestClock)
+    ∷ []
+
+-- 01: "Passing, and showing the queue, ask first whether the state is sound: 10."
+abbrev pub passing : List ℕ → List ℕ → ℕ → Bool → List Question
+passing speeds bytes d finished = ask 10 (sound speeds bytes) ∷ passQuestions speeds (decode bytes) d finished
+
+-- "Showing then puts 9."
+abbrev pub showing : List ℕ → List ℕ → ℕ → ℕ → List Question
+showing speeds bytes wanted room = ask 10 (sound speeds bytes) ∷ roomQuestion wanted room ∷ []
+
+-- "Starting reads the block, then puts 9 for the 200 bytes."
+abbrev pub starting : List ℕ → List ℕ → ℕ → List Question
+starting speeds block room = reading speeds block ++ (roomQuestion stateLength room ∷ [])

@@ -1,0 +1,89 @@
+-- 01, "The run in demand 3": a list of passes, the replies to them, and the two books, which take nothing from the state block.
+-- Assumes nothing.
+use Prim.Native.Nat.{ℕ, _+_, _%_, _≤_, _<_}
+use mathlib.Core.Path.{_≡_}
+use mathlib.Core.Bool.{Bool}
+use mathlib.Core.List.{List, [], _∷_}
+use lib.ListN.{take}
+use Rattle.arith.specs.Choice.{pick}
+use Rattle.schedule.specs.PlainSchedule.{Timing, Job, Book, latest, after}
+use Rattle.reclaiming.specs.declared.Reply.{Reply}
+use Rattle.reclaiming.specs.declared.Reply.the-variants as reply
+use Rattle.reclaiming.specs.Calls.{startBuffer, passReply, passBytes}
+
+-- 01: "A pass says that d ticks went by (32 bits) and whether the running job finished at their end."
+pub record Pass : Type 0 where
+  pub d : ℕ
+  pub finished : Bool
+
+-- a pass and the reply to it
+pub record Answered : Type 0 where
+  pub pass : Pass
+  pub reply : Reply
+
+-- demand 3: "each further one the state as the last left it, and nobody else writes it meanwhile"
+abbrev pub trace : List ℕ → List ℕ → List Pass → List Answered
+trace speeds bytes [] = []
+trace speeds bytes (p ∷ ps) =
+    record { pass = p; reply = passReply speeds bytes (p .d) (p .finished) }
+    ∷ trace speeds (passBytes speeds bytes (p .d) (p .finished)) ps
+
+-- the state's bytes after the list
+abbrev pub bytesAfter : List ℕ → List ℕ → List Pass → List ℕ
+bytesAfter speeds bytes [] = bytes
+bytesAfter speeds bytes (p ∷ ps) = bytesAfter speeds (passBytes speeds bytes (p .d) (p .finished)) ps
+
+-- demand 3: "the first gets the state that starting gave on an accepted plan": the first 200 bytes of the lent buffer
+abbrev pub startedBytes : List ℕ → List ℕ → List ℕ → List ℕ
+startedBytes speeds block buffer = take 200 (startBuffer speeds block buffer)
+
+-- the dispatcher's book: its clock, the jobs that it has closed, and the running task, which "is the one named by the order last
+-- returned" (255 for none)
+pub record DispatcherBook : Type 0 where
+  pub clock : ℕ
+  pub closed : List Job
+  pub task : ℕ
+
+-- the task that an order names; a refusal leaves the last one
+abbrev pub namedBy : Reply → ℕ → ℕ
+namedBy (reply.Run task level hold) last = task
+namedBy (reply.Idle hold) last = 255
+namedBy (reply.Refused n) last = last
+
+-- the book at the start: nothing is closed, and the running task is that of the start's order
+abbrev pub openedBook : Reply → DispatcherBook
+openedBook first = record { clock = 0; closed = []; task = namedBy first 255 }
+
+-- 01: "An accepted pass that says finished closes that task's latest job"; "Nothing else closes a job"
+abbrev pub closedAfter : Timing → DispatcherBook → Pass → List Job
+closedAfter τ b p = pick (p .finished) (latest τ (b .clock) (b .task) ∷ b .closed) (b .closed)
+
+-- "then the clock rises by d", and the running task is the one that the reply names
+abbrev pub moved : Timing → DispatcherBook → Pass → ℕ → DispatcherBook
+moved τ b p task = record { clock = b .clock + p .d; closed = closedAfter τ b p; task = task }
+
+-- 01: "An accepted pass is one answered with an order. A refused pass changes neither book."
+abbrev pub booked : Timing → DispatcherBook → Pass → Reply → DispatcherBook
+booked τ b p (reply.Run task level hold) = moved τ b p task
+booked τ b p (reply.Idle hold) = moved τ b p 255
+booked τ b p (reply.Refused n) = b
+
+abbrev pub bookedAll : Timing → DispatcherBook → List Answered → DispatcherBook
+bookedAll τ b [] = b
+bookedAll τ b (a ∷ rest) = bookedAll τ (booked τ b (a .pass) (a .reply)) rest
+
+-- 01: "The plain schedule's book is fed the plan and the d of each accepted pass, and runs d ticks for it."
+abbrev pub ran : Timing → Book → Pass → Reply → Book
+ran τ b p (reply.Refused n) = b
+ran τ b p (reply.Run task level hold) = after τ (p .d) b
+ran τ b p (reply.Idle hold) = after τ (p .d) b
+
+abbrev pub ranAll : Timing → Book → List Answered → Book
+ranAll τ b [] = b
+ranAll τ b (a ∷ rest) = ranAll τ (ran τ b (a .pass) (a .reply)) rest
+
+-- 01: "one job for each arrival of each task up to that clock"
+pub record Arrived (τ : Timing) (clock : ℕ) (j : Job) : Type 0 where
+  pub task : j .task < τ .count
+  pub arrival : j .arrival ≤ clock
+  pub multiple : j .arrival % τ .period (j .task) ≡ 0

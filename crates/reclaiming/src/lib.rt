@@ -1,0 +1,16 @@
+// What the dispatcher promises is in specs/ and proofs/. The code has the types alone.
+
+// A task's entry in the state: its plan, the work left of its job and the remaining ticks of that job in the plain schedule.
+pub struct Entry {
+    pub period: u32,
+    pub worst: u32,
+    pub work: u32,
+    pub remaining: u32,
+}
+
+// What starting and passing answer: an order, or a refusal's number.
+pub enum Reply {
+    Run { task: u32, level: u32, hold: u32 },
+    Idle { hold: u32 },
+    Refused(u32),
+}

@@ -1,0 +1,82 @@
+-- `keys_of` meets its contract. The loop has filled in the keys of the tasks below i.
+-- Assumes nothing.
+use Prim.Native.Nat.{ℕ, _-_, _<_, _≤_}
+use mathlib.Core.Path.{_≡_, refl, _∙_}
+use native.Mathlib.Nat.{div-mul-le-self, not-suc-le-zero}
+use native.Mathlib.Omega.{arith}
+use borrow.Author.Needs.{needs}
+use lib.ListN.{length, getD, length-set}
+use Rattle.state.proofs.KeySteps.{latestKey, latest-key, filled-more}
+use Rattle.state.proofs.urgency.keys_of.Statement.{statement}
+use Rattle.state.proofs.urgency.keys_of.Tie as tie
+
+abbrev Inv-loop : tie.InvT-loop
+Inv-loop block count clock keys₀ i₀ keys i =
+    (i ≤ count) × (length keys ≡ 16) × ((k : ℕ) → k < i → getD keys k 0 ≡ latestKey block clock k)
+
+abbrev μ-loop : tie.MeasureT-loop
+μ-loop block count clock keys₀ i₀ keys i = count - i
+
+loop-holds : tie.Need-loop-holds Inv-loop μ-loop
+loop-holds c = (omega arith, refl, λ k h. absurd (not-suc-le-zero h))
+
+period-at-requires : tie.Need-period-at-requires Inv-loop μ-loop
+period-at-requires c κs = search needs
+
+div-at : tie.Need-div-at Inv-loop μ-loop
+div-at c = omega (arith, c .before .before .before .before .pre .1 (c .before .before .loop .i) (c .before .loop-test .taken))
+
+mul-at : tie.Need-mul-at Inv-loop μ-loop
+mul-at c = omega (arith, div-mul-le-self (c .before .before .before .before .args .clock) (c .period-at .result))
+
+add-key-of : tie.Need-add-key-of Inv-loop μ-loop
+add-key-of c = omega (arith, div-mul-le-self (c .before .before .before .before .args .clock) (c .period-at .result), c .period-at .ensures .1)
+
+key-of-requires : tie.Need-key-of-requires Inv-loop μ-loop
+key-of-requires c κs = search needs
+
+mul-keys : tie.Need-mul-keys Inv-loop μ-loop
+mul-keys c = omega arith
+
+array-write-keys : tie.Need-array-write-keys Inv-loop μ-loop
+array-write-keys c = omega arith
+
+add-i : tie.Need-add-i Inv-loop μ-loop
+add-i c = omega arith
+
+loop-less : tie.Need-loop-less Inv-loop μ-loop
+loop-less c = omega arith
+
+loop-again : tie.Need-loop-again Inv-loop μ-loop
+loop-again c = (
+  omega arith,
+  length-set (c .before .before .before .loop .keys) (c .before .before .before .loop .i) (c .key-of .result) ∙ c .before .before .before .loop .inv .1,
+  filled-more (latestKey (c .before .before .before .before .before .args .block .now) (c .before .before .before .before .before .args .clock)) (c .before .before .before .loop .keys) (c .before .before .before .loop .i) (c .key-of .result)
+      (omega (arith, c .before .before .before .loop .inv .1))
+      (latest-key (c .before .before .before .before .before .args .block .now) (c .before .before .before .before .before .args .clock) (c .before .before .before .loop .i) (c .before .period-at .result) (c .key-of .result)
+      (c .before .period-at .ensures .0)
+      (c .key-of .ensures))
+      (c .before .before .before .loop .inv .2),
+)
+
+returns : tie.Need-returns Inv-loop μ-loop
+returns c = λ i h. c .before .loop .inv .2 i (omega arith)
+
+pub keys-of-spec : {M : Type 1} → statement M
+keys-of-spec =
+    tie.close
+    (tie.spec
+    Inv-loop
+    μ-loop
+    loop-holds
+    period-at-requires
+    div-at
+    mul-at
+    add-key-of
+    key-of-requires
+    mul-keys
+    array-write-keys
+    add-i
+    loop-less
+    loop-again
+    returns)

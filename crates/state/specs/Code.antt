@@ -1,0 +1,126 @@
+-- What the code finds in a state's bytes, as the definitions see it.
+-- Assumes nothing.
+use Prim.Native.Nat.{ℕ, zero, suc, _+_, _-_, _*_, _/_, _<_, _≤_, min}
+use mathlib.Core.Path.{_≡_}
+use mathlib.Core.Bool.{Bool, true}
+use mathlib.Core.List.{List, [], _∷_, _++_}
+use lib.Dec.{ltb, eqb}
+use lib.ListN.{length, take, drop, getD}
+use Rattle.arith.specs.Choice.{pick, both}
+use Rattle.arith.specs.Sum.{sumTo}
+use Rattle.arith.specs.Digits.{number, digits}
+use Rattle.schedule.specs.PlainSchedule.{Timing, latest, deadline}
+use Rattle.reclaiming.specs.declared.Entry.{Entry}
+use Rattle.state.specs.declared.Ready.{Ready}
+use Rattle.reclaiming.specs.StateBlock.{State, noEntry, entryFrom, decode, planIn, timing}
+use Rattle.arith.specs.Ranges.{listTo}
+use Rattle.reclaiming.specs.Questions.{largestClock}
+use Rattle.plan.specs.Levels.{baseSpeeds}
+
+-- bytes that may hold a state: 200 of them, of at most 16 tasks
+pub record Holds (bytes : List ℕ) : Type 0 where
+  pub size : length bytes ≡ 200
+  pub few : getD bytes 6 0 ≤ 16
+
+-- entry i of a block
+abbrev pub entryIn : List ℕ → ℕ → Entry
+entryIn bytes i = entryFrom (drop (8 + 12 * i) bytes)
+
+-- whether the two bytes past the fields of each of n entries are zero
+abbrev pub pairsZero : ℕ → List ℕ → Bool
+pairsZero zero bytes = true
+pairsZero (suc n) bytes = both (eqb (number 256 2 (drop 10 bytes)) 0) (pairsZero n (drop 12 bytes))
+
+-- what the plain schedule sees of the plan in a block, at 01's speeds
+abbrev pub timingIn : List ℕ → Timing
+timingIn bytes = timing baseSpeeds (planIn (decode bytes))
+
+-- a function with another value at one place
+abbrev pub changed : (ℕ → ℕ) → ℕ → ℕ → ℕ → ℕ
+changed f i x j = pick (eqb j i) x (f j)
+
+-- the same state with other work and other plain ticks left for each task
+abbrev pub withJobs : State → (ℕ → ℕ) → (ℕ → ℕ) → State
+withJobs s work remaining = record {
+  clock = s .clock;
+  task = s .task;
+  level = s .level;
+  entries = listTo (length (s .entries))
+      (λ i. record {
+        period = getD (s .entries) i noEntry .period;
+        worst = getD (s .entries) i noEntry .worst;
+        work = work i;
+        remaining = remaining i;
+      });
+}
+
+-- the same state at another clock
+abbrev pub withClock : State → ℕ → State
+withClock s clock = record { clock = clock; task = s .task; level = s .level; entries = s .entries }
+
+-- A job's urgency as one number, its key: the deadline, then 65,535 less the period, then the task. The lower is the more urgent, since
+-- of two jobs with one deadline that of the longer period arrived earlier.
+abbrev pub keyOf : ℕ → ℕ → ℕ → ℕ
+keyOf due period i = due * 1048576 + ((65535 - period) * 16 + i)
+
+-- more than any key
+abbrev pub noKey : ℕ
+noKey = 4503599627370496
+
+-- the deadline in a key
+abbrev pub deadlineIn : ℕ → ℕ
+deadlineIn key = key / 1048576
+
+-- the keys of the latest jobs of a schedule's tasks at a clock
+pub record Keyed (τ : Timing) (now : ℕ) (keys : List ℕ) : Type 0 where
+  pub few : τ .count ≤ 16
+  pub low : (i : ℕ) → i < τ .count → 1 ≤ τ .period i
+  pub high : (i : ℕ) → i < τ .count → τ .period i ≤ 65535
+  pub in-range : now ≤ largestClock
+  pub each : (i : ℕ) → i < τ .count → getD keys i 0 ≡ keyOf (deadline τ (latest τ now i)) (τ .period i) i
+
+-- whether task i's job is more urgent than task j's, by their keys
+abbrev pub urgentBy : List ℕ → ℕ → ℕ → Bool
+urgentBy keys i j = ltb (getD keys i 0) (getD keys j 0)
+
+-- the least key of the tasks below n that have something left
+abbrev pub leastKey : List ℕ → (ℕ → ℕ) → ℕ → ℕ
+leastKey keys left zero = noKey
+leastKey keys left (suc i) = pick (eqb (left i) 0) (leastKey keys left i) (min (leastKey keys left i) (getD keys i 0))
+
+-- the number of some bytes at the same place of entry i, counted from the front of the block
+abbrev pub fieldIn : List ℕ → ℕ → ℕ → ℕ → ℕ
+fieldIn bytes at n i = number 256 n (drop (at + 12 * i) bytes)
+
+-- the plain ticks left, of n tasks, of all jobs at least as urgent as one with a key
+abbrev pub allowedBy : List ℕ → (ℕ → ℕ) → ℕ → ℕ → ℕ
+allowedBy keys left n key = sumTo n (λ j. pick (ltb key (getD keys j 0)) 0 (left j))
+
+-- what d ticks leave of task i's plain ticks, of n tasks: those past what all more urgent jobs take
+abbrev pub drainedBy : List ℕ → (ℕ → ℕ) → ℕ → ℕ → ℕ → ℕ
+drainedBy keys left n d i = left i - (d - sumTo n (λ j. pick (urgentBy keys j i) (left j) 0))
+
+-- task i takes its place among others: behind every more urgent one
+abbrev pub placed : List ℕ → ℕ → List ℕ → List ℕ
+placed keys i [] = i ∷ []
+placed keys i (k ∷ q) = pick (urgentBy keys k i) (k ∷ placed keys i q) (i ∷ k ∷ q)
+
+-- the tasks below n that have something left, most urgent first
+abbrev pub readyTo : List ℕ → (ℕ → ℕ) → ℕ → List ℕ
+readyTo keys left zero = []
+readyTo keys left (suc i) = pick (eqb (left i) 0) (readyTo keys left i) (placed keys i (readyTo keys left i))
+
+-- a list of tasks in an array
+pub record Listed (q : List ℕ) (r : Ready) : Type 0 where
+  pub tasks : take (r .len) (r .tasks) ≡ q
+  pub len : r .len ≡ length q
+  pub few : r .len ≤ 16
+
+-- the bytes of a queue, from its tasks and the ticks that each has left
+abbrev pub tasksBytes : (ℕ → ℕ) → List ℕ → List ℕ
+tasksBytes left [] = []
+tasksBytes left (i ∷ q) = i ∷ digits 256 2 (left i) ++ tasksBytes left q
+
+-- whether a key's job has its deadline at a clock
+abbrev pub dueAt : List ℕ → ℕ → ℕ → Bool
+dueAt keys clock i = eqb (deadlineIn (getD keys i 0)) clock

@@ -1,0 +1,169 @@
+// What d ticks make of a state, in its bytes.
+use orders::Choice;
+use state::image::clock_at;
+use state::image::count_at;
+use state::image::period_at;
+use state::image::put_remaining;
+use state::image::put_work;
+use state::image::remaining_at;
+use state::image::work_at;
+use state::image::worst_at;
+use state::urgency::NO_KEY;
+use state::urgency::deadline_in;
+use state::urgency::key_of;
+use state::urgency::most_urgent;
+use state::urgency::task_in;
+ghost use mathlib.Core.Path.{_≡_};
+ghost use mathlib.Core.Bool.{false};
+ghost use Prim.Native.Nat.{ℕ, _+_, _-_, _*_, _%_, _<_, _≤_, min};
+ghost use lib.ListN.{length, getD};
+ghost use lib.Seq.{sets};
+ghost use Rattle.arith.specs.Choice.{pick};
+ghost use Rattle.arith.specs.Need.{need};
+ghost use Rattle.arith.specs.Digits.{digits};
+ghost use Rattle.plan.specs.Levels.{baseSpeeds};
+ghost use Rattle.reclaiming.specs.StateBlock.{State, noEntry, workOf, remainingOf, encode, decode};
+ghost use Rattle.reclaiming.specs.Orders.{nextArrival};
+ghost use Rattle.reclaiming.specs.Passes.{workedOf, movedState};
+ghost use Rattle.reclaiming.specs.Questions.{largestClock};
+ghost use Rattle.state.specs.Code.{entryIn, timingIn, withJobs, keyOf, noKey, dueAt, drainedBy};
+ghost use Rattle.orders.specs.Code.{OrderIn};
+ghost use Rattle.ticks.specs.Code.{Stepping, arrivedState};
+
+// Takes ticks from task i's remaining ones, as many as there are; answers how many it took.
+fn take_from(block: &mut [u8], i: usize, ticks: u32) -> u32
+    requires { ⌜ (i < 16) × (length (now block) ≡ 200) ⌝ }
+    ensures { λ r. ⌜ r ≡ min ticks (entryIn (now (block .entry)) i .remaining) ⌝ }
+    ensures { λ _. ⌜ now (block .exit) ≡ sets (now (block .entry)) (16 + 12 * i) (digits 256 2 (entryIn (now (block .entry)) i .remaining - ticks)) ⌝ }
+{
+    let left = remaining_at(block, i);
+    if ticks < left {
+        put_remaining(block, i, left - ticks);
+        return ticks;
+    }
+    put_remaining(block, i, 0);
+    left
+}
+
+// Takes d ticks from the queue, most urgent entry first.
+fn drain(block: &mut [u8], keys: &[u64; 16], count: usize, d: u32)
+    requires { ⌜ (count ≤ 16) × (length (now block) ≡ 200) ⌝ }
+    requires { ⌜ ((i : ℕ) → i < count → (getD (now keys) i 0 % 16 ≡ i) × (getD (now keys) i 0 < noKey)) ⌝ }
+    ensures { λ _. ⌜ ((s : State) → now (block .entry) ≡ encode s → length (s .entries) ≡ count → ((i : ℕ) → i < count → remainingOf s i ≤ 65535) → now (block .exit) ≡ encode (withJobs s (workOf s) (drainedBy (now (keys .entry)) (remainingOf s) count d))) ⌝ }
+{
+    let mut ticks = d;
+    while 0 < ticks {
+        let first = most_urgent(block, keys, count, 16, 2);
+        if first == NO_KEY {
+            return;
+        }
+        ticks -= take_from(block, task_in(first), ticks);
+    }
+}
+
+// What is left of a where b is taken: nothing where b is more.
+fn less(a: u32, b: u32) -> u32
+    ensures { λ r. ⌜ r ≡ a - b ⌝ }
+{
+    if a < b {
+        return 0;
+    }
+    a - b
+}
+
+// The running job's work falls by d ticks at its level, or is 0 if it finished.
+fn work_off(block: &mut [u8], c: Choice, d: u32, finished: bool)
+    requires { ⌜ (length (now block) ≡ 200) × (d ≤ 65535) × ((c .task ≡ 255 → ⊥) → (c .task < 16) × (c .level < 8)) ⌝ }
+    ensures { λ _. ⌜ ((s : State) → now (block .entry) ≡ encode s → c .task ≡ s .task → c .level ≡ s .level → length (s .entries) ≤ 16 → ((s .task ≡ 255 → ⊥) → (s .task < length (s .entries)) × (workOf s (s .task) ≤ 16777215)) → now (block .exit) ≡ encode (withJobs s (workedOf baseSpeeds s d finished) (remainingOf s))) ⌝ }
+{
+    if c.task == 255 {
+        return;
+    }
+    let i = c.task as usize;
+    if finished {
+        put_work(block, i, 0);
+        return;
+    }
+    let speed = judging::speed_of(c.level as usize);
+    let work = work_at(block, i);
+    put_work(block, i, less(work, d * speed));
+}
+
+// Gives task i a new job with full worst case and allotment.
+fn renew(block: &mut [u8], i: usize, speed: u32)
+    requires { ⌜ (i < 16) × (length (now block) ≡ 200) × (0 < speed) ⌝ }
+    ensures { λ _. ⌜ now (block .exit) ≡ sets (sets (now (block .entry)) (13 + 12 * i) (digits 256 3 (entryIn (now (block .entry)) i .worst))) (16 + 12 * i) (digits 256 2 (need speed (entryIn (now (block .entry)) i .worst))) ⌝ }
+{
+    let worst = worst_at(block, i);
+    put_work(block, i, worst);
+    put_remaining(block, i, numeric::time_needed(speed, worst));
+}
+
+// Gives each task whose deadline is the clock a new job.
+fn arrive(block: &mut [u8], keys: &[u64; 16], count: usize, clock: u32, speed: u32)
+    requires { ⌜ (count ≤ 16) × (length (now block) ≡ 200) × (0 < speed) ⌝ }
+    requires { ⌜ ((i : ℕ) → i < count → getD (now keys) i 0 < noKey) ⌝ }
+    ensures { λ _. ⌜ ((s : State) → now (block .entry) ≡ encode s → length (s .entries) ≡ count → ((i : ℕ) → i < count → getD (s .entries) i noEntry .worst ≤ 16777215) → now (block .exit) ≡ encode (arrivedState (now (keys .entry)) clock speed s)) ⌝ }
+{
+    let mut i: usize = 0;
+    while i < count {
+        if deadline_in(keys[i]) == clock {
+            renew(block, i, speed);
+        }
+        i += 1;
+    }
+}
+
+// The same where it is known whether some deadline is the clock.
+fn arrive_if(block: &mut [u8], keys: &[u64; 16], count: usize, clock: u32, speed: u32, some: bool)
+    requires { ⌜ (count ≤ 16) × (length (now block) ≡ 200) × (0 < speed) ⌝ }
+    requires { ⌜ ((i : ℕ) → i < count → getD (now keys) i 0 < noKey) × (some ≡ false → (i : ℕ) → i < count → dueAt (now keys) clock i ≡ false) ⌝ }
+    ensures { λ _. ⌜ ((s : State) → now (block .entry) ≡ encode s → length (s .entries) ≡ count → ((i : ℕ) → i < count → getD (s .entries) i noEntry .worst ≤ 16777215) → now (block .exit) ≡ encode (arrivedState (now (keys .entry)) clock speed s)) ⌝ }
+{
+    if some {
+        arrive(block, keys, count, clock, speed);
+    }
+}
+
+// The keys at a clock where each task whose deadline is there has a new job.
+pub fn renewed(block: &[u8], keys: &[u64; 16], count: usize, clock: u32) -> [u64; 16]
+    requires { ⌜ (count ≤ 16) × (length (now block) ≡ 200) × (clock ≤ largestClock) ⌝ }
+    requires { ⌜ ((i : ℕ) → i < count → getD (now keys) i 0 < noKey) ⌝ }
+    ensures { λ r. ⌜ ((i : ℕ) → i < count → getD r i 0 ≡ pick (dueAt (now (keys .entry)) clock i) (keyOf (clock + entryIn (now (block .entry)) i .period) (entryIn (now (block .entry)) i .period) i) (getD (now (keys .entry)) i 0)) ⌝ }
+{
+    let mut r = [0u64; 16];
+    let mut i: usize = 0;
+    while i < count {
+        let key = keys[i];
+        r[i] = key;
+        if deadline_in(key) == clock {
+            let period = period_at(block, i);
+            r[i] = key_of(clock + period, period, i);
+        }
+        i += 1;
+    }
+    r
+}
+
+// Moves a state on by d ticks, before an order is chosen.
+pub fn move_on(
+    block: &mut [u8],
+    keys: &[u64; 16],
+    c: Choice,
+    highest: usize,
+    next: u32,
+    d: u32,
+    finished: bool,
+)
+    requires { ⌜ Stepping (now block) (now keys) highest d × OrderIn (decode (now block)) c ⌝ }
+    requires { ⌜ next ≡ nextArrival (timingIn (now block)) (decode (now block) .clock) ⌝ }
+    ensures { λ _. ⌜ now (block .exit) ≡ encode (movedState baseSpeeds (timingIn (now (block .entry))) (decode (now (block .entry))) d finished) ⌝ }
+{
+    let count = count_at(block);
+    let clock = clock_at(block) + d;
+    let speed = judging::speed_of(highest);
+    drain(block, keys, count, d);
+    work_off(block, c, d, finished);
+    numeric::put_number(block, 0, 4, clock);
+    arrive_if(block, keys, count, clock, speed, d == next);
+}

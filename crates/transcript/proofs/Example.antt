@@ -1,0 +1,42 @@
+-- 01, "The bench program": its example, computed from the definitions byte for byte.
+-- Assumes nothing.
+use Prim.Native.Nat.{ℕ}
+use mathlib.Core.Path.{_≡_, refl}
+use mathlib.Core.List.{List, [], _∷_, _++_}
+use Rattle.arith.specs.Need.{need}
+use Rattle.arith.specs.Divisor.{gcd, lcm}
+use Rattle.plan.specs.Levels.{baseSpeeds}
+use Rattle.schedule.specs.PlainSchedule.{moreUrgent}
+use Rattle.reclaiming.specs.Cases.{benchBlock}
+use Rattle.transcript.specs.Listing.{listing}
+
+-- "the plan (10, 400), (10, 400), (30, 600), then hex 8001 8007 8002 8004 8004 0002"
+abbrev pub benchInput : List ℕ
+benchInput =
+    benchBlock
+    ++ (0x80 ∷ 0x01 ∷ 0x80 ∷ 0x07 ∷ 0x80 ∷ 0x02 ∷ 0x80 ∷ 0x04 ∷ 0x80 ∷ 0x04 ∷ 0x00 ∷ 0x02 ∷ [])
+
+-- "Output, whole:"
+abbrev pub benchOutput : List ℕ
+benchOutput =
+    -- "plan 3 7 30"
+    112 ∷ 108 ∷ 97 ∷ 110 ∷ 32 ∷ 51 ∷ 32 ∷ 55 ∷ 32 ∷ 51 ∷ 48 ∷ 10
+    -- "0 run 0 7 4"
+    ∷ 48 ∷ 32 ∷ 114 ∷ 117 ∷ 110 ∷ 32 ∷ 48 ∷ 32 ∷ 55 ∷ 32 ∷ 52 ∷ 10
+    -- "1 run 1 5 7"
+    ∷ 49 ∷ 32 ∷ 114 ∷ 117 ∷ 110 ∷ 32 ∷ 49 ∷ 32 ∷ 53 ∷ 32 ∷ 55 ∷ 10
+    -- "8 run 2 7 2"
+    ∷ 56 ∷ 32 ∷ 114 ∷ 117 ∷ 110 ∷ 32 ∷ 50 ∷ 32 ∷ 55 ∷ 32 ∷ 50 ∷ 10
+    -- "10 run 0 7 4"
+    ∷ 49 ∷ 48 ∷ 32 ∷ 114 ∷ 117 ∷ 110 ∷ 32 ∷ 48 ∷ 32 ∷ 55 ∷ 32 ∷ 52 ∷ 10
+    -- "14 run 1 7 4"
+    ∷ 49 ∷ 52 ∷ 32 ∷ 114 ∷ 117 ∷ 110 ∷ 32 ∷ 49 ∷ 32 ∷ 55 ∷ 32 ∷ 52 ∷ 10
+    -- "18 idle 2"
+    ∷ 49 ∷ 56 ∷ 32 ∷ 105 ∷ 100 ∷ 108 ∷ 101 ∷ 32 ∷ 50 ∷ 10
+    -- "20 run 0 6 5"
+    ∷ 50 ∷ 48 ∷ 32 ∷ 114 ∷ 117 ∷ 110 ∷ 32 ∷ 48 ∷ 32 ∷ 54 ∷ 32 ∷ 53 ∷ 10
+    ∷ []
+
+pub bench-example : listing baseSpeeds benchInput ≡ benchOutput
+unfolding need lcm gcd moreUrgent
+bench-example = refl

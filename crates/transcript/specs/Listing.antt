@@ -1,0 +1,85 @@
+-- 01, "The bench program": the listing of an input, every byte of it.
+-- Assumes nothing.
+use Prim.Native.Nat.{ℕ, _+_, _*_, _%_, min}
+use mathlib.Core.Bool.{Bool}
+use mathlib.Core.List.{List, [], _∷_, _++_}
+use lib.Dec.{leb}
+use lib.ListN.{length, take, drop, replicate}
+use Rattle.arith.specs.Choice.{pick}
+use Rattle.plan.specs.declared.Judged.{Judged}
+use Rattle.plan.specs.declared.Verdict.{Verdict}
+use Rattle.plan.specs.declared.Verdict.the-variants as verdict
+use Rattle.plan.specs.Blocks.{countIn, blockLength}
+use Rattle.arith.specs.Asking.{within}
+use Rattle.plan.specs.Answers.{readBlock}
+use Rattle.reclaiming.specs.declared.Reply.{Reply}
+use Rattle.reclaiming.specs.declared.Reply.the-variants as reply
+use Rattle.reclaiming.specs.Calls.{startReply, startBuffer, passReply, passBytes}
+use Rattle.transcript.specs.Text.{decimal, spaced, lineEnd, planWord, runWord, idleWord, refusedWord}
+
+-- 01: "First line: count, nominal level, hyperperiod."
+abbrev pub planLine : ℕ → ℕ → ℕ → List ℕ
+planLine count level span = planWord ++ (spaced count ++ (spaced level ++ (spaced span ++ lineEnd)))
+
+-- 01: "A refusal's line is "refused" and the number."
+abbrev pub refusedLine : ℕ → List ℕ
+refusedLine n = refusedWord ++ (spaced n ++ lineEnd)
+
+-- 01: "clock, then run, task, level, hold; or idle, hold"
+abbrev pub replyLine : ℕ → Reply → List ℕ
+replyLine clock (reply.Run task level hold) =
+    decimal clock ++ (32 ∷ runWord ++ (spaced task ++ (spaced level ++ (spaced hold ++ lineEnd))))
+replyLine clock (reply.Idle hold) = decimal clock ++ (32 ∷ idleWord ++ (spaced hold ++ lineEnd))
+replyLine clock (reply.Refused n) = refusedLine n
+
+-- 01: "The reader is given as many bytes as the count needs, or all there are if fewer, or if the count is bad."
+abbrev pub planCut : List ℕ → ℕ
+planCut input = pick (within 1 16 (countIn input)) (min (blockLength (countIn input)) (length input)) (length input)
+
+-- the clock after a reply: it rises by d where the pass was accepted
+abbrev pub clockAfter : ℕ → ℕ → Reply → ℕ
+clockAfter clock d (reply.Run task level hold) = clock + d
+clockAfter clock d (reply.Idle hold) = clock + d
+clockAfter clock d (reply.Refused n) = clock
+
+-- 01: "passes, which follow the block without a gap, two bytes each (1 bit finished, 15 bits d)"; "A refused pass prints its line and
+-- the next is read."; "At the end: is no odd byte left? 16."
+abbrev pub passLines : List ℕ → List ℕ → ℕ → List ℕ → List ℕ
+passLines speeds state clock [] = []
+passLines speeds state clock (odd ∷ []) = refusedLine 16
+passLines speeds state clock (high ∷ low ∷ rest) =
+    let d : ℕ = high % 128 * 256 + low in
+    let finished : Bool = leb 128 high in
+    let answer : Reply = passReply speeds state d finished in
+    replyLine (clockAfter clock d answer) answer
+    ++ passLines speeds (passBytes speeds state d finished) (clockAfter clock d answer) rest
+
+-- the state's bytes after all passes
+abbrev pub passStates : List ℕ → List ℕ → List ℕ → List ℕ
+passStates speeds state [] = state
+passStates speeds state (odd ∷ []) = state
+passStates speeds state (high ∷ low ∷ rest) =
+    passStates speeds (passBytes speeds state (high % 128 * 256 + low) (leb 128 high)) rest
+
+-- the lines from the start on
+abbrev pub startedLines : List ℕ → List ℕ → List ℕ → List ℕ
+startedLines speeds block passes =
+    replyLine 0 (startReply speeds block 200)
+    ++ passLines speeds (startBuffer speeds block (replicate 200 0)) 0 passes
+
+-- the lines from a plan that was read on; "If the reading is refused, the bench program prints that line and ends."
+abbrev pub judgedLines : List ℕ → List ℕ → Verdict → ℕ → List ℕ → List ℕ
+judgedLines speeds block (verdict.Refused n) count passes = refusedLine n
+judgedLines speeds block (verdict.Admitted level span) count passes =
+    planLine count level span ++ startedLines speeds block passes
+
+abbrev pub readLines : List ℕ → List ℕ → Judged → List ℕ → List ℕ
+readLines speeds block judged passes = judgedLines speeds block (judged .verdict) (judged .plan .count) passes
+
+-- 01: "The bench program asks before all: is the input at most 65,536 bytes? 17."
+abbrev pub listing : List ℕ → List ℕ → List ℕ
+listing speeds input =
+    let cut : ℕ = planCut input in
+    pick (leb (length input) 65536)
+    (readLines speeds (take cut input) (readBlock speeds (take cut input)) (drop cut input))
+    (refusedLine 17)

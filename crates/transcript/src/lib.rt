@@ -1,0 +1,1 @@
+// The listing of the bench program. Its definition is in specs/.
