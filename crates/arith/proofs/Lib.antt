@@ -10,3 +10,4 @@ pub mod RangeLaws
 pub mod Searches
 pub mod ListLaws
 pub mod Loops
+pub mod ArrayLaws

@@ -6,3 +6,4 @@ pub mod Digits
 pub mod Bits
 pub mod Asking
 pub mod Ranges
+pub mod Arrays

@@ -1,11 +1,12 @@
 -- 01, "Blocks": the plan block, bit by bit, and the plan as a value.
 -- Assumes nothing.
-use Prim.Native.Nat.{ℕ, zero, suc, _+_, _-_, _*_}
+use Prim.Native.Nat.{ℕ, zero, suc, _+_, _*_}
 use mathlib.Core.List.{List, [], _∷_, _++_}
-use lib.ListN.{length, take, drop, replicate}
+use lib.ListN.{length, take, drop}
 use Rattle.arith.specs.Need.{need}
 use Rattle.arith.specs.Digits.{number, digits}
 use Rattle.arith.specs.Bits.{unpacked, packed}
+use Rattle.arith.specs.Arrays.{padded}
 use Rattle.plan.specs.declared.Task.{Task}
 use Rattle.plan.specs.declared.Plan.{Plan}
 
@@ -61,4 +62,4 @@ abbrev pub noTask : Task
 noTask = record { period = 0; worst = 0 }
 
 abbrev pub planOf : List Task → Plan
-planOf ts = record { count = length ts; tasks = ts ++ replicate (16 - length ts) noTask }
+planOf ts = record { count = length ts; tasks = padded 16 noTask ts }
