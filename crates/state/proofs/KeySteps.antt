@@ -9,27 +9,24 @@ use native.Mathlib.Decide.{ℕ-discrete}
 use native.Mathlib.Omega.{arith}
 use borrow.Author.Tests.{lt-ltb, le-ltb, eq-eqb, ne-eqb}
 use lib.Dec.{ltb}
-use lib.ListN.{length, getD, set}
+use lib.ListN.{getD, set}
 use Rattle.arith.specs.Choice.{pick}
-use Rattle.arith.proofs.Loops.{values-more}
+use Rattle.arith.proofs.ArrayLaws.{values-more}
 use Rattle.arith.specs.Ranges.{leastTo}
-use Rattle.state.specs.Code.{entryIn, keyOf, noKey, deadlineIn, leastKey, allowedBy}
+use Rattle.state.specs.Code.{entryIn, keyOf, noKey, deadlineIn, latestKey, keysIn, leastKey, allowedBy}
 use Rattle.arith.proofs.RangeLaws.{Attained, least-at}
 
--- the key of the latest job of a block's task at a clock
-abbrev pub latestKey : List ℕ → ℕ → ℕ → ℕ
-latestKey block clock i =
-    keyOf (clock / entryIn block i .period * entryIn block i .period + entryIn block i .period) (entryIn block i .period) i
-
--- it is found from the task's period
-pub latest-key : (block : List ℕ) (clock i p x : ℕ) → p ≡ entryIn block i .period → x ≡ keyOf (clock / p * p + p) p i → x ≡ latestKey block clock i
-latest-key block clock i p x e f = f ∙ ap (λ (y : ℕ). keyOf (clock / y * y + y) y i) e
-
--- a list that has f i at each place below n gets f n at n
-pub filled-more :
-    (f : ℕ → ℕ) (s : List ℕ) (n x : ℕ) → n < length s → x ≡ f n → ((i : ℕ) → i < n → getD s i 0 ≡ f i) →
-    (i : ℕ) → i < n + 1 → getD (set s n x) i 0 ≡ f i
-filled-more f s n x h e all i k = subst (λ (y : ℕ). getD (set s n y) i 0 ≡ f i) (sym e) (values-more f s n h all i k)
+-- one task more that has its key
+pub keys-more :
+    (block : List ℕ) (clock i p x : ℕ) (keys : List ℕ) →
+    i < 16 →
+    keys ≡ keysIn block i clock →
+    p ≡ entryIn block i .period →
+    x ≡ keyOf (clock / p * p + p) p i →
+    set keys i x ≡ keysIn block (i + 1) clock
+keys-more block clock i p x keys h inv e f =
+    values-more 16 0 (λ k. latestKey clock (entryIn block k .period) k) keys i x h inv
+    (f ∙ ap (λ (y : ℕ). latestKey clock y i) e)
 
 -- one task more of a least key: its own key counts where it has something left
 pub key-more :

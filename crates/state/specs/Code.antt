@@ -4,9 +4,9 @@ use Prim.Native.Nat.{ℕ, zero, suc, _+_, _-_, _*_, _/_, _<_, _≤_, min}
 use mathlib.Core.Path.{_≡_}
 use mathlib.Core.Bool.{Bool, true}
 use mathlib.Core.List.{List, [], _∷_, _++_}
-use lib.Dec.{ltb, eqb}
-use lib.ListN.{length, take, drop, getD}
-use Rattle.arith.specs.Choice.{pick, both}
+use lib.Dec.{leb, ltb, eqb}
+use lib.ListN.{length, drop, getD}
+use Rattle.arith.specs.Choice.{pick, both, first}
 use Rattle.arith.specs.Sum.{sumTo}
 use Rattle.arith.specs.Digits.{number, digits}
 use Rattle.schedule.specs.PlainSchedule.{Timing, latest, deadline}
@@ -14,6 +14,7 @@ use Rattle.reclaiming.specs.declared.Entry.{Entry}
 use Rattle.state.specs.declared.Ready.{Ready}
 use Rattle.reclaiming.specs.StateBlock.{State, noEntry, entryFrom, decode, planIn, timing}
 use Rattle.arith.specs.Ranges.{listTo}
+use Rattle.arith.specs.Arrays.{padded}
 use Rattle.reclaiming.specs.Questions.{largestClock}
 use Rattle.plan.specs.Levels.{baseSpeeds}
 
@@ -79,6 +80,14 @@ pub record Keyed (τ : Timing) (now : ℕ) (keys : List ℕ) : Type 0 where
   pub in-range : now ≤ largestClock
   pub each : (i : ℕ) → i < τ .count → getD keys i 0 ≡ keyOf (deadline τ (latest τ now i)) (τ .period i) i
 
+-- the key of task i's latest job at a clock, by its period
+abbrev pub latestKey : ℕ → ℕ → ℕ → ℕ
+latestKey clock period i = keyOf (clock / period * period + period) period i
+
+-- the keys of the first so many tasks of a block at a clock; zeros past them
+abbrev pub keysIn : List ℕ → ℕ → ℕ → List ℕ
+keysIn bytes count clock = padded 16 0 (listTo count (λ i. latestKey clock (entryIn bytes i .period) i))
+
 -- whether task i's job is more urgent than task j's, by their keys
 abbrev pub urgentBy : List ℕ → ℕ → ℕ → Bool
 urgentBy keys i j = ltb (getD keys i 0) (getD keys j 0)
@@ -100,6 +109,10 @@ allowedBy keys left n key = sumTo n (λ j. pick (ltb key (getD keys j 0)) 0 (lef
 abbrev pub drainedBy : List ℕ → (ℕ → ℕ) → ℕ → ℕ → ℕ → ℕ
 drainedBy keys left n d i = left i - (d - sumTo n (λ j. pick (urgentBy keys j i) (left j) 0))
 
+-- the place of task i among others: that of the first which is not more urgent
+abbrev pub placeOf : List ℕ → ℕ → List ℕ → ℕ
+placeOf keys i q = first (λ (k : ℕ). leb (getD keys i 0) (getD keys k 0)) q
+
 -- task i takes its place among others: behind every more urgent one
 abbrev pub placed : List ℕ → ℕ → List ℕ → List ℕ
 placed keys i [] = i ∷ []
@@ -110,11 +123,9 @@ abbrev pub readyTo : List ℕ → (ℕ → ℕ) → ℕ → List ℕ
 readyTo keys left zero = []
 readyTo keys left (suc i) = pick (eqb (left i) 0) (readyTo keys left i) (placed keys i (readyTo keys left i))
 
--- a list of tasks in an array
-pub record Listed (q : List ℕ) (r : Ready) : Type 0 where
-  pub tasks : take (r .len) (r .tasks) ≡ q
-  pub len : r .len ≡ length q
-  pub few : r .len ≤ 16
+-- a list of tasks as the code holds it; zeros past it
+abbrev pub readyOf : List ℕ → Ready
+readyOf q = record { len = length q; tasks = padded 16 0 q }
 
 -- the bytes of a queue, from its tasks and the ticks that each has left
 abbrev pub tasksBytes : (ℕ → ℕ) → List ℕ → List ℕ

@@ -1,24 +1,25 @@
 -- `keys_of` meets its contract. The loop has filled in the keys of the tasks below i.
 -- Assumes nothing.
-use Prim.Native.Nat.{ℕ, _-_, _<_, _≤_}
-use mathlib.Core.Path.{_≡_, refl, _∙_}
-use native.Mathlib.Nat.{div-mul-le-self, not-suc-le-zero}
+use Prim.Native.Nat.{ℕ, _-_, _≤_}
+use mathlib.Core.Path.{_≡_, refl, ap, _∙_}
+use native.Mathlib.Nat.{div-mul-le-self}
 use native.Mathlib.Omega.{arith}
 use borrow.Author.Needs.{needs}
-use lib.ListN.{length, getD, length-set}
-use Rattle.state.proofs.KeySteps.{latestKey, latest-key, filled-more}
+use lib.ListN.{length, length-set}
+use Rattle.state.specs.Code.{keysIn}
+use Rattle.state.proofs.KeySteps.{keys-more}
 use Rattle.state.proofs.urgency.keys_of.Statement.{statement}
 use Rattle.state.proofs.urgency.keys_of.Tie as tie
 
 abbrev Inv-loop : tie.InvT-loop
 Inv-loop block count clock keys₀ i₀ keys i =
-    (i ≤ count) × (length keys ≡ 16) × ((k : ℕ) → k < i → getD keys k 0 ≡ latestKey block clock k)
+    (i ≤ count) × (length keys ≡ 16) × (keys ≡ keysIn block i clock)
 
 abbrev μ-loop : tie.MeasureT-loop
 μ-loop block count clock keys₀ i₀ keys i = count - i
 
 loop-holds : tie.Need-loop-holds Inv-loop μ-loop
-loop-holds c = (omega arith, refl, λ k h. absurd (not-suc-le-zero h))
+loop-holds c = (omega arith, refl, refl)
 
 period-at-requires : tie.Need-period-at-requires Inv-loop μ-loop
 period-at-requires c κs = search needs
@@ -51,16 +52,13 @@ loop-again : tie.Need-loop-again Inv-loop μ-loop
 loop-again c = (
   omega arith,
   length-set (c .before .before .before .loop .keys) (c .before .before .before .loop .i) (c .key-of .result) ∙ c .before .before .before .loop .inv .1,
-  filled-more (latestKey (c .before .before .before .before .before .args .block .now) (c .before .before .before .before .before .args .clock)) (c .before .before .before .loop .keys) (c .before .before .before .loop .i) (c .key-of .result)
-      (omega (arith, c .before .before .before .loop .inv .1))
-      (latest-key (c .before .before .before .before .before .args .block .now) (c .before .before .before .before .before .args .clock) (c .before .before .before .loop .i) (c .before .period-at .result) (c .key-of .result)
-      (c .before .period-at .ensures .0)
-      (c .key-of .ensures))
-      (c .before .before .before .loop .inv .2),
+  keys-more _ _ _ (c .before .period-at .result) _ _ (omega arith) (c .before .before .before .loop .inv .2) (c .before .period-at .ensures .0) (c .key-of .ensures),
 )
 
 returns : tie.Need-returns Inv-loop μ-loop
-returns c = λ i h. c .before .loop .inv .2 i (omega arith)
+returns c =
+    let e : c .before .loop .i ≡ c .before .before .before .args .count = omega arith in
+    c .before .loop .inv .2 ∙ ap (λ (n : ℕ). keysIn (c .before .before .before .args .block .now) n (c .before .before .before .args .clock)) e
 
 pub keys-of-spec : {M : Type 1} → statement M
 keys-of-spec =
