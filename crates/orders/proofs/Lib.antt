@@ -1,3 +1,4 @@
 pub mod NeedTests
+pub mod SoundFacts
 pub mod SoundLaws
 pub mod OrderLaws

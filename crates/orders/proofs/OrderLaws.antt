@@ -15,6 +15,7 @@ use lib.Seq.{sets}
 use Rattle.arith.specs.Choice.{pick}
 use Rattle.arith.specs.Need.{need}
 use Rattle.arith.specs.Digits.{digits}
+use Rattle.arith.proofs.Tests.{passed, failed, tested}
 use Rattle.arith.proofs.Needs.{need-faster}
 use Rattle.arith.proofs.Sums.{sumTo-eq}
 use Rattle.plan.specs.Levels.{baseSpeeds, speedOf}
@@ -30,7 +31,7 @@ use Rattle.reclaiming.specs.Orders.{nextArrival, allowance, openJobs, lowestLev
 use Rattle.arith.specs.Ranges.{leastTo}
 use Rattle.reclaiming.specs.Questions.{runningTime}
 use Rattle.state.specs.Code.{Holds, entryIn, timingIn, Keyed, noKey, deadlineIn, leastKey, fieldIn, allowedBy}
-use Rattle.orders.specs.Code.{OrderIn, Runnable, Doable}
+use Rattle.orders.specs.Code.{choiceOf, runOf, holdBy, orderOf, Runnable, Doable}
 use Rattle.reclaiming.proofs.OrderFacts.{head-below}
 use Rattle.reclaiming.proofs.Allowances.{allowance-is}
 use Rattle.state.proofs.BlockLaws.{count-in, entry-at, store-order}
@@ -79,26 +80,24 @@ module _ (work allowed : ℕ) where
   level-some le = omega (arith, level-high 7 100 (omega arith) refl (omega arith))
 
 -- the hold, by each way out
-module _ (task time next : ℕ) where
-  pub hold-idle : task ≡ 255 → next ≡ pick (eqb task 255) next (min time next)
-  hold-idle e = simp (eq-eqb task 255 e)
+module _ (c : Choice) (next : ℕ) where
+  pub hold-idle : c .task ≡ 255 → next ≡ holdBy c next
+  hold-idle e = simp (eq-eqb (c .task) 255 e)
 
-  module _ (some : task ≡ 255 → ⊥) where
-    pub hold-time : time < next → time ≡ pick (eqb task 255) next (min time next)
-    hold-time lt = rw (ne-eqb task 255 some) (omega arith)
+  module _ (some : c .task ≡ 255 → ⊥) where
+    pub hold-time : c .time < next → c .time ≡ holdBy c next
+    hold-time lt = rw (ne-eqb (c .task) 255 some) (omega arith)
 
-    pub hold-next : next ≤ time → next ≡ pick (eqb task 255) next (min time next)
-    hold-next le = rw (ne-eqb task 255 some) (omega arith)
+    pub hold-next : next ≤ c .time → next ≡ holdBy c next
+    hold-next le = rw (ne-eqb (c .task) 255 some) (omega arith)
 
 -- the order, by each way out
-module _ (task level hold : ℕ) where
-  pub order-idle : task ≡ 255 → (s : State) → task ≡ s .task → level ≡ s .level → reply.Idle hold ≡ orderWith s hold
-  order-idle e s a b = simp (eq-eqb (s .task) 255 (sym a ∙ e))
+module _ (c : Choice) (hold : ℕ) where
+  pub order-idle : c .task ≡ 255 → reply.Idle hold ≡ orderOf c hold
+  order-idle e = simp (eq-eqb (c .task) 255 e)
 
-  pub order-run :
-      (task ≡ 255 → ⊥) → (s : State) → task ≡ s .task → level ≡ s .level → reply.Run task level hold ≡ orderWith s hold
-  order-run ne s a b =
-      ap₂ (λ (x y : ℕ). reply.Run x y hold) a b ∙ simp (ne-eqb (s .task) 255 (λ z. ne (a ∙ z)))
+  pub order-run : (c .task ≡ 255 → ⊥) → reply.Run (c .task) (c .level) hold ≡ orderOf c hold
+  order-run ne = simp (ne-eqb (c .task) 255 ne)
 
 -- the order that is chosen, from the head of the open jobs
 module _ (τ : Timing) (s : State) (l : List ℕ) (keyed : Keyed τ (s .clock) l) where
@@ -130,127 +129,139 @@ record Head (b l : List ℕ) (best i : ℕ) : Type 0 where
       chooseOrder baseSpeeds (timingIn b) (decode b)
       ≡ withOrder (decode b) i (lowestLevel baseSpeeds (workOf (decode b) i) (allowance (timingIn b) (decode b) i))
 
-module _ (b l : List ℕ) (holds : Holds b) (doable : Doable (decode b)) (keyed : Keyed (timingIn b) (decode b .clock) l)
-    (count : ℕ) (same : count ≡ getD b 6 0) (best : ℕ) (found : best ≡ leastKey l (fieldIn b 13 3) count) where
+-- the most urgent open job was looked for among a block's keys
+pub record Looked (b l : List ℕ) (count best : ℕ) : Type 0 where
+  pub holds : Holds b
+  pub doable : Doable (decode b)
+  pub keyed : Keyed (timingIn b) (decode b .clock) l
+  pub same : count ≡ getD b 6 0
+  pub found : best ≡ leastKey l (fieldIn b 13 3) count
+
+-- it was found, with its work, its allowance and its level
+pub record Picked (b l : List ℕ) (count best i work allowed level : ℕ) : Type 0 where
+  pub looked : Looked b l count best
+  pub some : best ≡ noKey → ⊥
+  pub task : i ≡ best % 16
+  pub work-is : work ≡ entryIn b i .work
+  pub allowed-is : allowed ≡ allowedBy l (λ j. entryIn b j .remaining) count best
+  pub level-is : level ≡ lowestLevel baseSpeeds work allowed
+
+module _ {b l : List ℕ} {count best : ℕ} (k : Looked b l count best) where
   abbrev τ : Timing
   τ = timingIn b
 
   abbrev s : State
   s = decode b
 
-  count-is : count ≡ τ .count
-  count-is = same ∙ sym (timing-count b)
-
   best-is : best ≡ keys.headKey l (openJobs τ s)
-  best-is = open-head b l count best same keyed found
+  best-is = open-head b l count best (k .same) (k .keyed) (k .found)
 
   -- no job is open
-  pub chosen-none :
-      best ≡ noKey →
-      (r : Choice) →
-      r .task ≡ 255 →
-      r .level ≡ 0 →
-      OrderIn (chooseOrder baseSpeeds τ s) r × ((r .task < 256) × (r .level < 256))
-  chosen-none e r t v =
-      let o : withOrder s 255 0 ≡ chooseOrder baseSpeeds τ s = head-none τ s l keyed (openJobs τ s) refl (sym best-is ∙ e) in (
-        subst (λ (x : State). OrderIn x r) o record { task = t; level = v; time = λ ne. absurd (ne t) },
-        (omega arith, omega arith),
-      )
+  pub chosen-none : best ≡ noKey → _≡_ {A = Choice} (record { task = 255; level = 0; time = 0 }) (choiceOf (chooseOrder baseSpeeds τ s))
+  chosen-none e = ap choiceOf (head-none τ s l (k .keyed) (openJobs τ s) refl (sym best-is ∙ e))
 
   -- one is
-  module _ (some : best ≡ noKey → ⊥) (i : ℕ) (task : i ≡ best % 16) where
-    head : Head b l best i
-    head =
-        let q : List Pending = openJobs τ s in
-        let x : ℕ = keys.headTask q in
-        let n : keys.headKey l q ≡ noKey → ⊥ = λ z. some (best-is ∙ z) in
-        let k : best ≡ getD l x 0 = best-is ∙ head-key τ s l keyed q refl n in
-        let h : x < τ .count = head-small τ s l keyed q refl n in
-        let e : x ≡ i = sym (task ∙ ap (λ (y : ℕ). y % 16) k ∙ keys.key-task τ (s .clock) l keyed x h) in
-        record {
-          below = subst (λ (y : ℕ). y < getD b 6 0) e (omega (arith, timing-count b));
-          key = k ∙ ap (λ (y : ℕ). getD l y 0) e;
-          order =
-              sym (head-some τ s l keyed q refl n)
-              ∙ ap (λ (y : ℕ). withOrder s y (lowestLevel baseSpeeds (workOf s y) (allowance τ s y))) e;
-        }
+  head : (best ≡ noKey → ⊥) → (i : ℕ) → i ≡ best % 16 → Head b l best i
+  head some i task =
+      let q : List Pending = openJobs τ s in
+      let x : ℕ = keys.headTask q in
+      let n : keys.headKey l q ≡ noKey → ⊥ = λ z. some (best-is ∙ z) in
+      let y : best ≡ getD l x 0 = best-is ∙ head-key τ s l (k .keyed) q refl n in
+      let h : x < τ .count = head-small τ s l (k .keyed) q refl n in
+      let e : x ≡ i = sym (task ∙ ap (λ (z : ℕ). z % 16) y ∙ keys.key-task τ (s .clock) l (k .keyed) x h) in
+      record {
+        below = subst (λ (z : ℕ). z < getD b 6 0) e (omega (arith, timing-count b));
+        key = y ∙ ap (λ (z : ℕ). getD l z 0) e;
+        order =
+            sym (head-some τ s l (k .keyed) q refl n)
+            ∙ ap (λ (z : ℕ). withOrder s z (lowestLevel baseSpeeds (workOf s z) (allowance τ s z))) e;
+      }
 
-    module _ (work allowed level : ℕ) (w : work ≡ entryIn b i .work) (a : allowed ≡ allowedBy l (λ j. entryIn b j .remaining) count best)
-        (v : level ≡ lowestLevel baseSpeeds work allowed) where
-      work-is : work ≡ workOf s i
-      work-is = w ∙ sym (ap (λ (e : Entry). e .work) (entry-at b i (head .below)))
+module _ {b l : List ℕ} {count best i work allowed level : ℕ} (p : Picked b l count best i work allowed level) where
+  abbrev S : State
+  S = decode b
 
-      allowed-is : allowed ≡ allowance τ s i
-      allowed-is =
-          a
-          ∙ sumTo-eq count (λ j. pick (ltb best (getD l j 0)) 0 (entryIn b j .remaining)) (λ j. pick (ltb best (getD l j 0)) 0 (remainingOf s j))
-          (λ j h. ap (λ (e : Entry). pick (ltb best (getD l j 0)) 0 (e .remaining)) (sym (entry-at b j (omega arith))))
-          ∙ ap₂ (λ (n k : ℕ). allowedBy l (remainingOf s) n k) count-is (head .key)
-          ∙ keys.allowance-is τ s l keyed i (omega (arith, head .below, timing-count b))
+  abbrev T : Timing
+  T = timingIn b
 
-      -- the level is one of the eight: the top one does the work
-      pub chosen-level : level < 8
-      chosen-level =
-          let own : remainingOf s i ≤ allowance τ s i =
-          omega (arith, allowance-is τ (s .clock) (remainingOf s) (τ .count) i (omega (arith, head .below, timing-count b))) in
-          let can : workOf s i ≤ remainingOf s i * 100 = doable i (omega (arith, head .below, count-in b)) in
-          omega (arith, v, level-some work allowed (omega (arith, work-is, allowed-is)))
+  abbrev lowest : ℕ
+  lowest = lowestLevel baseSpeeds (workOf S i) (allowance T S i)
 
-      pub chosen-some :
-          (r : Choice) →
-          (r .task ≡ i) × (r .level ≡ level) × (r .time ≡ need (speedOf baseSpeeds level) work) →
-          OrderIn (chooseOrder baseSpeeds τ s) r × ((r .task < 256) × (r .level < 256))
-      chosen-some r h =
-          let e : level ≡ lowestLevel baseSpeeds (workOf s i) (allowance τ s i) = v ∙ ap₂ (lowestLevel baseSpeeds) work-is allowed-is in
-          let t : r .time ≡ need (speedOf baseSpeeds (lowestLevel baseSpeeds (workOf s i) (allowance τ s i))) (workOf s i) =
-          h .2 ∙ ap₂ (λ (x y : ℕ). need (speedOf baseSpeeds x) y) e work-is in (
-            subst (λ (x : State). OrderIn x r) (sym (head .order)) record { task = h .0; level = h .1 ∙ e; time = λ ne. t },
-            (omega (arith, h .0, head .below, holds .few), omega (arith, h .1, chosen-level)),
-          )
+  first-open : Head b l best i
+  first-open = head (p .looked) (p .some) i (p .task)
+
+  within : i < T .count
+  within = omega (arith, first-open .below, timing-count b)
+
+  work-left : work ≡ workOf S i
+  work-left = p .work-is ∙ sym (ap (λ (e : Entry). e .work) (entry-at b i (first-open .below)))
+
+  allowed-ticks : allowed ≡ allowance T S i
+  allowed-ticks =
+      let counted : count ≡ T .count = p .looked .same ∙ sym (timing-count b) in
+      p .allowed-is
+      ∙ sumTo-eq count (λ j. pick (ltb best (getD l j 0)) 0 (entryIn b j .remaining)) (λ j. pick (ltb best (getD l j 0)) 0 (remainingOf S j))
+      (λ j h. ap (λ (e : Entry). pick (ltb best (getD l j 0)) 0 (e .remaining)) (sym (entry-at b j (omega (arith, p .looked .same)))))
+      ∙ ap₂ (λ (n k : ℕ). allowedBy l (remainingOf S) n k) counted (first-open .key)
+      ∙ keys.allowance-is T S l (p .looked .keyed) i within
+
+  level-lowest : level ≡ lowest
+  level-lowest = p .level-is ∙ ap₂ (lowestLevel baseSpeeds) work-left allowed-ticks
+
+  -- the task is one of the sixteen, and the level is one of the eight: the top one does the work
+  pub chosen-task : i < 16
+  chosen-task = omega (arith, first-open .below, p .looked .holds .few)
+
+  pub chosen-level : level < 8
+  chosen-level =
+      let own : remainingOf S i ≤ allowance T S i = omega (arith, allowance-is T (S .clock) (remainingOf S) (T .count) i within) in
+      let can : workOf S i ≤ remainingOf S i * 100 = p .looked .doable i (omega (arith, first-open .below, count-in b)) in
+      omega (arith, p .level-is, level-some work allowed (omega (arith, work-left, allowed-ticks)))
+
+  pub chosen-small : (r : Choice) → r ≡ runOf i level work → (r .task < 256) × (r .level < 256)
+  chosen-small r e =
+      subst (λ (x : Choice). (x .task < 256) × (x .level < 256)) (sym e) (omega (arith, chosen-task), omega (arith, chosen-level))
+
+  pub chosen-some : runOf i level work ≡ choiceOf (chooseOrder baseSpeeds T S)
+  chosen-some =
+      let t : need (speedOf baseSpeeds level) work ≡ pick (eqb i 255) 0 (need (speedOf baseSpeeds lowest) (workOf S i)) =
+      ap₂ (λ (x y : ℕ). need (speedOf baseSpeeds x) y) level-lowest work-left
+      ∙ ap (λ (z : Bool). pick {A = ℕ} z 0 (need (speedOf baseSpeeds lowest) (workOf S i))) (sym (ne-eqb i 255 (λ e. omega (arith, chosen-task)))) in
+      let e : runOf i level work ≡ choiceOf (withOrder S i lowest) = λ x. record { task = i; level = level-lowest x; time = t x } in
+      e ∙ ap choiceOf (sym (first-open .order))
 
 -- the order that stands
-module _ (b : List ℕ) (holds : Holds b) (runnable : Runnable (decode b)) (some : getD b 4 0 ≡ 255 → ⊥) where
-  standing-below : getD b 4 0 < getD b 6 0
-  standing-below = omega (arith, runnable .task some, count-in b)
+module _ {b : List ℕ} (holds : Holds b) (runnable : Runnable (decode b)) where
+  pub standing-idle : getD b 4 0 ≡ 255 → _≡_ {A = Choice} (record { task = 255; level = getD b 5 0; time = 0 }) (choiceOf (decode b))
+  standing-idle e =
+      let t : 0 ≡ pick (eqb (getD b 4 0) 255) 0 (runningTime baseSpeeds (decode b)) =
+      ap (λ (z : Bool). pick {A = ℕ} z 0 (runningTime baseSpeeds (decode b))) (sym (eq-eqb (getD b 4 0) 255 e)) in
+      λ x. record { task = sym e x; level = getD b 5 0; time = t x }
 
-  pub standing-task : getD b 4 0 < 16
-  standing-task = omega (arith, standing-below, holds .few)
+  module _ (some : getD b 4 0 ≡ 255 → ⊥) where
+    standing-below : getD b 4 0 < getD b 6 0
+    standing-below = omega (arith, runnable .task some, count-in b)
 
-  pub standing-level : getD b 5 0 < 8
-  standing-level = runnable .level some
+    pub standing-task : getD b 4 0 < 16
+    standing-task = omega (arith, standing-below, holds .few)
 
-  pub standing-run :
-      (work : ℕ) (r : Choice) →
-      work ≡ entryIn b (getD b 4 0) .work →
-      (r .task ≡ getD b 4 0) × (r .level ≡ getD b 5 0) × (r .time ≡ need (speedOf baseSpeeds (getD b 5 0)) work) →
-      OrderIn (decode b) r
-  standing-run work r w h = record {
-    task = h .0;
-    level = h .1;
-    time = λ ne.
-        h .2
-        ∙ ap (need (speedOf baseSpeeds (getD b 5 0))) (w ∙ sym (ap (λ (e : Entry). e .work) (entry-at b (getD b 4 0) standing-below)));
-  }
+    pub standing-level : getD b 5 0 < 8
+    standing-level = runnable .level some
 
--- the hold of an order, from the ticks to the next arrival
-pub hold-is :
-    (τ : Timing) (s : State) (c : Choice) → OrderIn s c → (next hold : ℕ) → next ≡ nextArrival τ (s .clock) →
-    hold ≡ pick (eqb (c .task) 255) next (min (c .time) next) → hold ≡ holdOf baseSpeeds τ s
-hold-is τ s c o next hold n h =
-    elim (ℕ-discrete (c .task) 255) [
-      | yes e ↦
-          h
-          ∙ ap (λ (b : Bool). pick b next (min (c .time) next)) (eq-eqb (c .task) 255 e)
-          ∙ n
-          ∙ ap (λ (b : Bool). pick b (nextArrival τ (s .clock)) (min (runningTime baseSpeeds s) (nextArrival τ (s .clock))))
-          (sym (eq-eqb (s .task) 255 (sym (o .task) ∙ e)))
-      | no e ↦
-          h
-          ∙ ap (λ (b : Bool). pick b next (min (c .time) next)) (ne-eqb (c .task) 255 e)
-          ∙ ap₂ (λ (x y : ℕ). min x y) (o .time e) n
-          ∙ ap (λ (b : Bool). pick b (nextArrival τ (s .clock)) (min (runningTime baseSpeeds s) (nextArrival τ (s .clock))))
-          (sym (ne-eqb (s .task) 255 (λ z. e (o .task ∙ z))))
-    ]
+    pub standing-run : (work : ℕ) → work ≡ entryIn b (getD b 4 0) .work → runOf (getD b 4 0) (getD b 5 0) work ≡ choiceOf (decode b)
+    standing-run work w =
+        let left : work ≡ workOf (decode b) (getD b 4 0) = w ∙ sym (ap (λ (e : Entry). e .work) (entry-at b (getD b 4 0) standing-below)) in
+        let t : need (speedOf baseSpeeds (getD b 5 0)) work ≡ pick (eqb (getD b 4 0) 255) 0 (runningTime baseSpeeds (decode b)) =
+        ap (need (speedOf baseSpeeds (getD b 5 0))) left
+        ∙ ap (λ (z : Bool). pick {A = ℕ} z 0 (runningTime baseSpeeds (decode b))) (sym (ne-eqb (getD b 4 0) 255 some)) in
+        λ x. record { task = getD b 4 0; level = getD b 5 0; time = t x }
+
+-- the hold of a state's order, from the ticks to the next arrival
+pub hold-is : (τ : Timing) (s : State) (next : ℕ) → next ≡ nextArrival τ (s .clock) → holdBy (choiceOf s) next ≡ holdOf baseSpeeds τ s
+hold-is τ s next n =
+    elim (tested (eqb (s .task) 255))
+    as (λ b _. pick b next (min (pick b 0 (runningTime baseSpeeds s)) next) ≡ pick b (nextArrival τ (s .clock)) (min (runningTime baseSpeeds s) (nextArrival τ (s .clock))))
+    [ passed ↦ n | failed ↦ ap (min (runningTime baseSpeeds s)) n ]
 
 -- choosing leaves the clock and the entries
 order-clock : (τ : Timing) (s : State) (q : List Pending) → orderFor baseSpeeds τ s q .clock ≡ s .clock
@@ -263,53 +274,62 @@ order-only :
 order-only τ s [] = refl
 order-only τ s (f ∷ q) = refl
 
--- the next arrival of a block
-module _ (b l : List ℕ) (holds : Holds b) (some : 1 ≤ getD b 6 0) (keyed : Keyed (timingIn b) (decode b .clock) l)
-    (count : ℕ) (same : count ≡ getD b 6 0) (clock : ℕ) (t : clock ≡ decode b .clock) where
+-- a block of some tasks with its keys, its count and its clock
+pub record Timed (b l : List ℕ) (count clock : ℕ) : Type 0 where
+  pub holds : Holds b
+  pub some : 1 ≤ getD b 6 0
+  pub keyed : Keyed (timingIn b) (decode b .clock) l
+  pub same : count ≡ getD b 6 0
+  pub clock-is : clock ≡ decode b .clock
+
+module _ {b l : List ℕ} {count clock : ℕ} (k : Timed b l count clock) where
   tasks-are : count ≡ timingIn b .count
-  tasks-are = same ∙ sym (timing-count b)
+  tasks-are = k .same ∙ sym (timing-count b)
 
   -- every deadline is still to come
   pub choose-next :
       ((count ≤ 16) × (1 ≤ count)) × ((i : ℕ) → i < count → (clock ≤ deadlineIn (getD l i 0)) × (getD l i 0 < noKey))
   choose-next = (
-    (omega (arith, holds .few), omega arith),
+    (omega (arith, k .same, k .holds .few), omega (arith, k .same, k .some)),
     λ i h. (
-      omega (arith, keys.key-after (timingIn b) (decode b .clock) l keyed i (omega (arith, tasks-are))),
-      keys.key-below (timingIn b) (decode b .clock) l keyed i (omega (arith, tasks-are)),
+      omega (arith, k .clock-is, keys.key-after (timingIn b) (decode b .clock) l (k .keyed) i (omega (arith, tasks-are))),
+      keys.key-below (timingIn b) (decode b .clock) l (k .keyed) i (omega (arith, tasks-are)),
     ),
   )
 
   pub choose-when : (next : ℕ) → next ≡ deadlineIn (leastTo count (λ i. getD l i 0)) - clock → next ≡ nextArrival (timingIn b) (decode b .clock)
   choose-when next n =
       n
-      ∙ ap₂ (λ (x y : ℕ). deadlineIn (leastTo x (λ i. getD l i 0)) - y) tasks-are t
-      ∙ keys.next-is (timingIn b) (decode b .clock) l keyed (omega (arith, tasks-are))
+      ∙ ap₂ (λ (x y : ℕ). deadlineIn (leastTo x (λ i. getD l i 0)) - y) tasks-are (k .clock-is)
+      ∙ keys.next-is (timingIn b) (decode b .clock) l (k .keyed) (omega (arith, tasks-are, k .same, k .some))
 
--- an order that is chosen, stored and answered
-module _ (b : List ℕ) (back : encode (decode b) ≡ b) (next : ℕ) (n : next ≡ nextArrival (timingIn b) (decode b .clock))
-    (c : Choice) (o : OrderIn (chooseOrder baseSpeeds (timingIn b) (decode b)) c × ((c .task < 256) × (c .level < 256))) where
-  abbrev S : State
-  S = chooseOrder baseSpeeds (timingIn b) (decode b)
+-- an order that is chosen in a block, where the next arrival is so many ticks away
+pub record Chosen (b : List ℕ) (next : ℕ) (c : Choice) : Type 0 where
+  pub back : encode (decode b) ≡ b
+  pub arrival : next ≡ nextArrival (timingIn b) (decode b .clock)
+  pub choice : c ≡ choiceOf (chooseOrder baseSpeeds (timingIn b) (decode b))
+  pub small : (c .task < 256) × (c .level < 256)
+
+module _ {b : List ℕ} {next : ℕ} {c : Choice} (k : Chosen b next c) where
+  abbrev N : State
+  N = chooseOrder baseSpeeds (timingIn b) (decode b)
 
   pub choose-stored :
       (m : List ℕ) →
       m ≡ sets (sets b 4 (digits 256 1 (c .task))) 5 (digits 256 1 (c .level)) →
-      m ≡ encode S
+      m ≡ encode N
   choose-stored m e =
       e
-      ∙ ap (λ (x : List ℕ). sets (sets x 4 (digits 256 1 (c .task))) 5 (digits 256 1 (c .level))) (sym back)
-      ∙ store-order (decode b) (c .task) (c .level) (o .1 .0) (o .1 .1)
-      ∙ ap encode (ap₂ (withOrder (decode b)) (o .0 .task) (o .0 .level) ∙ order-only (timingIn b) (decode b) (openJobs (timingIn b) (decode b)))
+      ∙ ap (λ (x : List ℕ). sets (sets x 4 (digits 256 1 (c .task))) 5 (digits 256 1 (c .level))) (sym (k .back))
+      ∙ store-order (decode b) (c .task) (c .level) (k .small .0) (k .small .1)
+      ∙ ap encode
+      (ap (λ (x : Choice). withOrder (decode b) (x .task) (x .level)) (k .choice)
+      ∙ order-only (timingIn b) (decode b) (openJobs (timingIn b) (decode b)))
 
-  next-is : next ≡ nextArrival (timingIn b) (S .clock)
-  next-is = n ∙ sym (ap (nextArrival (timingIn b)) (order-clock (timingIn b) (decode b) (openJobs (timingIn b) (decode b))))
+  next-is : next ≡ nextArrival (timingIn b) (N .clock)
+  next-is = k .arrival ∙ sym (ap (nextArrival (timingIn b)) (order-clock (timingIn b) (decode b) (openJobs (timingIn b) (decode b))))
 
-  pub choose-reply :
-      (hold : ℕ) (r : Reply) →
-      hold ≡ pick (eqb (c .task) 255) next (min (c .time) next) →
-      ((x : State) → c .task ≡ x .task → c .level ≡ x .level → r ≡ orderWith x hold) →
-      r ≡ orderWith S (holdOf baseSpeeds (timingIn b) S)
-  choose-reply hold r h f =
-      let e : hold ≡ holdOf baseSpeeds (timingIn b) S = hold-is (timingIn b) S c (o .0) next hold next-is h in
-      f S (o .0 .task) (o .0 .level) ∙ ap (orderWith S) e
+  pub choose-reply : (hold : ℕ) (r : Reply) → hold ≡ holdBy c next → r ≡ orderOf c hold → r ≡ orderWith N (holdOf baseSpeeds (timingIn b) N)
+  choose-reply hold r h e =
+      e
+      ∙ ap₂ orderOf (k .choice) (h ∙ ap (λ (x : Choice). holdBy x next) (k .choice) ∙ hold-is (timingIn b) N next next-is)

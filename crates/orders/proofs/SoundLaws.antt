@@ -20,12 +20,14 @@ use Rattle.plan.specs.declared.Plan.{Plan}
 use Rattle.plan.specs.declared.Verdict.{Verdict}
 use Rattle.plan.specs.declared.Verdict.the-variants as verdict
 use Rattle.plan.specs.Answers.{answered}
-use Rattle.plan.specs.Blocks.{noTask, tasksOf}
+use Rattle.plan.specs.Blocks.{noTask, tasksOf, planOf}
 use Rattle.plan.specs.Levels.{baseSpeeds, speedOf, nominal}
 use Rattle.plan.specs.Questions.{taskQuestions, judging}
 use Rattle.arith.specs.Asking.{firstNo}
 use Rattle.plan.proofs.Facts.{InRange, range-at, fine-tasks}
-use Rattle.judging.proofs.Judgements.{count-low, count-high, count-good}
+use Rattle.plan.proofs.RoundTrip.{tasksOf-planOf}
+use Rattle.arith.proofs.ArrayLaws.{value-at}
+use Rattle.judging.proofs.Judgements.{filled-plan, count-low, count-high, count-good}
 use Rattle.arith.proofs.Tests.{both-false}
 use Rattle.plan.proofs.LevelLaws.{baseRising}
 use Rattle.arith.proofs.Loops.{filled, filled-more}
@@ -35,18 +37,15 @@ use Rattle.orders.specs.declared.Tested.{Tested}
 use Rattle.reclaiming.specs.StateBlock.{State, noEntry, workOf, remainingOf, taskOf, planIn, timing, encode, decode, sameBytes, laidOut}
 use Rattle.reclaiming.specs.Orders.{allowance, openJobs}
 use Rattle.reclaiming.specs.Questions.{largestClock, entrySound, orderSound, stateSound, sound}
-use Rattle.state.specs.Code.{Holds, entryIn, timingIn, Keyed, keyOf, noKey, leastKey, fieldIn, allowedBy}
-use Rattle.orders.specs.Code.{TestedAs}
+use Rattle.state.specs.Code.{Holds, entryIn, timingIn, Keyed, latestKey, keysIn, noKey, leastKey, fieldIn, allowedBy}
+use Rattle.orders.specs.Code.{Good, testedBy}
 use Rattle.reclaiming.proofs.Soundness.{planIn-at}
 use Rattle.reclaiming.proofs.OrderFacts.{head-below}
-use Rattle.orders.proofs.NeedTests.{need-test, need-above}
+use Rattle.orders.proofs.NeedTests.{need-test, need-above, speed-positive, speed-most}
+use Rattle.orders.proofs.SoundFacts.{sound-holds, sound-plan-yes, sound-clock}
 use Rattle.state.proofs.OpenJobs.{timing-count, open-head}
 use Rattle.state.proofs.BlockLaws.{count-in, entry-at}
 use Rattle.state.proofs.KeyLaws.{headKey, key-below, key-task, allowance-is}
-
--- a test that failed has not passed
-pub not-passed {ℓ} : {A : Type ℓ} (b : Bool) → b ≡ false → b ≡ true → A
-not-passed b f t = absurd (subst T (sym t ∙ f) tt)
 
 -- the plan in a block, and what the plain schedule sees of it
 module _ (b : List ℕ) where
@@ -63,33 +62,37 @@ module _ (b : List ℕ) where
   remaining-is i h = ap (λ (e : Entry). e .remaining) (entry-at b i h)
 
 -- the plan in a block, filled from the front
-module _ (b : List ℕ) (few : getD b 6 0 ≤ 16) where
+module _ {b : List ℕ} (holds : Holds b) where
+  abbrev ts : List Task
+  ts = planIn (decode b)
+
   pub plan-more :
-      (ts : List Task) (i period worst : ℕ) →
+      (l : List Task) (i period worst : ℕ) →
       i < getD b 6 0 →
-      ts ≡ filled 16 noTask (planIn (decode b)) i →
+      l ≡ filled 16 noTask ts i →
       period ≡ entryIn b i .period →
       worst ≡ entryIn b i .worst →
-      set ts i (record { period = period; worst = worst }) ≡ filled 16 noTask (planIn (decode b)) (i + 1)
-  plan-more ts i period worst h e p w =
-      let t : _≡_ {A = Task} (record { period = period; worst = worst }) (getD (planIn (decode b)) i noTask) =
+      set l i (record { period = period; worst = worst }) ≡ filled 16 noTask ts (i + 1)
+  plan-more l i period worst h e p w =
+      let t : _≡_ {A = Task} (record { period = period; worst = worst }) (getD ts i noTask) =
       (λ k. record { period = p k; worst = w k }) ∙ sym (task-is b i h) in
       ap₂ (λ (x : List Task) (y : Task). set x i y) e t
-      ∙ filled-more 16 noTask (planIn (decode b)) i (omega arith) (omega (arith, timing-count b))
+      ∙ filled-more 16 noTask ts i (omega (arith, holds .few)) (omega (arith, timing-count b))
 
   pub plan-all :
       (p : Plan) (i count : ℕ) →
       count ≡ getD b 6 0 →
       i ≡ count →
       p .count ≡ count →
-      p .tasks ≡ filled 16 noTask (planIn (decode b)) i →
-      tasksOf p ≡ planIn (decode b)
-  unfolding filled
+      p .tasks ≡ filled 16 noTask ts i →
+      p ≡ planOf ts
   plan-all p i count same e c t =
-      let ts : List Task = planIn (decode b) in
-      ap₂ (λ (n : ℕ) (x : List Task). take n x) c (t ∙ ap (λ (n : ℕ). take n ts ++ replicate (16 - n) noTask) e)
-      ∙ take-at (take count ts) (replicate (16 - count) noTask) count (length-take-le count ts (omega (arith, timing-count b)))
-      ∙ take-all count ts (omega (arith, timing-count b))
+      let all : length ts ≡ count = timing-count b ∙ sym same in
+      filled-plan p ts count i (omega arith) e c t ∙ ap planOf (take-all count ts (omega arith))
+
+  pub plan-few : (p : Plan) → p ≡ planOf ts → p .count ≤ 16
+  plan-few p e =
+      subst (λ (q : Plan). q .count ≤ 16) (sym e) (omega (arith, holds .few, timing-count b))
 
 -- an entry, by each way out
 module _ (speed : ℕ) (e : Entry) (p : 0 < speed) (work worst : ℕ) (a : work ≡ e .work) (c : worst ≡ e .worst) where
@@ -315,12 +318,9 @@ module _ (s : State) where
       ∙ ap (λ (b : Bool). both b (both (entriesWell s) (orderWell s))) (le-leb (s .clock) largestClock c)
       ∙ ap (λ (b : Bool). both b (orderWell s)) e
 
--- what testing a block's state finds: if it is sound, its keys and its nominal level
-abbrev pub Found : List ℕ → Tested → Type 0
-Found b r = r .sound ≡ true → Keyed (timingIn b) (decode b .clock) (r .keys) × (r .nominal ≡ nominal baseSpeeds (planIn (decode b)))
-
-found-not : (b : List ℕ) (r : Tested) → r .sound ≡ false → stateSound baseSpeeds (decode b) ≡ false → (r .sound ≡ stateSound baseSpeeds (decode b)) × Found b r
-found-not b r f n = (f ∙ sym n, λ t. not-passed (r .sound) f t)
+-- a block that is not sound, as it is answered
+pub tested-not : (b : List ℕ) (r : Tested) (found : Bool) → r ≡ testedBy false [] → found ≡ false → r ≡ testedBy found b
+tested-not b r found e n = e ∙ ap (λ (t : Bool). testedBy t b) (sym n)
 
 -- a block whose plan is admitted
 module _ (b : List ℕ) (yes-all : firstNo (taskQuestions baseSpeeds (planIn (decode b))) ≡ 0) where
@@ -340,52 +340,81 @@ module _ (b : List ℕ) (yes-all : firstNo (taskQuestions baseSpeeds (planIn (de
       ∙ yes-all
 
   -- the keys that are found are those of its latest jobs
-  pub keyed-in :
-      (keys : List ℕ) (count clock : ℕ) →
-      getD b 6 0 ≤ 16 →
-      count ≡ getD b 6 0 →
-      clock ≡ decode b .clock →
-      clock ≤ largestClock →
-      ((i : ℕ) → i < count → getD keys i 0 ≡ keyOf (clock / entryIn b i .period * entryIn b i .period + entryIn b i .period) (entryIn b i .period) i) →
-      Keyed (timingIn b) (decode b .clock) keys
-  keyed-in keys count clock few same c le e = record {
+  pub keyed-in : getD b 6 0 ≤ 16 → decode b .clock ≤ largestClock → Keyed (timingIn b) (decode b .clock) (keysIn b (getD b 6 0) (decode b .clock))
+  keyed-in few le = record {
     few = subst (λ (n : ℕ). n ≤ 16) (sym (timing-count b)) few;
     low = λ i h. subst (λ (n : ℕ). 1 ≤ n) (sym (period-is b i (below i h))) (periods-in i (below i h) .0);
     high = λ i h. subst (λ (n : ℕ). n ≤ 65535) (sym (period-is b i (below i h))) (periods-in i (below i h) .1);
-    in-range = subst (λ (n : ℕ). n ≤ largestClock) c le;
-    each = λ i h. e i (subst (λ (n : ℕ). i < n) (sym same) (below i h))
-        ∙ ap₂ (λ (t p : ℕ). keyOf (t / p * p + p) p i) c (sym (period-is b i (below i h)));
+    in-range = le;
+    each = λ i h. value-at 16 0 (getD b 6 0) (λ k. latestKey (decode b .clock) (entryIn b k .period) k) i (below i h)
+        ∙ ap (λ (p : ℕ). latestKey (decode b .clock) p i) (sym (period-is b i (below i h)));
   }
     where
       below : (i : ℕ) → i < timingIn b .count → i < getD b 6 0
       below i h = subst (λ (n : ℕ). i < n) (timing-count b) h
 
--- an admitted state, by each way out
-module _ (b : List ℕ) (r : Tested) (level speed : ℕ) (n : level ≡ nominal baseSpeeds (planIn (decode b))) (s : speed ≡ speedOf baseSpeeds level)
-    (found : Bool) (e : found ≡ every (entrySound speed) (decode b .entries)) where
-  entries-are : found ≡ every (entrySound (speedOf baseSpeeds (nominal baseSpeeds (planIn (decode b))))) (decode b .entries)
-  entries-are = e ∙ ap (λ (v : ℕ). every (entrySound v) (decode b .entries)) (s ∙ ap (speedOf baseSpeeds) n)
+-- a block of some tasks whose plan is admitted at a level, with its clock and the level's speed
+pub record Admitted (b : List ℕ) (count clock level speed : ℕ) : Type 0 where
+  pub holds : Holds b
+  pub same : count ≡ getD b 6 0
+  pub some : 1 ≤ count
+  pub clock-is : clock ≡ decode b .clock
+  pub in-range : clock ≤ largestClock
+  pub yes-all : firstNo (taskQuestions baseSpeeds (planIn (decode b))) ≡ 0
+  pub level-is : level ≡ nominal baseSpeeds (planIn (decode b))
+  pub speed-is : speed ≡ speedOf baseSpeeds level
 
-  pub admitted-entries : found ≡ false → r .sound ≡ false → (r .sound ≡ stateSound baseSpeeds (decode b)) × Found b r
-  admitted-entries f g = found-not b r g (entries-not (decode b) (sym entries-are ∙ f))
+module _ {b : List ℕ} {count clock level speed : ℕ} (k : Admitted b count clock level speed) where
+  pub level-low : level < 8
+  level-low = nominal-below b (k .yes-all) level (k .level-is)
 
-  module _ (yes : found ≡ true) (few : getD b 6 0 ≤ 16) (some : 1 ≤ getD b 6 0) (clock : decode b .clock ≤ largestClock)
-      (q : firstNo (taskQuestions baseSpeeds (planIn (decode b))) ≡ 0) (order : Bool) (o : order ≡ orderIn b level) where
-    order-is : order ≡ stateSound baseSpeeds (decode b)
-    order-is =
-        o
-        ∙ ap (λ (h : ℕ). orderIn b h) n
-        ∙ sym (order-decides (decode b) (judging-yes b q few some) clock (sym entries-are ∙ yes))
+  pub admitted-speed : (0 < speed) × (speed ≤ 100)
+  admitted-speed = (speed-positive level speed level-low (k .speed-is), speed-most level speed level-low (k .speed-is))
 
-    pub admitted-order : order ≡ false → r .sound ≡ false → (r .sound ≡ stateSound baseSpeeds (decode b)) × Found b r
-    admitted-order f g = found-not b r g (sym order-is ∙ f)
+  pub admitted-periods : (i : ℕ) → i < count → 1 ≤ entryIn b i .period
+  admitted-periods i h = periods-in b (k .yes-all) i (subst (λ (n : ℕ). i < n) (k .same) h) .0
 
-    pub admitted-sound :
-        (keys : List ℕ) →
-        Keyed (timingIn b) (decode b .clock) keys →
-        order ≡ true →
-        (true ≡ stateSound baseSpeeds (decode b)) × Found b (record { sound = true; nominal = level; keys = keys })
-    admitted-sound keys k y = (sym y ∙ order-is, λ u. (k, n))
+  -- its keys
+  module _ (keys : List ℕ) (e : keys ≡ keysIn b count clock) where
+    pub keys-are : keys ≡ keysIn b (getD b 6 0) (decode b .clock)
+    keys-are = e ∙ ap₂ (keysIn b) (k .same) (k .clock-is)
+
+    pub admitted-keyed : Keyed (timingIn b) (decode b .clock) keys
+    admitted-keyed =
+        subst (Keyed (timingIn b) (decode b .clock)) (sym keys-are)
+        (keyed-in b (k .yes-all) (k .holds .few) (subst (λ (n : ℕ). n ≤ largestClock) (k .clock-is) (k .in-range)))
+
+  -- it is tested by its entries, then by its order
+  module _ (found : Bool) (e : found ≡ every (entrySound speed) (decode b .entries)) where
+    entries-are : found ≡ every (entrySound (speedOf baseSpeeds (nominal baseSpeeds (planIn (decode b))))) (decode b .entries)
+    entries-are = e ∙ ap (λ (v : ℕ). every (entrySound v) (decode b .entries)) (k .speed-is ∙ ap (speedOf baseSpeeds) (k .level-is))
+
+    pub admitted-entries : found ≡ false → (r : Tested) → r ≡ testedBy false [] → r ≡ testedBy (stateSound baseSpeeds (decode b)) b
+    admitted-entries f r g = tested-not b r (stateSound baseSpeeds (decode b)) g (entries-not (decode b) (sym entries-are ∙ f))
+
+    module _ (yes : found ≡ true) (order : Bool) (o : order ≡ orderIn b level) where
+      order-is : order ≡ stateSound baseSpeeds (decode b)
+      order-is =
+          o
+          ∙ ap (λ (h : ℕ). orderIn b h) (k .level-is)
+          ∙ sym
+          (order-decides (decode b)
+          (judging-yes b (k .yes-all) (k .holds .few) (subst (λ (n : ℕ). 1 ≤ n) (k .same) (k .some)))
+          (subst (λ (n : ℕ). n ≤ largestClock) (k .clock-is) (k .in-range))
+          (sym entries-are ∙ yes))
+
+      pub admitted-order : order ≡ false → (r : Tested) → r ≡ testedBy false [] → r ≡ testedBy (stateSound baseSpeeds (decode b)) b
+      admitted-order f r g = tested-not b r (stateSound baseSpeeds (decode b)) g (sym order-is ∙ f)
+
+      pub admitted-sound :
+          order ≡ true →
+          (keys : List ℕ) →
+          keys ≡ keysIn b count clock →
+          _≡_ {A = Tested} (record { sound = true; nominal = level; keys = keys }) (testedBy (stateSound baseSpeeds (decode b)) b)
+      admitted-sound y keys e =
+          let r : _≡_ {A = Tested} (record { sound = true; nominal = level; keys = keys }) (testedBy true b) =
+          λ i. record { sound = true; nominal = k .level-is i; keys = keys-are keys e i } in
+          r ∙ ap (λ (t : Bool). testedBy t b) (sym y ∙ order-is)
 
 -- the number that a verdict is of
 refused-number : (n k : ℕ) (v : Verdict) (speeds : List ℕ) (ts : List Task) → v ≡ answered n speeds ts → v ≡ verdict.Refused k → 0 < n
@@ -400,74 +429,99 @@ admitted-number :
 admitted-number zero level span v speeds ts a r = (refl, cc)
 admitted-number (suc n) level span v speeds ts a r = let z : _≡_ {A = ℕ} 0 1 = cc in absurd (omega arith)
 
--- a block with its plan's verdict
-module _ (b : List ℕ) (ts : List Task) (same : ts ≡ planIn (decode b)) (v : Verdict)
-    (a : v ≡ answered (firstNo (taskQuestions baseSpeeds ts)) baseSpeeds ts) where
-  verdict-is : v ≡ answered (firstNo (taskQuestions baseSpeeds (planIn (decode b)))) baseSpeeds (planIn (decode b))
-  verdict-is = a ∙ ap (λ (us : List Task). answered (firstNo (taskQuestions baseSpeeds us)) baseSpeeds us) same
+-- a block of some tasks with its plan and the plan's verdict
+pub record Judged (b : List ℕ) (count : ℕ) (p : Plan) (v : Verdict) : Type 0 where
+  pub holds : Holds b
+  pub same : count ≡ getD b 6 0
+  pub some : 1 ≤ count
+  pub plan : p ≡ planOf (planIn (decode b))
+  pub verdict : v ≡ answered (firstNo (taskQuestions baseSpeeds (tasksOf p))) baseSpeeds (tasksOf p)
 
-  pub plan-refused :
-      (k : ℕ) → v ≡ verdict.Refused k →
-      getD b 6 0 ≤ 16 → 1 ≤ getD b 6 0 →
-      (r : Tested) → r .sound ≡ false →
-      (r .sound ≡ stateSound baseSpeeds (decode b)) × Found b r
-  plan-refused k e few some r f =
-      let us : List Task = planIn (decode b) in
-      let count : length (decode b .entries) ≡ getD b 6 0 = count-in b in
-      let some-no : 0 < firstNo (taskQuestions baseSpeeds us) = refused-number (firstNo (taskQuestions baseSpeeds us)) k v baseSpeeds us verdict-is e in
-      found-not b r f
-      (plan-not (decode b)
-      (subst (λ (n : ℕ). 0 < n) (sym (count-good baseSpeeds us (length (decode b .entries)) (omega arith) (omega arith))) some-no))
+module _ {b : List ℕ} {count : ℕ} {p : Plan} {v : Verdict} (k : Judged b count p v) where
+  abbrev us : List Task
+  us = planIn (decode b)
 
-  pub plan-admitted :
-      (level span : ℕ) → v ≡ verdict.Admitted level span →
-      (firstNo (taskQuestions baseSpeeds (planIn (decode b))) ≡ 0) × (level ≡ nominal baseSpeeds (planIn (decode b)))
+  verdict-is : v ≡ answered (firstNo (taskQuestions baseSpeeds us)) baseSpeeds us
+  verdict-is =
+      k .verdict
+      ∙ ap (λ (l : List Task). answered (firstNo (taskQuestions baseSpeeds l)) baseSpeeds l)
+      (ap tasksOf (k .plan) ∙ tasksOf-planOf us)
+
+  pub plan-refused : (n : ℕ) → v ≡ verdict.Refused n → (r : Tested) → r ≡ testedBy false [] → r ≡ testedBy (stateSound baseSpeeds (decode b)) b
+  plan-refused n e r f =
+      let counted : length (decode b .entries) ≡ getD b 6 0 = count-in b in
+      let some-no : 0 < firstNo (taskQuestions baseSpeeds us) = refused-number (firstNo (taskQuestions baseSpeeds us)) n v baseSpeeds us verdict-is e in
+      let good : firstNo (judging baseSpeeds (length (decode b .entries)) us) ≡ firstNo (taskQuestions baseSpeeds us) =
+      count-good baseSpeeds us (length (decode b .entries)) (omega (arith, k .same, k .some)) (omega (arith, k .holds .few)) in
+      tested-not b r (stateSound baseSpeeds (decode b)) f (plan-not (decode b) (subst (λ (m : ℕ). 0 < m) (sym good) some-no))
+
+  pub plan-admitted : (level span : ℕ) → v ≡ verdict.Admitted level span → (firstNo (taskQuestions baseSpeeds us) ≡ 0) × (level ≡ nominal baseSpeeds us)
   plan-admitted level span e =
-      admitted-number (firstNo (taskQuestions baseSpeeds (planIn (decode b)))) level span v baseSpeeds (planIn (decode b)) verdict-is e
+      admitted-number (firstNo (taskQuestions baseSpeeds us)) level span v baseSpeeds us verdict-is e
 
--- a clock that was tested
-module _ (b : List ℕ) (clock : ℕ) (c : clock ≡ decode b .clock) (found : Bool) (e : found ≡ leb clock largestClock) where
-  pub clock-refused :
-      (r : Tested) → found ≡ false → r .sound ≡ false → (r .sound ≡ stateSound baseSpeeds (decode b)) × Found b r
-  clock-refused r f g =
-      found-not b r g (clock-not (decode b) (ap (λ (n : ℕ). leb n largestClock) (sym c) ∙ sym e ∙ f))
+-- a clock that is out of range
+pub clock-refused :
+    (b : List ℕ) (clock : ℕ) →
+    clock ≡ decode b .clock →
+    leb clock largestClock ≡ false →
+    (r : Tested) →
+    r ≡ testedBy false [] →
+    r ≡ testedBy (stateSound baseSpeeds (decode b)) b
+clock-refused b clock c f r g =
+    tested-not b r (stateSound baseSpeeds (decode b)) g
+    (clock-not (decode b) (ap (λ (n : ℕ). leb n largestClock) (sym c) ∙ f))
 
 -- a block, by each way out
 module _ (bytes : List ℕ) (r : Tested) where
-  tested-not : r .sound ≡ false → sound baseSpeeds bytes ≡ false → TestedAs bytes r
-  tested-not f n = record { sound = f ∙ sym n; good = λ t. not-passed (r .sound) f t }
+  abbrev Told : Type 0
+  Told = r ≡ testedBy (sound baseSpeeds bytes) bytes
 
-  pub layout-not : (b : Bool) → b ≡ laidOut bytes → b ≡ false → r .sound ≡ false → TestedAs bytes r
-  layout-not b e n f = tested-not f (ap (λ (t : Bool). both t (stateSound baseSpeeds (decode bytes))) (sym e ∙ n))
+  pub layout-not : laidOut bytes ≡ false → r ≡ testedBy false [] → Told
+  layout-not n f =
+      tested-not bytes r (sound baseSpeeds bytes) f (ap (λ (t : Bool). both t (stateSound baseSpeeds (decode bytes))) n)
 
-  pub length-not : (length bytes ≡ 200 → ⊥) → r .sound ≡ false → TestedAs bytes r
+  pub length-not : (length bytes ≡ 200 → ⊥) → r ≡ testedBy false [] → Told
   length-not n f =
-      layout-not false (sym (ap (λ (t : Bool). both t (sameBytes (encode (decode bytes)) bytes)) (ne-eqb (length bytes) 200 n))) refl f
+      layout-not (ap (λ (t : Bool). both t (sameBytes (encode (decode bytes)) bytes)) (ne-eqb (length bytes) 200 n)) f
 
-  count-not : 0 < firstNo (judging baseSpeeds (length (decode bytes .entries)) (planIn (decode bytes))) → r .sound ≡ false → TestedAs bytes r
+  count-not : 0 < firstNo (judging baseSpeeds (length (decode bytes .entries)) (planIn (decode bytes))) → r ≡ testedBy false [] → Told
   count-not h f =
-      tested-not f (both-not (laidOut bytes) (stateSound baseSpeeds (decode bytes)) (plan-not (decode bytes) h))
+      tested-not bytes r (sound baseSpeeds bytes) f
+      (both-not (laidOut bytes) (stateSound baseSpeeds (decode bytes)) (plan-not (decode bytes) h))
 
-  pub count-none : getD bytes 6 0 < 1 → r .sound ≡ false → TestedAs bytes r
+  pub count-none : getD bytes 6 0 < 1 → r ≡ testedBy false [] → Told
   count-none h =
       let e : firstNo (judging baseSpeeds (length (decode bytes .entries)) (planIn (decode bytes))) ≡ 3 =
       count-low baseSpeeds (planIn (decode bytes)) (length (decode bytes .entries)) (omega (arith, count-in bytes)) in
       count-not (omega arith)
 
-  pub count-above : 16 < getD bytes 6 0 → r .sound ≡ false → TestedAs bytes r
+  pub count-above : 16 < getD bytes 6 0 → r ≡ testedBy false [] → Told
   count-above h =
       let e : firstNo (judging baseSpeeds (length (decode bytes .entries)) (planIn (decode bytes))) ≡ 3 =
       count-high baseSpeeds (planIn (decode bytes)) (length (decode bytes .entries)) (omega (arith, count-in bytes)) in
       count-not (omega arith)
 
-  pub state-tested :
-      (b : Bool) → b ≡ laidOut bytes → b ≡ true → Holds bytes →
-      r .sound ≡ stateSound baseSpeeds (decode bytes) → Found bytes r →
-      TestedAs bytes r
-  state-tested b e y holds s f =
-      let is : r .sound ≡ sound baseSpeeds bytes =
-      s ∙ sym (ap (λ (t : Bool). both t (stateSound baseSpeeds (decode bytes))) (sym e ∙ y)) in
+  pub state-tested : laidOut bytes ≡ true → r ≡ testedBy (stateSound baseSpeeds (decode bytes)) bytes → Told
+  state-tested y e =
+      e ∙ ap (λ (t : Bool). testedBy t bytes) (sym (ap (λ (t : Bool). both t (stateSound baseSpeeds (decode bytes))) y))
+
+-- what a caller reads off the answer
+module _ (bytes : List ℕ) (r : Tested) (e : r ≡ testedBy (sound baseSpeeds bytes) bytes) where
+  sound-field : (b : Bool) → testedBy b bytes .sound ≡ b
+  sound-field true = refl
+  sound-field false = refl
+
+  pub tested-sound : r .sound ≡ sound baseSpeeds bytes
+  tested-sound = ap (λ (x : Tested). x .sound) e ∙ sound-field (sound baseSpeeds bytes)
+
+  pub tested-good : r .sound ≡ true → Good bytes (r .keys) (r .nominal)
+  tested-good t =
+      let ok : sound baseSpeeds bytes ≡ true = sym tested-sound ∙ t in
+      let is : testedBy true bytes ≡ r = sym (e ∙ ap (λ (x : Bool). testedBy x bytes) ok) in
+      subst (λ (x : Tested). Good bytes (x .keys) (x .nominal)) is
       record {
-        sound = is;
-        good = λ t. record { sound = sym is ∙ t; holds = holds; keyed = f t .0; nominal = f t .1 };
+        sound = ok;
+        holds = sound-holds bytes ok;
+        keyed = keyed-in bytes (sound-plan-yes bytes ok) (sound-holds bytes ok .few) (sound-clock bytes ok);
+        nominal = refl;
       }

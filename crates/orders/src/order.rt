@@ -21,7 +21,7 @@ ghost use Rattle.plan.specs.Levels.{baseSpeeds, speedOf};
 ghost use Rattle.reclaiming.specs.StateBlock.{State, encode, decode};
 ghost use Rattle.reclaiming.specs.Orders.{nextArrival, lowestLevel, holdOf, chooseOrder, orderWith};
 ghost use Rattle.state.specs.Code.{Holds, timingIn, Keyed};
-ghost use Rattle.orders.specs.Code.{OrderIn, Runnable, Doable};
+ghost use Rattle.orders.specs.Code.{choiceOf, runOf, holdBy, orderOf, Runnable, Doable};
 
 // The lowest level at which the work needs no more than is allowed, or 8: at which the ticks that are allowed do the work. A faster
 // level does no less, so the table is halved.
@@ -46,7 +46,7 @@ pub fn level_for(work: u32, allowed: u32) -> usize
 // A run order of task i, with the time that the work needs.
 fn running_order(i: usize, level: usize, work: u32) -> Choice
     requires { ⌜ (i < 16) × (level < 8) ⌝ }
-    ensures { λ r. ⌜ (r .task ≡ i) × (r .level ≡ level) × (r .time ≡ need (speedOf baseSpeeds level) work) ⌝ }
+    ensures { λ r. ⌜ r ≡ runOf i level work ⌝ }
 {
     let speed = judging::speed_of(level);
     Choice {
@@ -60,7 +60,7 @@ fn running_order(i: usize, level: usize, work: u32) -> Choice
 pub fn chosen(block: &[u8], keys: &[u64; 16], count: usize) -> Choice
     requires { ⌜ Holds (now block) × (count ≡ getD (now block) 6 0) × Doable (decode (now block)) ⌝ }
     requires { ⌜ Keyed (timingIn (now block)) (decode (now block) .clock) (now keys) ⌝ }
-    ensures { λ r. ⌜ OrderIn (chooseOrder baseSpeeds (timingIn (now (block .entry))) (decode (now (block .entry)))) r ⌝ }
+    ensures { λ r. ⌜ r ≡ choiceOf (chooseOrder baseSpeeds (timingIn (now (block .entry))) (decode (now (block .entry)))) ⌝ }
     ensures { λ r. ⌜ (r .task < 256) × (r .level < 256) ⌝ }
 {
     let best = most_urgent(block, keys, count, 13, 3);
@@ -80,7 +80,7 @@ pub fn chosen(block: &[u8], keys: &[u64; 16], count: usize) -> Choice
 // The order that stands in a state.
 pub fn standing(block: &[u8]) -> Choice
     requires { ⌜ Holds (now block) × Runnable (decode (now block)) ⌝ }
-    ensures { λ r. ⌜ OrderIn (decode (now (block .entry))) r ⌝ }
+    ensures { λ r. ⌜ r ≡ choiceOf (decode (now (block .entry))) ⌝ }
 {
     let task = block[4] as usize;
     let level = block[5] as usize;
@@ -105,7 +105,7 @@ pub fn put_order(block: &mut [u8], c: Choice)
 
 // The hold of an order, where the next arrival is so many ticks away.
 pub fn hold_of(c: Choice, next: u32) -> u32
-    ensures { λ r. ⌜ r ≡ pick (eqb (c .task) 255) next (min (c .time) next) ⌝ }
+    ensures { λ r. ⌜ r ≡ holdBy c next ⌝ }
 {
     if c.task == 255 {
         return next;
@@ -118,7 +118,7 @@ pub fn hold_of(c: Choice, next: u32) -> u32
 
 // An order, with a hold.
 pub fn order_of(c: Choice, hold: u32) -> Reply
-    ensures { λ r. ⌜ ((s : State) → c .task ≡ s .task → c .level ≡ s .level → r ≡ orderWith s hold) ⌝ }
+    ensures { λ r. ⌜ r ≡ orderOf c hold ⌝ }
 {
     if c.task == 255 {
         return Reply::Idle { hold };

@@ -16,24 +16,25 @@ use state::urgency::keys_of;
 use state::urgency::most_urgent;
 use state::urgency::task_in;
 ghost use mathlib.Core.Path.{_≡_};
-ghost use mathlib.Core.Bool.{true, false};
+ghost use mathlib.Core.Bool.{false};
+ghost use mathlib.Core.List.{[]};
 ghost use Prim.Native.Nat.{_<_, _≤_};
 ghost use lib.ListN.{length, getD};
 ghost use Rattle.arith.specs.Choice.{every};
 ghost use Rattle.plan.specs.Levels.{baseSpeeds, nominal};
 ghost use Rattle.plan.specs.Questions.{taskQuestions};
 ghost use Rattle.arith.specs.Asking.{firstNo};
-ghost use Rattle.plan.specs.Blocks.{tasksOf};
+ghost use Rattle.plan.specs.Blocks.{planOf};
 ghost use Rattle.reclaiming.specs.StateBlock.{planIn, decode};
 ghost use Rattle.reclaiming.specs.Orders.{openJobs};
-ghost use Rattle.reclaiming.specs.Questions.{largestClock, entrySound, orderSound, stateSound};
+ghost use Rattle.reclaiming.specs.Questions.{largestClock, entrySound, orderSound, stateSound, sound};
 ghost use Rattle.state.specs.Code.{Holds, entryIn, timingIn, Keyed};
-ghost use Rattle.orders.specs.Code.{TestedAs};
+ghost use Rattle.orders.specs.Code.{testedBy};
 
 // The plan in a block.
 fn plan_of(block: &[u8], count: usize) -> Plan
     requires { ⌜ Holds (now block) × (count ≡ getD (now block) 6 0) ⌝ }
-    ensures { λ r. ⌜ (r .count ≡ count) × (tasksOf r ≡ planIn (decode (now (block .entry)))) ⌝ }
+    ensures { λ r. ⌜ r ≡ planOf (planIn (decode (now (block .entry)))) ⌝ }
 {
     let mut p = judging::empty_plan();
     p.count = count;
@@ -110,7 +111,7 @@ fn order_sound(block: &[u8], keys: &[u64; 16], count: usize, highest: usize) -> 
 
 // The answer to a block that is not sound: nothing is in it.
 fn not_sound() -> Tested
-    ensures { λ r. ⌜ r .sound ≡ false ⌝ }
+    ensures { λ r. ⌜ r ≡ testedBy false [] ⌝ }
 {
     Tested {
         sound: false,
@@ -124,8 +125,7 @@ fn test_admitted(block: &[u8], count: usize, clock: u32, level: usize) -> Tested
     requires { ⌜ Holds (now block) × (count ≡ getD (now block) 6 0) × (1 ≤ count) ⌝ }
     requires { ⌜ (clock ≡ decode (now block) .clock) × (clock ≤ largestClock) ⌝ }
     requires { ⌜ (firstNo (taskQuestions baseSpeeds (planIn (decode (now block)))) ≡ 0) × (level ≡ nominal baseSpeeds (planIn (decode (now block)))) ⌝ }
-    ensures { λ r. ⌜ r .sound ≡ stateSound baseSpeeds (decode (now (block .entry))) ⌝ }
-    ensures { λ r. ⌜ (r .sound ≡ true → Keyed (timingIn (now (block .entry))) (decode (now (block .entry)) .clock) (r .keys) × (r .nominal ≡ nominal baseSpeeds (planIn (decode (now (block .entry)))))) ⌝ }
+    ensures { λ r. ⌜ r ≡ testedBy (stateSound baseSpeeds (decode (now (block .entry)))) (now (block .entry)) ⌝ }
 {
     let speed = judging::speed_of(level);
     if !entries_sound(block, count, speed) {
@@ -145,8 +145,7 @@ fn test_admitted(block: &[u8], count: usize, clock: u32, level: usize) -> Tested
 // A block that is laid out, of at least one task.
 fn test_state(block: &[u8], count: usize) -> Tested
     requires { ⌜ Holds (now block) × (count ≡ getD (now block) 6 0) × (1 ≤ count) ⌝ }
-    ensures { λ r. ⌜ r .sound ≡ stateSound baseSpeeds (decode (now (block .entry))) ⌝ }
-    ensures { λ r. ⌜ (r .sound ≡ true → Keyed (timingIn (now (block .entry))) (decode (now (block .entry)) .clock) (r .keys) × (r .nominal ≡ nominal baseSpeeds (planIn (decode (now (block .entry)))))) ⌝ }
+    ensures { λ r. ⌜ r ≡ testedBy (stateSound baseSpeeds (decode (now (block .entry)))) (now (block .entry)) ⌝ }
 {
     let clock = Clock::new(clock_at(block));
     if !clock.in_range() {
@@ -165,7 +164,7 @@ fn test_state(block: &[u8], count: usize) -> Tested
 
 // A block tested: whether it is sound and, if so, its nominal level and its keys.
 pub fn test_block(block: &[u8]) -> Tested
-    ensures { λ r. ⌜ TestedAs (now (block .entry)) r ⌝ }
+    ensures { λ r. ⌜ r ≡ testedBy (sound baseSpeeds (now (block .entry))) (now (block .entry)) ⌝ }
 {
     if block.len() != 200 {
         return not_sound();

@@ -47,7 +47,7 @@ use Rattle.state.proofs.BlockLaws.{count-in, entry-at}
 use Rattle.state.proofs.KeyLaws.{key-below, keyed-after, keyed-on}
 use Rattle.orders.proofs.OrderLaws.{hold-is, choose-next, choose-when}
 use Rattle.orders.proofs.NeedTests.{speed-most}
-use Rattle.ticks.proofs.PassSteps.{sound-plan, sound-facts, nominal-small, nominal-above, entries-few, period-some, sound-state, sound-size, count-some}
+use Rattle.orders.proofs.SoundFacts.{sound-plan, sound-facts, nominal-small, nominal-above, entries-few, period-some, sound-state, sound-size, count-some}
 
 -- work whose time at some speed is at most the ticks left is done in them at the top speed
 doable-at : (speed work left : ℕ) → 0 < speed → speed ≤ 100 → need speed work ≤ left → work ≤ left * 100

@@ -11,7 +11,7 @@ use Rattle.reclaiming.specs.Orders.{nextArrival}
 use Rattle.reclaiming.specs.Questions.{passQuestions}
 use Rattle.state.specs.Code.{timingIn}
 use Rattle.orders.specs.Code.{Good}
-use Rattle.ticks.proofs.PassSteps.{runnable, sound-state}
+use Rattle.orders.proofs.SoundFacts.{runnable, sound-state}
 use Rattle.passing.proofs.PassLaws.{good-requires, good-clock, good-next, refused-reply, refused-bytes, number-10, number-is, accepted-reply, accepted-bytes}
 use Rattle.passing.proofs.pass.Statement.{statement}
 use Rattle.passing.proofs.pass.Tie as tie

@@ -1,9 +1,18 @@
 -- `choose` meets its contract: the next arrival, and the order up to it.
 -- Assumes nothing.
 use borrow.Author.Needs.{needs}
-use Rattle.orders.proofs.OrderLaws.{choose-next, choose-when}
+use Rattle.orders.proofs.OrderLaws.{Timed, choose-next, choose-when}
 use Rattle.orders.proofs.order.choose.Statement.{statement}
 use Rattle.orders.proofs.order.choose.Tie as tie
+
+timed : (c : tie.After-clock-at) → Timed (c .before .before .before .before .before .args .block .now) (c .before .before .before .before .before .args .keys .now) (c .before .before .count-at .result) (c .clock-at .result)
+timed c = record {
+  holds = c .before .before .before .before .before .pre .0 .0;
+  some = c .before .before .before .before .before .pre .0 .1;
+  keyed = c .before .before .before .before .before .pre .1;
+  same = c .before .before .count-at .ensures;
+  clock-is = c .clock-at .ensures;
+}
 
 count-at-requires : tie.Need-count-at-requires
 count-at-requires c κs = search needs
@@ -12,16 +21,12 @@ clock-at-requires : tie.Need-clock-at-requires
 clock-at-requires c κs = search needs
 
 next-arrival-requires : tie.Need-next-arrival-requires
-next-arrival-requires c κs =
-    choose-next (c .before .before .before .before .before .args .block .now) (c .before .before .before .before .before .args .keys .now) (c .before .before .before .before .before .pre .0 .0) (c .before .before .before .before .before .pre .0 .1) (c .before .before .before .before .before .pre .1) (c .before .before .count-at .result) (c .before .before .count-at .ensures) (c .clock-at .result) (c .clock-at .ensures)
+next-arrival-requires c κs = choose-next (timed c)
 
 choose-until-requires : tie.Need-choose-until-requires
 choose-until-requires c κs = (
   (c .before .before .before .before .before .before .before .pre .0 .0, c .before .before .before .before .before .before .before .pre .0 .2, c .before .before .before .before .before .before .before .pre .0 .3),
-  (
-    c .before .before .before .before .before .before .before .pre .1,
-    choose-when (c .before .before .before .before .before .before .before .args .block .now) (c .before .before .before .before .before .before .before .args .keys .now) (c .before .before .before .before .before .before .before .pre .0 .0) (c .before .before .before .before .before .before .before .pre .0 .1) (c .before .before .before .before .before .before .before .pre .1) (c .before .before .before .before .count-at .result) (c .before .before .before .before .count-at .ensures) (c .before .before .clock-at .result) (c .before .before .clock-at .ensures) (c .before .next-arrival .result) (c .before .next-arrival .ensures),
-  ),
+  (c .before .before .before .before .before .before .before .pre .1, choose-when (timed (c .before .before)) (c .before .next-arrival .result) (c .before .next-arrival .ensures)),
 )
 
 same-length : tie.Need-same-length

@@ -1,9 +1,17 @@
 -- `choose_until` meets its contract: the order that is chosen, stored, and its hold.
 -- Assumes nothing.
 use borrow.Author.Needs.{needs}
-use Rattle.orders.proofs.OrderLaws.{choose-stored, choose-reply}
+use Rattle.orders.proofs.OrderLaws.{Chosen, choose-stored, choose-reply}
 use Rattle.orders.proofs.order.choose_until.Statement.{statement}
 use Rattle.orders.proofs.order.choose_until.Tie as tie
+
+known : (c : tie.After-chosen) → Chosen (c .before .before .before .before .args .block .now) (c .before .before .before .before .args .next) (c .chosen .result)
+known c = record {
+  back = c .before .before .before .before .pre .0 .1;
+  arrival = c .before .before .before .before .pre .1 .1;
+  choice = c .chosen .ensures .0;
+  small = c .chosen .ensures .1;
+}
 
 count-at-requires : tie.Need-count-at-requires
 count-at-requires c κs = search needs
@@ -25,10 +33,8 @@ same-length c = search needs
 
 returns : tie.Need-returns
 returns c = (
-  choose-reply (c .before .before .before .before .before .before .before .before .before .before .args .block .now) (c .before .before .before .before .before .before .before .before .before .before .pre .0 .1) (c .before .before .before .before .before .before .before .before .before .before .args .next) (c .before .before .before .before .before .before .before .before .before .before .pre .1 .1) (c .before .before .before .before .before .before .chosen .result) (c .before .before .before .before .before .before .chosen .ensures)
-      (c .before .hold-of .result) (c .order-of .result) (c .before .hold-of .ensures) (c .order-of .ensures),
-  choose-stored (c .before .before .before .before .before .before .before .before .before .before .args .block .now) (c .before .before .before .before .before .before .before .before .before .before .pre .0 .1) (c .before .before .before .before .before .before .before .before .before .before .args .next) (c .before .before .before .before .before .before .before .before .before .before .pre .1 .1) (c .before .before .before .before .before .before .chosen .result) (c .before .before .before .before .before .before .chosen .ensures)
-      (c .before .before .before .before .put-order .last .0) (c .before .before .before .before .put-order .ensures),
+  choose-reply (known (c .before .before .before .before .before .before)) (c .before .hold-of .result) (c .order-of .result) (c .before .hold-of .ensures) (c .order-of .ensures),
+  choose-stored (known (c .before .before .before .before .before .before)) (c .before .before .before .before .put-order .last .0) (c .before .before .before .before .put-order .ensures),
 )
 
 pub choose-until-spec : {M : Type 1} → statement M

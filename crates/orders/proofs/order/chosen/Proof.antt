@@ -1,18 +1,50 @@
 -- `chosen` meets its contract: no job is open, or the most urgent one is run.
 -- Assumes nothing.
-use mathlib.Core.Path.{refl}
+use mathlib.Core.Path.{_∙_}
+use mathlib.Core.List.{List}
+use native.Mathlib.Omega.{arith}
+use Prim.Native.Nat.{ℕ}
 use borrow.Author.Needs.{needs}
-use Rattle.orders.proofs.OrderLaws.{chosen-none, chosen-level, chosen-some}
+use Rattle.orders.proofs.OrderLaws.{Looked, Picked, chosen-none, chosen-task, chosen-level, chosen-small, chosen-some}
 use Rattle.orders.proofs.order.chosen.Statement.{statement}
 use Rattle.orders.proofs.order.chosen.Tie as tie
+
+abbrev block : tie.Start → List ℕ
+block c = c .args .block .now
+
+abbrev keys : tie.Start → List ℕ
+keys c = c .args .keys .now
+
+looked : (c : tie.After-most-urgent) → Looked (block (c .before .before)) (keys (c .before .before)) (c .before .before .args .count) (c .most-urgent .result)
+looked c = record {
+  holds = c .before .before .pre .0 .0;
+  doable = c .before .before .pre .0 .2;
+  keyed = c .before .before .pre .1;
+  same = c .before .before .pre .0 .1;
+  found = c .most-urgent .ensures;
+}
+
+abbrev start : tie.After-level-for → tie.Start
+start c = c .before .before .before .before .before .before .before
+
+picked :
+    (c : tie.After-level-for) →
+    Picked (block (start c)) (keys (start c)) (start c .args .count) (c .before .before .before .before .before .most-urgent .result)
+    (c .before .before .before .task-in .result) (c .before .before .work-at .result) (c .before .allowance-of .result) (c .level-for .result)
+picked c = record {
+  looked = looked (c .before .before .before .before .before);
+  some = c .before .before .before .before .if1 .left;
+  task = c .before .before .before .task-in .ensures .0;
+  work-is = c .before .before .work-at .ensures .0;
+  allowed-is = c .before .allowance-of .ensures .0;
+  level-is = c .level-for .ensures .0;
+}
 
 most-urgent-requires : tie.Need-most-urgent-requires
 most-urgent-requires c κs = search needs
 
 returns : tie.Need-returns
-returns c =
-    chosen-none (c .before .before .before .args .block .now) (c .before .before .before .args .keys .now) (c .before .before .before .pre .0 .0) (c .before .before .before .pre .0 .2) (c .before .before .before .pre .1) (c .before .before .before .args .count) (c .before .before .before .pre .0 .1)
-    (c .before .most-urgent .result) (c .before .most-urgent .ensures) (c .if1 .taken) record { task = 255; level = 0; time = 0 } refl refl
+returns c = (chosen-none (looked (c .before)) (c .if1 .taken), (omega arith, omega arith))
 
 task-in-requires : tie.Need-task-in-requires
 task-in-requires c κs = search needs
@@ -27,19 +59,13 @@ level-for-requires : tie.Need-level-for-requires
 level-for-requires c κs = search needs
 
 running-order-requires : tie.Need-running-order-requires
-running-order-requires c κs = (
-  c .before .before .before .task-in .ensures .1,
-  chosen-level (c .before .before .before .before .before .before .before .args .block .now) (c .before .before .before .before .before .before .before .args .keys .now) (c .before .before .before .before .before .before .before .pre .0 .0) (c .before .before .before .before .before .before .before .pre .0 .2) (c .before .before .before .before .before .before .before .pre .1) (c .before .before .before .before .before .before .before .args .count) (c .before .before .before .before .before .before .before .pre .0 .1)
-      (c .before .before .before .before .before .most-urgent .result) (c .before .before .before .before .before .most-urgent .ensures) (c .before .before .before .before .if1 .left) (c .before .before .before .task-in .result) (c .before .before .before .task-in .ensures .0)
-      (c .before .before .work-at .result) (c .before .allowance-of .result) (c .level-for .result) (c .before .before .work-at .ensures .0) (c .before .allowance-of .ensures .0) (c .level-for .ensures .0),
-)
+running-order-requires c κs = (chosen-task (picked c), chosen-level (picked c))
 
 returns-2 : tie.Need-returns-2
-returns-2 c =
-    chosen-some (c .before .before .before .before .before .before .before .before .args .block .now) (c .before .before .before .before .before .before .before .before .args .keys .now) (c .before .before .before .before .before .before .before .before .pre .0 .0) (c .before .before .before .before .before .before .before .before .pre .0 .2) (c .before .before .before .before .before .before .before .before .pre .1) (c .before .before .before .before .before .before .before .before .args .count) (c .before .before .before .before .before .before .before .before .pre .0 .1)
-    (c .before .before .before .before .before .before .most-urgent .result) (c .before .before .before .before .before .before .most-urgent .ensures) (c .before .before .before .before .before .if1 .left) (c .before .before .before .before .task-in .result) (c .before .before .before .before .task-in .ensures .0)
-    (c .before .before .before .work-at .result) (c .before .before .allowance-of .result) (c .before .level-for .result) (c .before .before .before .work-at .ensures .0) (c .before .before .allowance-of .ensures .0) (c .before .level-for .ensures .0)
-    (c .running-order .result) (c .running-order .ensures)
+returns-2 c = (
+  c .running-order .ensures ∙ chosen-some (picked (c .before)),
+  chosen-small (picked (c .before)) (c .running-order .result) (c .running-order .ensures),
+)
 
 pub chosen-spec : {M : Type 1} → statement M
 chosen-spec =

@@ -5,13 +5,13 @@ use Rattle.orders.proofs.order.hold_of.Statement.{statement}
 use Rattle.orders.proofs.order.hold_of.Tie as tie
 
 returns : tie.Need-returns
-returns c = hold-idle (c .before .before .args .c .task) (c .before .before .args .c .time) (c .before .before .args .next) (c .if1 .taken)
+returns c = hold-idle (c .before .before .args .c) (c .before .before .args .next) (c .if1 .taken)
 
 returns-2 : tie.Need-returns-2
-returns-2 c = hold-time (c .before .before .before .before .args .c .task) (c .before .before .before .before .args .c .time) (c .before .before .before .before .args .next) (c .before .before .if1 .left) (c .if2 .taken)
+returns-2 c = hold-time (c .before .before .before .before .args .c) (c .before .before .before .before .args .next) (c .before .before .if1 .left) (c .if2 .taken)
 
 returns-3 : tie.Need-returns-3
-returns-3 c = hold-next (c .before .before .before .before .args .c .task) (c .before .before .before .before .args .c .time) (c .before .before .before .before .args .next) (c .before .before .if1 .left) (c .if2 .left)
+returns-3 c = hold-next (c .before .before .before .before .args .c) (c .before .before .before .before .args .next) (c .before .before .if1 .left) (c .if2 .left)
 
 pub hold-of-spec : {M : Type 1} → statement M
 hold-of-spec = tie.close (tie.spec returns returns-2 returns-3)

@@ -1,9 +1,10 @@
 -- `running_order` meets its contract.
 -- Assumes nothing.
-use mathlib.Core.Path.{refl, ap, _∙_}
+use mathlib.Core.Path.{_≡_, ap, _∙_}
 use Prim.Native.Nat.{ℕ}
 use borrow.Author.Needs.{needs}
 use Rattle.arith.specs.Need.{need}
+use Rattle.plan.specs.Levels.{baseSpeeds, speedOf}
 use Rattle.orders.proofs.NeedTests.{speed-positive}
 use Rattle.orders.proofs.order.running_order.Statement.{statement}
 use Rattle.orders.proofs.order.running_order.Tie as tie
@@ -21,11 +22,10 @@ time-needed-requires : tie.Need-time-needed-requires
 time-needed-requires c κs = speed-positive (c .before .args .level) (c .speed-of .result) (c .before .pre .1) (c .speed-of .ensures)
 
 returns : tie.Need-returns
-returns c = (
-  refl,
-  refl,
-  c .time-needed .ensures ∙ ap (λ (x : ℕ). need x (c .before .before .args .work)) (c .before .speed-of .ensures),
-)
+returns c =
+    let time : c .time-needed .result ≡ need (speedOf baseSpeeds (c .before .before .args .level)) (c .before .before .args .work) =
+    c .time-needed .ensures ∙ ap (λ (x : ℕ). need x (c .before .before .args .work)) (c .before .speed-of .ensures) in
+    λ i. record { task = c .before .before .args .i; level = c .before .before .args .level; time = time i }
 
 pub running-order-spec : {M : Type 1} → statement M
 running-order-spec =

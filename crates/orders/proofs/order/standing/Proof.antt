@@ -1,8 +1,9 @@
 -- `standing` meets its contract: the order is to stay idle, or runs one of the tasks.
 -- Assumes nothing.
+use mathlib.Core.Path.{_∙_}
 use native.Mathlib.Omega.{arith}
 use borrow.Author.Needs.{needs}
-use Rattle.orders.proofs.OrderLaws.{standing-task, standing-level, standing-run}
+use Rattle.orders.proofs.OrderLaws.{standing-idle, standing-task, standing-level, standing-run}
 use Rattle.orders.proofs.order.standing.Statement.{statement}
 use Rattle.orders.proofs.order.standing.Tie as tie
 
@@ -22,20 +23,25 @@ cast-t8 : tie.Need-cast-t8
 cast-t8 c = omega (arith, c .before .shared-slice-known3 .given 5)
 
 returns : tie.Need-returns
-returns c = search needs
+returns c = standing-idle (c .before .before .before .before .pre .0) (c .before .before .before .before .pre .1) (c .if1 .taken)
 
 work-at-requires : tie.Need-work-at-requires
-work-at-requires c κs = (standing-task (c .before .before .before .before .args .block .now) (c .before .before .before .before .pre .0) (c .before .before .before .before .pre .1) (c .if1 .left), c .before .before .before .before .pre .0 .size)
+work-at-requires c κs = (
+  standing-task (c .before .before .before .before .pre .0) (c .before .before .before .before .pre .1) (c .if1 .left),
+  c .before .before .before .before .pre .0 .size,
+)
 
 running-order-requires : tie.Need-running-order-requires
 running-order-requires c κs = (
-  standing-task (c .before .before .before .before .before .args .block .now) (c .before .before .before .before .before .pre .0) (c .before .before .before .before .before .pre .1) (c .before .if1 .left),
-  standing-level (c .before .before .before .before .before .args .block .now) (c .before .before .before .before .before .pre .0) (c .before .before .before .before .before .pre .1) (c .before .if1 .left),
+  standing-task (c .before .before .before .before .before .pre .0) (c .before .before .before .before .before .pre .1) (c .before .if1 .left),
+  standing-level (c .before .before .before .before .before .pre .0) (c .before .before .before .before .before .pre .1) (c .before .if1 .left),
 )
 
 returns-2 : tie.Need-returns-2
 returns-2 c =
-    standing-run (c .before .before .before .before .before .before .args .block .now) (c .before .before .before .before .before .before .pre .0) (c .before .before .before .before .before .before .pre .1) (c .before .before .if1 .left) (c .before .work-at .result) (c .running-order .result) (c .before .work-at .ensures .0) (c .running-order .ensures)
+    c .running-order .ensures
+    ∙ standing-run (c .before .before .before .before .before .before .pre .0) (c .before .before .before .before .before .before .pre .1)
+    (c .before .before .if1 .left) (c .before .work-at .result) (c .before .work-at .ensures .0)
 
 pub standing-spec : {M : Type 1} → statement M
 standing-spec =

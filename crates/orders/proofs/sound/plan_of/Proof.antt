@@ -53,14 +53,14 @@ loop-again : tie.Need-loop-again Inv-loop μ-loop
 loop-again c = (
   omega arith,
   c .before .before .before .loop .inv .1,
-  plan-more (c .before .before .before .before .before .before .args .block .now) (c .before .before .before .before .before .before .pre .0 .few) (c .before .before .before .loop .p .tasks) (c .before .before .before .loop .i) (c .before .period-at .result) (c .worst-at .result) (omega (arith, c .before .before .loop-test .taken, c .before .before .before .before .before .before .pre .1)) (c .before .before .before .loop .inv .2) (c .before .period-at .ensures .0) (c .worst-at .ensures .0),
+  plan-more (c .before .before .before .before .before .before .pre .0) (c .before .before .before .loop .p .tasks) (c .before .before .before .loop .i) (c .before .period-at .result) (c .worst-at .result)
+      (omega (arith, c .before .before .loop-test .taken, c .before .before .before .before .before .before .pre .1)) (c .before .before .before .loop .inv .2) (c .before .period-at .ensures .0) (c .worst-at .ensures .0),
 )
 
 returns : tie.Need-returns Inv-loop μ-loop
-returns c = (
-  c .before .loop .inv .1,
-  plan-all (c .before .before .before .before .args .block .now) (c .before .before .before .before .pre .0 .few) (c .before .loop .p) (c .before .loop .i) (c .before .before .before .before .args .count) (c .before .before .before .before .pre .1) (omega arith) (c .before .loop .inv .1) (c .before .loop .inv .2),
-)
+returns c =
+    plan-all (c .before .before .before .before .pre .0) (c .before .loop .p) (c .before .loop .i) (c .before .before .before .before .args .count)
+    (c .before .before .before .before .pre .1) (omega arith) (c .before .loop .inv .1) (c .before .loop .inv .2)
 
 pub plan-of-spec : {M : Type 1} → statement M
 plan-of-spec =

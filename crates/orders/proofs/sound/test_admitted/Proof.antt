@@ -1,70 +1,73 @@
 -- `test_admitted` meets its contract, by each way out.
 -- Assumes nothing.
-use Prim.Native.Nat.{ℕ, _<_, _≤_}
-use mathlib.Core.Bool.{true}
-use mathlib.Core.Path.{subst}
+use mathlib.Core.Path.{_∙_}
 use native.Mathlib.Omega.{arith}
 use borrow.Author.Needs.{needs}
 use borrow.Author.Tests.{not-true, not-false}
-use lib.ListN.{getD}
-use Rattle.reclaiming.specs.StateBlock.{decode}
-use Rattle.reclaiming.specs.Questions.{largestClock}
-use Rattle.state.specs.Code.{timingIn, Keyed}
-use Rattle.orders.proofs.NeedTests.{speed-positive, speed-most}
-use Rattle.orders.proofs.SoundLaws.{periods-in, nominal-below, keyed-in, admitted-entries, admitted-order, admitted-sound}
+use Rattle.orders.proofs.SoundLaws.{Admitted, nominal-below, level-low, admitted-speed, admitted-periods, admitted-keyed, admitted-entries, admitted-order, admitted-sound}
 use Rattle.orders.proofs.sound.test_admitted.Statement.{statement}
 use Rattle.orders.proofs.sound.test_admitted.Tie as tie
 
-low : (c : tie.Start) → c .args .level < 8
-low c = nominal-below (c .args .block .now) (c .pre .1 .1 .0) (c .args .level) (c .pre .1 .1 .1)
-
-some : (c : tie.Start) → 1 ≤ getD (c .args .block .now) 6 0
-some c = subst (λ (n : ℕ). 1 ≤ n) (c .pre .0 .1) (c .pre .0 .2)
-
-clock : (c : tie.Start) → decode (c .args .block .now) .clock ≤ largestClock
-clock c = subst (λ (n : ℕ). n ≤ largestClock) (c .pre .1 .0 .0) (c .pre .1 .0 .1)
-
-keyed : (c : tie.After-keys-of) → Keyed (timingIn (c .before .before .before .before .before .args .block .now)) (decode (c .before .before .before .before .before .args .block .now) .clock) (c .keys-of .result)
-keyed c = keyed-in (c .before .before .before .before .before .args .block .now) (c .before .before .before .before .before .pre .1 .1 .0) (c .keys-of .result) (c .before .before .before .before .before .args .count) (c .before .before .before .before .before .args .clock) (c .before .before .before .before .before .pre .0 .0 .few) (c .before .before .before .before .before .pre .0 .1) (c .before .before .before .before .before .pre .1 .0 .0) (c .before .before .before .before .before .pre .1 .0 .1) (c .keys-of .ensures)
+known : (c : tie.After-speed-of) → Admitted (c .before .before .args .block .now) (c .before .before .args .count) (c .before .before .args .clock) (c .before .before .args .level) (c .speed-of .result)
+known c = record {
+  holds = c .before .before .pre .0 .0;
+  same = c .before .before .pre .0 .1;
+  some = c .before .before .pre .0 .2;
+  clock-is = c .before .before .pre .1 .0 .0;
+  in-range = c .before .before .pre .1 .0 .1;
+  yes-all = c .before .before .pre .1 .1 .0;
+  level-is = c .before .before .pre .1 .1 .1;
+  speed-is = c .speed-of .ensures;
+}
 
 speed-of-requires : tie.Need-speed-of-requires
-speed-of-requires c κs = low (c .before)
+speed-of-requires c κs = nominal-below (c .before .args .block .now) (c .before .pre .1 .1 .0) (c .before .args .level) (c .before .pre .1 .1 .1)
 
 entries-sound-requires : tie.Need-entries-sound-requires
-entries-sound-requires c κs = (
-  c .before .before .pre .0 .0,
-  c .before .before .pre .0 .1,
-  speed-positive (c .before .before .args .level) (c .speed-of .result) (low (c .before .before)) (c .speed-of .ensures),
-  speed-most (c .before .before .args .level) (c .speed-of .result) (low (c .before .before)) (c .speed-of .ensures),
-)
+entries-sound-requires c κs = (known c .holds, known c .same, admitted-speed (known c) .0, admitted-speed (known c) .1)
 
 not-sound-requires : tie.Need-not-sound-requires
 not-sound-requires c κs = search needs
 
 returns : tie.Need-returns
-returns c = admitted-entries (c .before .before .before .before .before .args .block .now) (c .not-sound .result) (c .before .before .before .before .before .args .level) (c .before .before .before .speed-of .result) (c .before .before .before .before .before .pre .1 .1 .1) (c .before .before .before .speed-of .ensures) (c .before .before .entries-sound .result) (c .before .before .entries-sound .ensures) (not-true _ (c .before .if1 .taken)) (c .not-sound .ensures)
+returns c =
+    admitted-entries (known (c .before .before .before)) (c .before .before .entries-sound .result) (c .before .before .entries-sound .ensures)
+    (not-true _ (c .before .if1 .taken)) (c .not-sound .result) (c .not-sound .ensures)
 
 keys-of-requires : tie.Need-keys-of-requires
 keys-of-requires c κs = (
-  (omega (arith, c .before .before .before .before .pre .0 .0 .few, c .before .before .before .before .pre .0 .1), c .before .before .before .before .pre .0 .0 .size, c .before .before .before .before .pre .1 .0 .1),
-  λ i h. periods-in (c .before .before .before .before .args .block .now) (c .before .before .before .before .pre .1 .1 .0) i (subst (λ (n : ℕ). i < n) (c .before .before .before .before .pre .0 .1) h) .0,
+  (
+    omega (arith, known (c .before .before) .holds .few, known (c .before .before) .same),
+    known (c .before .before) .holds .size,
+    known (c .before .before) .in-range,
+  ),
+  admitted-periods (known (c .before .before)),
 )
 
 order-sound-requires : tie.Need-order-sound-requires
-order-sound-requires c κs = ((c .before .before .before .before .before .before .pre .0 .0, c .before .before .before .before .before .before .pre .0 .1, low (c .before .before .before .before .before .before)), keyed (c .before))
+order-sound-requires c κs = (
+  (known (c .before .before .before .before) .holds, known (c .before .before .before .before) .same, level-low (known (c .before .before .before .before))),
+  admitted-keyed (known (c .before .before .before .before)) (c .before .keys-of .result) (c .before .keys-of .ensures),
+)
 
 not-sound-requires-2 : tie.Need-not-sound-requires-2
 not-sound-requires-2 c κs = search needs
 
 returns-2 : tie.Need-returns-2
 returns-2 c =
-    admitted-order (c .before .before .before .before .before .before .before .before .before .args .block .now) (c .not-sound2 .result) (c .before .before .before .before .before .before .before .before .before .args .level) (c .before .before .before .before .before .before .before .speed-of .result) (c .before .before .before .before .before .before .before .before .before .pre .1 .1 .1) (c .before .before .before .before .before .before .before .speed-of .ensures) (c .before .before .before .before .before .before .entries-sound .result) (c .before .before .before .before .before .before .entries-sound .ensures) (not-false _ (c .before .before .before .before .before .if1 .left)) (c .before .before .before .before .before .before .before .before .before .pre .0 .0 .few) (some (c .before .before .before .before .before .before .before .before .before)) (clock (c .before .before .before .before .before .before .before .before .before)) (c .before .before .before .before .before .before .before .before .before .pre .1 .1 .0)
-    (c .before .before .order-sound .result) (c .before .before .order-sound .ensures) (not-true _ (c .before .if2 .taken)) (c .not-sound2 .ensures)
+    admitted-order (known (c .before .before .before .before .before .before .before))
+    (c .before .before .before .before .before .before .entries-sound .result) (c .before .before .before .before .before .before .entries-sound .ensures)
+    (not-false _ (c .before .before .before .before .before .if1 .left))
+    (c .before .before .order-sound .result) (c .before .before .order-sound .ensures) (not-true _ (c .before .if2 .taken))
+    (c .not-sound2 .result) (c .not-sound2 .ensures)
 
 returns-3 : tie.Need-returns-3
 returns-3 c =
-    admitted-sound (c .before .before .before .before .before .before .before .before .args .block .now) (record { sound = true; nominal = c .before .before .before .before .before .before .before .before .args .level; keys = c .before .before .before .keys-of .result }) (c .before .before .before .before .before .before .before .before .args .level) (c .before .before .before .before .before .before .speed-of .result) (c .before .before .before .before .before .before .before .before .pre .1 .1 .1) (c .before .before .before .before .before .before .speed-of .ensures) (c .before .before .before .before .before .entries-sound .result) (c .before .before .before .before .before .entries-sound .ensures) (not-false _ (c .before .before .before .before .if1 .left)) (c .before .before .before .before .before .before .before .before .pre .0 .0 .few) (some (c .before .before .before .before .before .before .before .before)) (clock (c .before .before .before .before .before .before .before .before)) (c .before .before .before .before .before .before .before .before .pre .1 .1 .0)
-    (c .before .order-sound .result) (c .before .order-sound .ensures) (c .before .before .before .keys-of .result) (keyed (c .before .before .before)) (not-false _ (c .if2 .left))
+    admitted-sound (known (c .before .before .before .before .before .before))
+    (c .before .before .before .before .before .entries-sound .result) (c .before .before .before .before .before .entries-sound .ensures)
+    (not-false _ (c .before .before .before .before .if1 .left))
+    (c .before .order-sound .result) (c .before .order-sound .ensures) (not-false _ (c .if2 .left))
+    (c .before .before .before .keys-of .result) (c .before .before .before .keys-of .ensures)
 
 pub test-admitted-spec : {M : Type 1} → statement M
 test-admitted-spec =

@@ -1,6 +1,6 @@
 -- `test_block` meets its contract, by each way out.
 -- Assumes nothing.
-use mathlib.Core.Path.{refl}
+use mathlib.Core.Path.{refl, sym, _∙_}
 use native.Mathlib.Omega.{arith}
 use borrow.Author.Needs.{needs}
 use borrow.Author.Tests.{not-true, not-false}
@@ -43,13 +43,17 @@ not-sound-requires-4 : tie.Need-not-sound-requires-4
 not-sound-requires-4 c κs = search needs
 
 returns-4 : tie.Need-returns-4
-returns-4 c = layout-not (c .before .before .before .before .before .before .before .before .args .block .now) (c .not-sound4 .result) (c .before .before .laid-out .result) (c .before .before .laid-out .ensures) (not-true _ (c .before .if4 .taken)) (c .not-sound4 .ensures)
+returns-4 c =
+    layout-not (c .before .before .before .before .before .before .before .before .args .block .now) (c .not-sound4 .result)
+    (sym (c .before .before .laid-out .ensures) ∙ not-true _ (c .before .if4 .taken)) (c .not-sound4 .ensures)
 
 test-state-requires : tie.Need-test-state-requires
 test-state-requires c κs = (holds (c .before .before), refl, omega (arith, c .before .before .before .if2 .left))
 
 returns-5 : tie.Need-returns-5
-returns-5 c = state-tested (c .before .before .before .before .before .before .before .before .args .block .now) (c .test-state .result) (c .before .before .laid-out .result) (c .before .before .laid-out .ensures) (not-false _ (c .before .if4 .left)) (holds (c .before .before .before)) (c .test-state .ensures .0) (c .test-state .ensures .1)
+returns-5 c =
+    state-tested (c .before .before .before .before .before .before .before .before .args .block .now) (c .test-state .result)
+    (sym (c .before .before .laid-out .ensures) ∙ not-false _ (c .before .if4 .left)) (c .test-state .ensures)
 
 pub test-block-spec : {M : Type 1} → statement M
 test-block-spec =

@@ -2,17 +2,29 @@
 -- Assumes nothing.
 use Prim.Native.Nat.{ℕ, _≤_}
 use mathlib.Core.Path.{_≡_, sym, subst, _∙_}
+use native.Mathlib.Omega.{arith}
 use borrow.Author.Needs.{needs}
 use borrow.Author.Tests.{not-true, not-false, leb-true}
-use Rattle.plan.specs.Blocks.{tasksOf}
 use Rattle.reclaiming.specs.StateBlock.{decode}
 use Rattle.reclaiming.specs.Questions.{largestClock}
-use Rattle.orders.proofs.SoundLaws.{clock-refused, plan-refused, plan-admitted}
+use Rattle.orders.proofs.SoundLaws.{Judged, plan-few, clock-refused, plan-refused, plan-admitted}
 use Rattle.orders.proofs.sound.test_state.Statement.{statement}
 use Rattle.orders.proofs.sound.test_state.Tie as tie
 
 clock : (c : tie.After-new) → c .new .result .ticks ≡ decode (c .before .before .before .args .block .now) .clock
 clock c = c .new .ensures ∙ c .before .clock-at .ensures
+
+abbrev start : tie.After-verdict-of → tie.Start
+start c = c .before .before .before .before .before .before .before
+
+judged : (c : tie.After-verdict-of) → Judged (start c .args .block .now) (start c .args .count) (c .before .plan-of .result) (c .verdict-of .result)
+judged c = record {
+  holds = start c .pre .0;
+  same = start c .pre .1;
+  some = start c .pre .2;
+  plan = c .before .plan-of .ensures;
+  verdict = c .verdict-of .ensures;
+}
 
 clock-at-requires : tie.Need-clock-at-requires
 clock-at-requires c κs = c .before .pre .0 .size
@@ -27,13 +39,15 @@ not-sound-requires : tie.Need-not-sound-requires
 not-sound-requires c κs = search needs
 
 returns : tie.Need-returns
-returns c = clock-refused (c .before .before .before .before .before .before .args .block .now) (c .before .before .before .new .result .ticks) (clock (c .before .before .before)) (c .before .before .in-range .result) (c .before .before .in-range .ensures) (c .not-sound .result) (not-true _ (c .before .if1 .taken)) (c .not-sound .ensures)
+returns c =
+    clock-refused (c .before .before .before .before .before .before .args .block .now) (c .before .before .before .new .result .ticks) (clock (c .before .before .before))
+    (sym (c .before .before .in-range .ensures) ∙ not-true _ (c .before .if1 .taken)) (c .not-sound .result) (c .not-sound .ensures)
 
 plan-of-requires : tie.Need-plan-of-requires
 plan-of-requires c κs = search needs
 
 verdict-of-requires : tie.Need-verdict-of-requires
-verdict-of-requires c κs = subst (λ (n : ℕ). n ≤ 16) (sym (c .plan-of .ensures .0 ∙ c .before .before .before .before .before .before .pre .1)) (c .before .before .before .before .before .before .pre .0 .few)
+verdict-of-requires c κs = plan-few (c .before .before .before .before .before .before .pre .0) (c .plan-of .result) (c .plan-of .ensures)
 
 enum-told : tie.Need-enum-told
 enum-told c = search needs
@@ -44,18 +58,20 @@ not-sound-requires-2 c κs = search needs
 enum-known-v : tie.Need-enum-known-v
 enum-known-v c = search needs
 
+in-range : (c : tie.Else1) → c .before .before .new .result .ticks ≤ largestClock
+in-range c = leb-true (c .before .before .new .result .ticks) largestClock (sym (c .before .in-range .ensures) ∙ not-false _ (c .if1 .left))
+
 test-admitted-requires : tie.Need-test-admitted-requires
 test-admitted-requires c κs = (
-  (c .before .before .before .before .before .before .before .before .before .before .pre .0, c .before .before .before .before .before .before .before .before .before .before .pre .1, c .before .before .before .before .before .before .before .before .before .before .pre .2),
+  (judged (c .before .before .before) .holds, judged (c .before .before .before) .same, judged (c .before .before .before) .some),
   (
-    (clock (c .before .before .before .before .before .before .before), leb-true (c .before .before .before .before .before .before .before .new .result .ticks) largestClock (sym (c .before .before .before .before .before .before .in-range .ensures) ∙ not-false _ (c .before .before .before .before .before .if1 .left))),
-    plan-admitted (c .before .before .before .before .before .before .before .before .before .before .args .block .now) (tasksOf (c .before .before .before .before .plan-of .result)) (c .before .before .before .before .plan-of .ensures .1) (c .before .before .before .verdict-of .result) (c .before .before .before .verdict-of .ensures) _ _ (c .before .v .given .1),
+    (clock (c .before .before .before .before .before .before .before), in-range (c .before .before .before .before .before)),
+    plan-admitted (judged (c .before .before .before)) _ _ (c .before .v .given .1),
   ),
 )
 
 returns-2 : tie.Need-returns-2
-returns-2 c =
-    plan-refused (c .before .before .before .before .before .before .before .before .before .before .args .block .now) (tasksOf (c .before .before .before .before .plan-of .result)) (c .before .before .before .before .plan-of .ensures .1) (c .before .before .before .verdict-of .result) (c .before .before .before .verdict-of .ensures) _ (c .before .enum-told .given .1) (c .before .before .before .before .before .before .before .before .before .before .pre .0 .few) (subst (λ (n : ℕ). 1 ≤ n) (c .before .before .before .before .before .before .before .before .before .before .pre .1) (c .before .before .before .before .before .before .before .before .before .before .pre .2)) (c .not-sound2 .result) (c .not-sound2 .ensures)
+returns-2 c = plan-refused (judged (c .before .before .before)) _ (c .before .enum-told .given .1) (c .not-sound2 .result) (c .not-sound2 .ensures)
 
 returns-3 : tie.Need-returns-3
 returns-3 c = search needs
