@@ -4,13 +4,12 @@ use Prim.Native.Nat.{ℕ, _+_, _-_, _*_, _<_, _≤_}
 use mathlib.Core.Path.{_≡_, refl, sym, ap, ap₂, subst, _∙_}
 use mathlib.Core.Bool.{Bool, true, false}
 use mathlib.Core.List.{List}
-use native.Mathlib.Nat.{not-suc-le-zero}
 use native.Mathlib.Decide.{decLe, ℕ-discrete}
 use native.Mathlib.Omega.{arith}
 use borrow.Author.Tests.{lt-ltb, le-ltb, eq-eqb, ne-eqb}
 use lib.Dec.{ltb}
-use lib.ListN.{length, getD, set, length-set}
-use lib.Seq.{sets, length-sets, getD-set-other}
+use lib.ListN.{length, getD, set}
+use lib.Seq.{sets, length-sets, set-set}
 use Rattle.arith.specs.Choice.{pick}
 use Rattle.arith.specs.Need.{need}
 use Rattle.arith.specs.Digits.{digits}
@@ -18,9 +17,9 @@ use Rattle.plan.specs.Levels.{baseSpeeds, speedOf}
 use Rattle.reclaiming.specs.StateBlock.{State, noEntry, workOf, remainingOf, encode}
 use Rattle.reclaiming.specs.Passes.{workedOf}
 use Rattle.state.specs.Code.{entryIn, changed, withJobs, keyOf, deadlineIn, dueAt}
-use Rattle.ticks.specs.Code.{arrivedState}
+use Rattle.ticks.specs.Code.{arrivedState, renewedKeys}
 use Rattle.state.proofs.BlockLaws.{changed-there, changed-else, encode-worst, encode-work, jobs-count, jobs-worst, jobs-same, jobs-eq, store-work, store-remaining}
-use Rattle.state.proofs.KeySteps.{filled-more}
+use Rattle.arith.proofs.ArrayLaws.{values-more}
 
 -- the state whose running job is worked off, by each way out
 module _ (b : List ℕ) (task level d : ℕ) (finished : Bool) where
@@ -254,70 +253,38 @@ module _ (keys : List ℕ) (count clock speed : ℕ) (b : List ℕ) where
                 (λ j k. upTo-changed (newLeft keys clock speed s) (remainingOf s) i (need speed worst) (ap (λ (t : Bool). pick t (need speed worst) (remainingOf s i)) (sym f)) j));
           }
 
--- the key of task i after its turn
-abbrev keyAfter : List ℕ → List ℕ → ℕ → ℕ → ℕ
-keyAfter b keys clock i =
-    pick (dueAt keys clock i) (keyOf (clock + entryIn b i .period) (entryIn b i .period) i) (getD keys i 0)
+-- the keys of the tasks below n are made
+pub record Renewing (b keys r : List ℕ) (clock n : ℕ) : Type 0 where
+  pub few : n < 16
+  pub so-far : r ≡ renewedKeys b keys n clock
 
-pub record Renewed (b keys : List ℕ) (count clock : ℕ) (r : List ℕ) (n : ℕ) : Type 0 where
-  pub size : length r ≡ 16
-  pub below : n ≤ count
-  pub each : (i : ℕ) → i < n → getD r i 0 ≡ keyAfter b keys clock i
+module _ {b keys r : List ℕ} {clock n : ℕ} (k : Renewing b keys r clock n) where
+  -- the key of a task after its turn
+  abbrev keyAfter : ℕ → ℕ
+  keyAfter i = pick (dueAt keys clock i) (keyOf (clock + entryIn b i .period) (entryIn b i .period) i) (getD keys i 0)
 
-module _ (b keys : List ℕ) (count clock : ℕ) where
-  pub renewed-none : {r : List ℕ} → length r ≡ 16 → Renewed b keys count clock r 0
-  renewed-none h = record { size = h; below = omega arith; each = λ i k. absurd (not-suc-le-zero k) }
-
-  module _ (r : List ℕ) (n : ℕ) (few : count ≤ 16) (now : Renewed b keys count clock r n) where
-    pub renewed-all : count ≤ n → (i : ℕ) → i < count → getD r i 0 ≡ keyAfter b keys clock i
-    renewed-all h i k = now .each i (omega arith)
-
-    module _ (h : n < count) where
-      -- what stands at place n does not matter yet
-      set-again : (x : ℕ) → Renewed b keys count clock (set r n x) n
-      set-again x = record {
-        size = length-set r n x ∙ now .size;
-        below = now .below;
-        each = λ i k. getD-set-other r n i x 0 (λ q. omega arith) ∙ now .each i k;
-      }
-
-      set-more : (x : ℕ) → x ≡ keyAfter b keys clock n → Renewed b keys count clock (set r n x) (n + 1)
-      set-more x e = record {
-        size = length-set r n x ∙ now .size;
-        below = omega arith;
-        each = filled-more (keyAfter b keys clock) r n x (omega (arith, now .size)) e (now .each);
-      }
-
-      -- task n's job stays
-      pub renewed-old :
-          (deadlineIn (getD keys n 0) ≡ clock → ⊥) →
-          (o : List ℕ) →
-          o ≡ set r n (getD keys n 0) →
-          Renewed b keys count clock o (n + 1)
-      renewed-old q o g =
-          subst (λ (l : List ℕ). Renewed b keys count clock l (n + 1)) (sym g)
-          (set-more (getD keys n 0)
-          (ap (λ (t : Bool). pick t (keyOf (clock + entryIn b n .period) (entryIn b n .period) n) (getD keys n 0)) (sym (ne-eqb (deadlineIn (getD keys n 0)) clock q))))
+  -- task n's job stays
+  pub renewed-old : (deadlineIn (getD keys n 0) ≡ clock → ⊥) → (o : List ℕ) → o ≡ set r n (getD keys n 0) → o ≡ renewedKeys b keys (n + 1) clock
+  renewed-old q o g =
+      let e : getD keys n 0 ≡ keyAfter n =
+      ap (λ (t : Bool). pick t (keyOf (clock + entryIn b n .period) (entryIn b n .period) n) (getD keys n 0)) (sym (ne-eqb (deadlineIn (getD keys n 0)) clock q)) in
+      g ∙ values-more 16 0 keyAfter r n (getD keys n 0) (k .few) (k .so-far) e
 
   -- task n has a new job
   pub renewed-new :
-      (r : List ℕ) (n : ℕ) →
-      count ≤ 16 →
-      Renewed b keys count clock r n →
-      n < count →
       deadlineIn (getD keys n 0) ≡ clock →
       (x period key : ℕ) →
       period ≡ entryIn b n .period →
       key ≡ keyOf (clock + period) period n →
       (o : List ℕ) →
       o ≡ set (set r n x) n key →
-      Renewed b keys count clock o (n + 1)
-  renewed-new r n few now h q x period key p e o g =
-      subst (λ (l : List ℕ). Renewed b keys count clock l (n + 1)) (sym g)
-      (set-more (set r n x) n few (set-again r n few now h x) h key
-      (e
+      o ≡ renewedKeys b keys (n + 1) clock
+  renewed-new q x period key p e o g =
+      let new : key ≡ keyAfter n =
+      e
       ∙ ap (λ (y : ℕ). keyOf (clock + y) y n) p
-      ∙ ap (λ (t : Bool). pick t (keyOf (clock + entryIn b n .period) (entryIn b n .period) n) (getD keys n 0)) (sym (eq-eqb (deadlineIn (getD keys n 0)) clock q))))
+      ∙ ap (λ (t : Bool). pick t (keyOf (clock + entryIn b n .period) (entryIn b n .period) n) (getD keys n 0)) (sym (eq-eqb (deadlineIn (getD keys n 0)) clock q)) in
+      g ∙ set-set r n x key ∙ values-more 16 0 keyAfter r n key (k .few) (k .so-far) new
 
 -- where no deadline is the clock, nothing arrives
 arrived-none :

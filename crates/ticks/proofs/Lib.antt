@@ -1,3 +1,3 @@
 pub mod DrainLaws
 pub mod ArriveLaws
-pub mod PassSteps
+pub mod TickSteps

@@ -1,26 +1,17 @@
 -- What d ticks make of a state, step by step.
 -- Assumes nothing.
 use Prim.Native.Nat.{ℕ, _+_, _≤_}
-use mathlib.Core.Bool.{Bool, true}
-use mathlib.Core.List.{List, [], _∷_}
-use lib.Dec.{leb, ltb}
+use mathlib.Core.List.{List}
 use lib.ListN.{getD}
 use Rattle.arith.specs.Choice.{pick}
 use Rattle.arith.specs.Need.{need}
+use Rattle.arith.specs.Ranges.{listTo}
+use Rattle.arith.specs.Arrays.{padded}
 use Rattle.reclaiming.specs.StateBlock.{State, noEntry, workOf, remainingOf, decode}
 use Rattle.reclaiming.specs.Orders.{nextArrival}
-use Rattle.reclaiming.specs.Questions.{largestClock, running, runningTime}
-use Rattle.arith.specs.Asking.{Question, ask}
-use Rattle.plan.specs.Levels.{baseSpeeds}
-use Rattle.state.specs.Code.{timingIn, withJobs, dueAt}
+use Rattle.reclaiming.specs.Questions.{largestClock}
+use Rattle.state.specs.Code.{entryIn, timingIn, withJobs, keyOf, dueAt}
 use Rattle.orders.specs.Code.{Good}
-
--- the questions 13 and 14 of a pass
-abbrev pub finishQuestions : State → ℕ → Bool → List Question
-finishQuestions s d finished =
-    ask 13 (pick finished (running s) true)
-    ∷ ask 14 (pick (running s) (pick finished (leb d (runningTime baseSpeeds s)) (ltb d (runningTime baseSpeeds s))) true)
-    ∷ []
 
 -- d ticks that may pass from a sound block with its keys: some, at most up to the next arrival, and within the largest clock
 pub record Stepping (bytes keys : List ℕ) (highest d : ℕ) : Type 0 where
@@ -35,3 +26,10 @@ arrivedState keys clock speed s =
     withJobs s
     (λ i. pick (dueAt keys clock i) (getD (s .entries) i noEntry .worst) (workOf s i))
     (λ i. pick (dueAt keys clock i) (need speed (getD (s .entries) i noEntry .worst)) (remainingOf s i))
+
+-- the keys of the first so many tasks at a clock, where each task whose deadline is there has a new job; zeros past them
+abbrev pub renewedKeys : List ℕ → List ℕ → ℕ → ℕ → List ℕ
+renewedKeys bytes keys count clock =
+    padded 16 0
+    (listTo count
+    (λ i. pick (dueAt keys clock i) (keyOf (clock + entryIn bytes i .period) (entryIn bytes i .period) i) (getD keys i 0)))

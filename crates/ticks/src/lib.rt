@@ -1,5 +1,6 @@
 // What d ticks make of a state, in its bytes.
 use orders::Choice;
+use state::clock::Clock;
 use state::image::clock_at;
 use state::image::count_at;
 use state::image::period_at;
@@ -27,8 +28,8 @@ ghost use Rattle.reclaiming.specs.Orders.{nextArrival};
 ghost use Rattle.reclaiming.specs.Passes.{workedOf, movedState};
 ghost use Rattle.reclaiming.specs.Questions.{largestClock};
 ghost use Rattle.state.specs.Code.{entryIn, timingIn, withJobs, keyOf, noKey, dueAt, drainedBy};
-ghost use Rattle.orders.specs.Code.{OrderIn};
-ghost use Rattle.ticks.specs.Code.{Stepping, arrivedState};
+ghost use Rattle.orders.specs.Code.{choiceOf};
+ghost use Rattle.ticks.specs.Code.{Stepping, arrivedState, renewedKeys};
 
 // Takes ticks from task i's remaining ones, as many as there are; answers how many it took.
 fn take_from(block: &mut [u8], i: usize, ticks: u32) -> u32
@@ -129,7 +130,7 @@ fn arrive_if(block: &mut [u8], keys: &[u64; 16], count: usize, clock: u32, speed
 pub fn renewed(block: &[u8], keys: &[u64; 16], count: usize, clock: u32) -> [u64; 16]
     requires { ⌜ (count ≤ 16) × (length (now block) ≡ 200) × (clock ≤ largestClock) ⌝ }
     requires { ⌜ ((i : ℕ) → i < count → getD (now keys) i 0 < noKey) ⌝ }
-    ensures { λ r. ⌜ ((i : ℕ) → i < count → getD r i 0 ≡ pick (dueAt (now (keys .entry)) clock i) (keyOf (clock + entryIn (now (block .entry)) i .period) (entryIn (now (block .entry)) i .period) i) (getD (now (keys .entry)) i 0)) ⌝ }
+    ensures { λ r. ⌜ r ≡ renewedKeys (now (block .entry)) (now (keys .entry)) count clock ⌝ }
 {
     let mut r = [0u64; 16];
     let mut i: usize = 0;
@@ -155,15 +156,15 @@ pub fn move_on(
     d: u32,
     finished: bool,
 )
-    requires { ⌜ Stepping (now block) (now keys) highest d × OrderIn (decode (now block)) c ⌝ }
+    requires { ⌜ Stepping (now block) (now keys) highest d × (c ≡ choiceOf (decode (now block))) ⌝ }
     requires { ⌜ next ≡ nextArrival (timingIn (now block)) (decode (now block) .clock) ⌝ }
     ensures { λ _. ⌜ now (block .exit) ≡ encode (movedState baseSpeeds (timingIn (now (block .entry))) (decode (now (block .entry))) d finished) ⌝ }
 {
     let count = count_at(block);
-    let clock = clock_at(block) + d;
+    let clock = Clock::new(clock_at(block)).after(d);
     let speed = judging::speed_of(highest);
     drain(block, keys, count, d);
     work_off(block, c, d, finished);
-    numeric::put_number(block, 0, 4, clock);
-    arrive_if(block, keys, count, clock, speed, d == next);
+    numeric::put_number(block, 0, 4, clock.ticks);
+    arrive_if(block, keys, count, clock.ticks, speed, d == next);
 }

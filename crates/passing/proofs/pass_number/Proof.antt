@@ -2,7 +2,7 @@
 -- Assumes nothing.
 use borrow.Author.Needs.{needs}
 use borrow.Author.Tests.{not-true, not-false}
-use Rattle.ticks.proofs.PassSteps.{no-11, no-12, no-finish, no-15, no-none}
+use Rattle.ticks.proofs.TickSteps.{no-11, no-12, no-finish, no-15, no-none}
 use Rattle.passing.proofs.pass_number.Statement.{statement}
 use Rattle.passing.proofs.pass_number.Tie as tie
 

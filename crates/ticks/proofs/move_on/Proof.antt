@@ -1,40 +1,116 @@
--- `move_on` meets its contract.
+-- `move_on` meets its contract: what each call leaves in the block is the next step of its state.
 -- Assumes nothing.
+use mathlib.Core.Path.{_≡_, ap, _∙_}
+use Prim.Native.Nat.{ℕ, _+_}
+use mathlib.Core.List.{List}
 use native.Mathlib.Omega.{arith}
 use borrow.Author.Needs.{needs}
-use Rattle.ticks.proofs.PassSteps.{highest-small, moving-short, order-form, speed-above, moving-few, moving-keys, moving-none, moved-on}
+use Rattle.orders.specs.declared.Choice.{Choice}
+use Rattle.ticks.proofs.TickSteps.{Moving, Prepared, Stepped, highest-small, moving-short, moving-few, moving-keys, moving-none, order-form, speed-above, moved-on}
 use Rattle.ticks.proofs.move_on.Statement.{statement}
 use Rattle.ticks.proofs.move_on.Tie as tie
+
+-- what the block holds at the start, and the places that others are reached from
+abbrev block : tie.Start → List ℕ
+block c = c .args .block .now
+
+abbrev keys : tie.Start → List ℕ
+keys c = c .args .keys .now
+
+abbrev begun : tie.After-count-at → tie.Start
+begun c = c .before .before .before
+
+abbrev counted : tie.After-speed-of → tie.After-count-at
+counted c = c .before .before .before .before .before
+
+abbrev start : tie.After-speed-of → tie.Start
+start c = begun (counted c)
+
+abbrev sped : tie.After-work-off → tie.After-speed-of
+sped c = c .before .before .before .before .before .before
+
+abbrev worked : tie.After-arrive-if → tie.After-work-off
+worked c = c .before .before .before .before .before .before .before .before
+
+moving : (c : tie.After-count-at) → Moving (block (begun c)) (keys (begun c)) (begun c .args .highest) (begun c .args .d) (begun c .args .c) (c .count-at .result)
+moving c = record { step = begun c .pre .0 .0; order = begun c .pre .0 .1; same = c .count-at .ensures }
+
+prepared :
+    (c : tie.After-speed-of) →
+    Prepared (block (start c)) (keys (start c)) (start c .args .highest) (start c .args .d) (start c .args .c)
+    (counted c .count-at .result) (c .before .after .result .ticks) (c .speed-of .result)
+prepared c = record {
+  moving = moving (counted c);
+  clock-is = c .before .after .ensures ∙ ap (λ (x : ℕ). x + start c .args .d) (c .before .before .new .ensures ∙ c .before .before .before .clock-at .ensures);
+  speed-is = c .speed-of .ensures;
+}
 
 count-at-requires : tie.Need-count-at-requires
 count-at-requires c κs = c .before .before .pre .0 .0 .good .holds
 
 clock-at-requires : tie.Need-clock-at-requires
-clock-at-requires c κs = c .before .before .before .before .pre .0 .0 .good .holds .size
+clock-at-requires c κs = moving (c .before) .step .good .holds .size
 
-add-clock : tie.Need-add-clock
-add-clock c = omega (arith, c .clock-at .ensures, c .before .before .before .before .before .pre .0 .0 .clock)
+new-requires : tie.Need-new-requires
+new-requires c κs = search needs
+
+after-requires : tie.Need-after-requires
+after-requires c κs = omega (arith, moving (c .before .before .before) .step .clock, c .new .ensures, c .before .clock-at .ensures)
 
 speed-of-requires : tie.Need-speed-of-requires
-speed-of-requires c κs = highest-small (c .before .before .before .before .before .args .block .now) (c .before .before .before .before .before .args .keys .now) (c .before .before .before .before .before .args .highest) (c .before .before .before .before .before .args .d) (c .before .before .before .before .before .args .finished) (c .before .before .before .before .before .pre .0 .0) (c .before .before .before .before .before .args .c) (c .before .before .before .before .before .pre .0 .1)
+speed-of-requires c κs = highest-small (moving (c .before .before .before .before))
 
 drain-requires : tie.Need-drain-requires
-drain-requires c κs = ((moving-few (c .before .before .before .before .before .before .before .args .block .now) (c .before .before .before .before .before .before .before .args .keys .now) (c .before .before .before .before .before .before .before .args .highest) (c .before .before .before .before .before .before .before .args .d) (c .before .before .before .before .before .before .before .args .finished) (c .before .before .before .before .before .before .before .pre .0 .0) (c .before .before .before .before .before .before .before .args .c) (c .before .before .before .before .before .before .before .pre .0 .1) (c .before .before .before .before .count-at .result) (c .before .before .before .before .count-at .ensures), c .before .before .before .before .before .before .before .pre .0 .0 .good .holds .size), moving-keys (c .before .before .before .before .before .before .before .args .block .now) (c .before .before .before .before .before .before .before .args .keys .now) (c .before .before .before .before .before .before .before .args .highest) (c .before .before .before .before .before .before .before .args .d) (c .before .before .before .before .before .before .before .args .finished) (c .before .before .before .before .before .before .before .pre .0 .0) (c .before .before .before .before .before .before .before .args .c) (c .before .before .before .before .before .before .before .pre .0 .1) (c .before .before .before .before .count-at .result) (c .before .before .before .before .count-at .ensures))
+drain-requires c κs = (
+  (moving-few (moving (counted (c .before))), moving (counted (c .before)) .step .good .holds .size),
+  moving-keys (moving (counted (c .before))),
+)
 
 work-off-requires : tie.Need-work-off-requires
-work-off-requires c κs = (search needs, moving-short (c .before .before .before .before .before .before .before .before .before .before .before .args .block .now) (c .before .before .before .before .before .before .before .before .before .before .before .args .keys .now) (c .before .before .before .before .before .before .before .before .before .before .before .args .highest) (c .before .before .before .before .before .before .before .before .before .before .before .args .d) (c .before .before .before .before .before .before .before .before .before .before .before .args .finished) (c .before .before .before .before .before .before .before .before .before .before .before .pre .0 .0) (c .before .before .before .before .before .before .before .before .before .before .before .args .c) (c .before .before .before .before .before .before .before .before .before .before .before .pre .0 .1), order-form (c .before .before .before .before .before .before .before .before .before .before .before .args .block .now) (c .before .before .before .before .before .before .before .before .before .before .before .args .keys .now) (c .before .before .before .before .before .before .before .before .before .before .before .args .highest) (c .before .before .before .before .before .before .before .before .before .before .before .args .d) (c .before .before .before .before .before .before .before .before .before .before .before .args .finished) (c .before .before .before .before .before .before .before .before .before .before .before .pre .0 .0) (c .before .before .before .before .before .before .before .before .before .before .before .args .c) (c .before .before .before .before .before .before .before .before .before .before .before .pre .0 .1))
+work-off-requires c κs = (
+  search needs,
+  moving-short (moving (counted (c .before .before .before .before .before))),
+  order-form (moving (counted (c .before .before .before .before .before))),
+)
 
 put-number-requires : tie.Need-put-number-requires
 put-number-requires c κs = search needs
 
 arrive-if-requires : tie.Need-arrive-if-requires
-arrive-if-requires c κs = ((moving-few (c .before .before .before .before .before .before .before .before .before .before .before .before .before .before .before .before .before .before .before .args .block .now) (c .before .before .before .before .before .before .before .before .before .before .before .before .before .before .before .before .before .before .before .args .keys .now) (c .before .before .before .before .before .before .before .before .before .before .before .before .before .before .before .before .before .before .before .args .highest) (c .before .before .before .before .before .before .before .before .before .before .before .before .before .before .before .before .before .before .before .args .d) (c .before .before .before .before .before .before .before .before .before .before .before .before .before .before .before .before .before .before .before .args .finished) (c .before .before .before .before .before .before .before .before .before .before .before .before .before .before .before .before .before .before .before .pre .0 .0) (c .before .before .before .before .before .before .before .before .before .before .before .before .before .before .before .before .before .before .before .args .c) (c .before .before .before .before .before .before .before .before .before .before .before .before .before .before .before .before .before .before .before .pre .0 .1) (c .before .before .before .before .before .before .before .before .before .before .before .before .before .before .before .before .count-at .result) (c .before .before .before .before .before .before .before .before .before .before .before .before .before .before .before .before .count-at .ensures), search needs, speed-above (c .before .before .before .before .before .before .before .before .before .before .before .before .before .before .before .before .before .before .before .args .block .now) (c .before .before .before .before .before .before .before .before .before .before .before .before .before .before .before .before .before .before .before .args .keys .now) (c .before .before .before .before .before .before .before .before .before .before .before .before .before .before .before .before .before .before .before .args .highest) (c .before .before .before .before .before .before .before .before .before .before .before .before .before .before .before .before .before .before .before .args .d) (c .before .before .before .before .before .before .before .before .before .before .before .before .before .before .before .before .before .before .before .args .finished) (c .before .before .before .before .before .before .before .before .before .before .before .before .before .before .before .before .before .before .before .pre .0 .0) (c .before .before .before .before .before .before .before .before .before .before .before .before .before .before .before .before .before .before .before .args .c) (c .before .before .before .before .before .before .before .before .before .before .before .before .before .before .before .before .before .before .before .pre .0 .1) (c .before .before .before .before .before .before .before .before .before .before .before .before .before .speed-of .result) (c .before .before .before .before .before .before .before .before .before .before .before .before .before .speed-of .ensures)), (λ i h. moving-keys (c .before .before .before .before .before .before .before .before .before .before .before .before .before .before .before .before .before .before .before .args .block .now) (c .before .before .before .before .before .before .before .before .before .before .before .before .before .before .before .before .before .before .before .args .keys .now) (c .before .before .before .before .before .before .before .before .before .before .before .before .before .before .before .before .before .before .before .args .highest) (c .before .before .before .before .before .before .before .before .before .before .before .before .before .before .before .before .before .before .before .args .d) (c .before .before .before .before .before .before .before .before .before .before .before .before .before .before .before .before .before .before .before .args .finished) (c .before .before .before .before .before .before .before .before .before .before .before .before .before .before .before .before .before .before .before .pre .0 .0) (c .before .before .before .before .before .before .before .before .before .before .before .before .before .before .before .before .before .before .before .args .c) (c .before .before .before .before .before .before .before .before .before .before .before .before .before .before .before .before .before .before .before .pre .0 .1) (c .before .before .before .before .before .before .before .before .before .before .before .before .before .before .before .before .count-at .result) (c .before .before .before .before .before .before .before .before .before .before .before .before .before .before .before .before .count-at .ensures) i h .1, moving-none (c .before .before .before .before .before .before .before .before .before .before .before .before .before .before .before .before .before .before .before .args .block .now) (c .before .before .before .before .before .before .before .before .before .before .before .before .before .before .before .before .before .before .before .args .keys .now) (c .before .before .before .before .before .before .before .before .before .before .before .before .before .before .before .before .before .before .before .args .highest) (c .before .before .before .before .before .before .before .before .before .before .before .before .before .before .before .before .before .before .before .args .d) (c .before .before .before .before .before .before .before .before .before .before .before .before .before .before .before .before .before .before .before .args .finished) (c .before .before .before .before .before .before .before .before .before .before .before .before .before .before .before .before .before .before .before .pre .0 .0) (c .before .before .before .before .before .before .before .before .before .before .before .before .before .before .before .before .before .before .before .args .c) (c .before .before .before .before .before .before .before .before .before .before .before .before .before .before .before .before .before .before .before .pre .0 .1) (c .before .before .before .before .before .before .before .before .before .before .before .before .before .before .before .before .count-at .result) (c .before .before .before .before .before .before .before .before .before .before .before .before .before .before .before .before .count-at .ensures) (c .before .before .before .before .before .before .before .before .before .before .before .before .before .before .before .before .before .before .before .args .next) (c .before .before .before .before .before .before .before .before .before .before .before .before .before .before .clock-at .result) (c .before .before .before .before .before .before .before .before .before .before .before .before .before .before .before .before .before .before .before .pre .1) (c .before .before .before .before .before .before .before .before .before .before .before .before .before .before .clock-at .ensures)))
+arrive-if-requires c κs = (
+  (
+    moving-few (moving (counted (sped (c .before .before .before .before .before .before .before)))),
+    search needs,
+    speed-above (moving (counted (sped (c .before .before .before .before .before .before .before)))) _
+        (sped (c .before .before .before .before .before .before .before) .speed-of .ensures),
+  ),
+  (
+    λ i h. moving-keys (moving (counted (sped (c .before .before .before .before .before .before .before)))) i h .1,
+    moving-none (prepared (sped (c .before .before .before .before .before .before .before))) _
+        (start (sped (c .before .before .before .before .before .before .before)) .pre .1),
+  ),
+)
 
 same-length : tie.Need-same-length
 same-length c = search needs
 
+-- the block after each call
+stepped :
+    (c : tie.After-arrive-if) →
+    Stepped (block (start (sped (worked c)))) (keys (start (sped (worked c)))) (start (sped (worked c)) .args .highest) (start (sped (worked c)) .args .d)
+    (start (sped (worked c)) .args .c) (counted (sped (worked c)) .count-at .result) (sped (worked c) .before .after .result .ticks)
+    (sped (worked c) .speed-of .result) (start (sped (worked c)) .args .finished)
+    (worked c .before .before .before .before .drain .last .0) (worked c .work-off .last .0) (c .before .before .before .before .put-number .last .0) (c .arrive-if .last .0)
+stepped c = record {
+  prepared = prepared (sped (worked c));
+  drains = worked c .before .before .before .before .drain .ensures;
+  works = worked c .work-off .ensures;
+  clocks = c .before .before .before .before .put-number .ensures;
+  arrives = c .arrive-if .ensures;
+}
+
 returns : tie.Need-returns
-returns c = moved-on (c .before .before .before .before .before .before .before .before .before .before .before .before .before .before .before .before .before .before .before .before .before .before .args .block .now) (c .before .before .before .before .before .before .before .before .before .before .before .before .before .before .before .before .before .before .before .before .before .before .args .keys .now) (c .before .before .before .before .before .before .before .before .before .before .before .before .before .before .before .before .before .before .before .before .before .before .args .highest) (c .before .before .before .before .before .before .before .before .before .before .before .before .before .before .before .before .before .before .before .before .before .before .args .d) (c .before .before .before .before .before .before .before .before .before .before .before .before .before .before .before .before .before .before .before .before .before .before .args .finished) (c .before .before .before .before .before .before .before .before .before .before .before .before .before .before .before .before .before .before .before .before .before .before .pre .0 .0) (c .before .before .before .before .before .before .before .before .before .before .before .before .before .before .before .before .before .before .before .before .before .before .args .c) (c .before .before .before .before .before .before .before .before .before .before .before .before .before .before .before .before .before .before .before .before .before .before .pre .0 .1) (c .before .before .before .before .before .before .before .before .before .before .before .before .before .before .before .before .before .before .before .count-at .result) (c .before .before .before .before .before .before .before .before .before .before .before .before .before .before .before .before .before .before .before .count-at .ensures) (c .before .before .before .before .before .before .before .before .before .before .before .before .before .before .before .before .before .clock-at .result) (c .before .before .before .before .before .before .before .before .before .before .before .before .before .before .before .before .before .clock-at .ensures) (c .before .before .before .before .before .before .before .before .before .before .before .before .before .before .before .before .speed-of .result) (c .before .before .before .before .before .before .before .before .before .before .before .before .before .before .before .before .speed-of .ensures) (c .before .before .before .before .before .before .before .before .before .before .before .before .before .before .drain .last .0) (c .before .before .before .before .before .before .before .before .before .before .work-off .last .0) (c .before .before .before .before .before .before .put-number .last .0) (c .before .before .arrive-if .last .0) (c .before .before .before .before .before .before .before .before .before .before .before .before .before .before .drain .ensures) (c .before .before .before .before .before .before .before .before .before .before .work-off .ensures) (c .before .before .before .before .before .before .put-number .ensures) (c .before .before .arrive-if .ensures)
+returns c = moved-on (stepped (c .before .before))
 
 pub move-on-spec : {M : Type 1} → statement M
 move-on-spec =
@@ -42,7 +118,8 @@ move-on-spec =
     (tie.spec
     count-at-requires
     clock-at-requires
-    add-clock
+    new-requires
+    after-requires
     speed-of-requires
     drain-requires
     work-off-requires

@@ -1,23 +1,23 @@
 -- `renewed` meets its contract. The keys of the tasks below i are made.
 -- Assumes nothing.
-use Prim.Native.Nat.{_-_}
-use mathlib.Core.Path.{refl, sym, _∙_}
+use Prim.Native.Nat.{ℕ, _-_, _<_, _≤_}
+use mathlib.Core.Path.{_≡_, refl, sym, ap, _∙_}
 use mathlib.Core.Logic.{⊎-elim}
-use lib.ListN.{getD}
+use Rattle.ticks.specs.Code.{renewedKeys}
 use native.Mathlib.Omega.{arith}
 use borrow.Author.Needs.{needs}
-use Rattle.ticks.proofs.ArriveLaws.{Renewed, renewed-none, renewed-old, renewed-new, renewed-all}
+use Rattle.ticks.proofs.ArriveLaws.{Renewing, renewed-old, renewed-new}
 use Rattle.ticks.proofs.renewed.Statement.{statement}
 use Rattle.ticks.proofs.renewed.Tie as tie
 
 abbrev Inv-loop : tie.InvT-loop
-Inv-loop block keys count clock r₀ i₀ r i = Renewed block keys count clock r i
+Inv-loop block keys count clock r₀ i₀ r i = (i ≤ count) × (r ≡ renewedKeys block keys i clock)
 
 abbrev μ-loop : tie.MeasureT-loop
 μ-loop block keys count clock r₀ i₀ r i = count - i
 
 loop-holds : tie.Need-loop-holds Inv-loop μ-loop
-loop-holds c = renewed-none (c .before .args .block .now) (c .before .args .keys .now) (c .before .args .count) (c .before .args .clock) refl
+loop-holds c = (omega arith, refl)
 
 mul-key : tie.Need-mul-key Inv-loop μ-loop
 mul-key c = omega (arith, c .before .before .before .pre .0 .0)
@@ -55,15 +55,24 @@ add-i c = omega (arith, c .before .before .before .before .before .before .pre .
 loop-less : tie.Need-loop-less Inv-loop μ-loop
 loop-less c = omega arith
 
+-- what a turn begins with
+turn : (c : tie.In-loop Inv-loop μ-loop) → Renewing (c .before .before .before .args .block .now) (c .before .before .before .args .keys .now) (c .before .loop .r) (c .before .before .before .args .clock) (c .before .loop .i)
+turn c = record { few = omega (arith, c .loop-test .taken, c .before .before .before .pre .0 .0); so-far = c .before .loop .inv .1 }
+
 loop-again : tie.Need-loop-again Inv-loop μ-loop
-loop-again c =
-    ⊎-elim
-    (λ w. renewed-new (c .before .before .before .before .before .before .args .block .now) (c .before .before .before .before .before .before .args .keys .now) (c .before .before .before .before .before .before .args .count) (c .before .before .before .before .before .before .args .clock) (c .before .before .before .before .loop .r) (c .before .before .before .before .loop .i) (c .before .before .before .before .before .before .pre .0 .0) (c .before .before .before .before .loop .inv) (c .before .before .before .loop-test .taken) (sym (c .before .deadline-in .ensures) ∙ w .0 .taken) (getD (c .before .before .before .before .before .before .args .keys .now) (c .before .before .before .before .loop .i) 0) (w .1 .result) (w .2 .result) (w .1 .ensures .0) (w .2 .ensures) (c .if1 .r) (w .3))
-    (λ w. renewed-old (c .before .before .before .before .before .before .args .block .now) (c .before .before .before .before .before .before .args .keys .now) (c .before .before .before .before .before .before .args .count) (c .before .before .before .before .before .before .args .clock) (c .before .before .before .before .loop .r) (c .before .before .before .before .loop .i) (c .before .before .before .before .before .before .pre .0 .0) (c .before .before .before .before .loop .inv) (c .before .before .before .loop-test .taken) (λ z. w .0 .left (c .before .deadline-in .ensures ∙ z)) (c .if1 .r) (w .1))
-    (c .if1 .came)
+loop-again c = (
+  omega arith,
+  ⊎-elim
+      (λ w. renewed-new (turn (c .before .before .before)) (sym (c .before .deadline-in .ensures) ∙ w .0 .taken) _ (w .1 .result) (w .2 .result) (w .1 .ensures .0) (w .2 .ensures) (c .if1 .r) (w .3))
+      (λ w. renewed-old (turn (c .before .before .before)) (λ z. w .0 .left (c .before .deadline-in .ensures ∙ z)) (c .if1 .r) (w .1))
+      (c .if1 .came),
+)
 
 returns : tie.Need-returns Inv-loop μ-loop
-returns c = renewed-all (c .before .before .before .args .block .now) (c .before .before .before .args .keys .now) (c .before .before .before .args .count) (c .before .before .before .args .clock) (c .before .loop .r) (c .before .loop .i) (c .before .before .before .pre .0 .0) (c .before .loop .inv) (c .loop-test .left)
+returns c =
+    let e : c .before .loop .i ≡ c .before .before .before .args .count = omega arith in
+    c .before .loop .inv .1
+    ∙ ap (λ (n : ℕ). renewedKeys (c .before .before .before .args .block .now) (c .before .before .before .args .keys .now) n (c .before .before .before .args .clock)) e
 
 pub renewed-spec : {M : Type 1} → statement M
 renewed-spec =
