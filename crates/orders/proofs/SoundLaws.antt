@@ -1,18 +1,17 @@
 -- What each way out of testing a state block says of whether it is sound.
 -- Assumes nothing.
-use Prim.Native.Nat.{ℕ, zero, suc, _+_, _-_, _*_, _/_, _%_, _<_, _≤_}
+use Prim.Native.Nat.{ℕ, zero, suc, _+_, _*_, _%_, _<_, _≤_}
 use mathlib.Core.Path.{_≡_, refl, sym, subst, ap, ap₂, _∙_}
 use mathlib.Core.Bool.{Bool, true, false}
-use mathlib.Core.List.{List, [], _∷_, _++_}
+use mathlib.Core.List.{List, [], _∷_}
 use native.Mathlib.Nat.{mul-comm, mul-le-mul}
 use native.Mathlib.Numerals.{add-one}
 use native.Mathlib.Omega.{arith}
 use borrow.Author.Tests.{le-leb, lt-leb, eq-eqb, ne-eqb}
-use lib.Dec.{T, leb, ltb, eqb}
-use lib.ListN.{length, getD, take, drop, set, replicate}
-use lib.Seq.{drop-cons, drop-length, length-take-le, take-at, take-all}
+use lib.Dec.{leb, ltb, eqb}
+use lib.ListN.{length, getD, drop, set}
+use lib.Seq.{drop-cons, drop-length, take-all}
 use Rattle.arith.specs.Choice.{pick, both, every}
-use Rattle.arith.specs.Digits.{number}
 use Rattle.arith.specs.Need.{need}
 use Rattle.arith.proofs.Sums.{sumTo-eq}
 use Rattle.plan.specs.declared.Task.{Task}

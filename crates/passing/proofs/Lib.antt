@@ -1,1 +1,2 @@
+pub mod QuestionSteps
 pub mod PassLaws

@@ -8,7 +8,6 @@ use native.Mathlib.Nat.{le-trans, mul-le-mul}
 use native.Mathlib.Decide.{ℕ-discrete}
 use native.Mathlib.Omega.{arith}
 use borrow.Author.Tests.{eq-eqb, ne-eqb}
-use lib.Dec.{eqb}
 use lib.ListN.{length, getD, drop}
 use lib.Seq.{drop-length}
 use Rattle.arith.specs.Choice.{pick}
@@ -30,13 +29,13 @@ use Rattle.reclaiming.specs.declared.Reply.{Reply}
 use Rattle.reclaiming.specs.declared.Reply.the-variants as reply
 use Rattle.reclaiming.specs.StateBlock.{State, noEntry, workOf, remainingOf, planIn, timing, encode, decode}
 use Rattle.reclaiming.specs.Orders.{nextArrival, holdOf, chooseOrder, orderWith}
-use Rattle.arith.specs.Ranges.{leastTo, someTo}
+use Rattle.arith.specs.Ranges.{someTo}
 use Rattle.reclaiming.specs.Passes.{arrivesAt, movedState, choosesAnew, passedState}
-use Rattle.reclaiming.specs.Questions.{largestClock, sound, stateSound, passQuestions}
+use Rattle.reclaiming.specs.Questions.{largestClock, sound, stateSound, runningTime, passQuestions}
 use Rattle.reclaiming.specs.Calls.{repliedBy, passNumber, passOrder, passReply, passBytes}
-use Rattle.state.specs.Code.{Holds, entryIn, timingIn, keyOf, noKey, deadlineIn, dueAt, Keyed}
-use Rattle.orders.specs.Code.{OrderIn, Doable, Good, TestedAs}
-use Rattle.ticks.specs.Code.{Stepping}
+use Rattle.state.specs.Code.{Holds, entryIn, timingIn, keyOf, noKey, dueAt, Keyed}
+use Rattle.orders.specs.Code.{choiceOf, holdBy, orderOf, Doable, Good, testedBy}
+use Rattle.ticks.specs.Code.{Stepping, renewedKeys}
 use Rattle.reclaiming.proofs.Fine.{nominalSpeed, Accepted}
 use Rattle.reclaiming.proofs.StateCodec.{Storable, StorableEntry, decode-encode, length-encode}
 use Rattle.reclaiming.proofs.Soundness.{planIn-at, length-planIn, accepted, fine-storable}
@@ -45,7 +44,9 @@ use Rattle.reclaiming.proofs.PassedStates.{choose-entries, passed-entries}
 use Rattle.reclaiming.proofs.PassSound.{FineEntries, fine-chosen, moved-fine}
 use Rattle.state.proofs.BlockLaws.{count-in, entry-at}
 use Rattle.state.proofs.KeyLaws.{key-below, keyed-after, keyed-on}
-use Rattle.orders.proofs.OrderLaws.{hold-is, choose-next, choose-when}
+use Rattle.orders.proofs.OrderLaws.{hold-is}
+use Rattle.orders.proofs.SoundLaws.{tested-sound}
+use Rattle.arith.proofs.ArrayLaws.{value-at}
 use Rattle.orders.proofs.NeedTests.{speed-most}
 use Rattle.orders.proofs.SoundFacts.{sound-plan, sound-facts, nominal-small, nominal-above, entries-few, period-some, sound-state, sound-size, count-some}
 
@@ -54,7 +55,11 @@ doable-at : (speed work left : ℕ) → 0 < speed → speed ≤ 100 → need spe
 doable-at speed work left h k e = le-trans (need-covers speed work h) (mul-le-mul e k)
 
 -- a pass from a sound state that the questions let through
-module _ (s : State) (ok : stateSound baseSpeeds s ≡ true) (d : ℕ) (finished : Bool) (clear : firstNo (passQuestions baseSpeeds s d finished) ≡ 0) where
+pub record Letting (s : State) (d : ℕ) (finished : Bool) : Type 0 where
+  pub ok : stateSound baseSpeeds s ≡ true
+  pub clear : firstNo (passQuestions baseSpeeds s d finished) ≡ 0
+
+module _ {s : State} {d : ℕ} {finished : Bool} (k : Letting s d finished) where
   abbrev τ : Timing
   τ = timing baseSpeeds (planIn s)
 
@@ -62,45 +67,44 @@ module _ (s : State) (ok : stateSound baseSpeeds s ≡ true) (d : ℕ) (finished
   moved = movedState baseSpeeds τ s d finished
 
   lets : Accepted baseSpeeds τ s d finished
-  lets = accepted baseSpeeds s d finished clear
+  lets = accepted baseSpeeds s d finished (k .clear)
 
   plan : FineList baseSpeeds (length (planIn s)) (planIn s)
-  plan = sound-plan s ok
+  plan = sound-plan s (k .ok)
 
   periods : (i : ℕ) → i < τ .count → 0 < τ .period i
-  periods i h = period-some s ok i (omega (arith, length-planIn s))
+  periods i h = period-some s (k .ok) i (omega (arith, length-planIn s))
 
   -- an order is chosen anew exactly if the job finished or the next arrival is reached
   arrives : Bool
   arrives = someTo (τ .count) (arrivesAt τ (s .clock + d))
 
-  module _ (next : ℕ) (n : next ≡ nextArrival τ (s .clock)) where
-    pub anew-not : finished ≡ false → d < next → choosesAnew τ s d finished ≡ false
-    unfolding arrives
-    anew-not f h =
-        ap (λ (b : Bool). pick b true arrives) f
-        ∙ before-next τ (plan .count-low) periods (s .clock) d (lets .some) (omega (arith, n))
+  anew-not : finished ≡ false → d < nextArrival τ (s .clock) → choosesAnew τ s d finished ≡ false
+  unfolding arrives
+  anew-not f h =
+      ap (λ (b : Bool). pick b true arrives) f
+      ∙ before-next τ (plan .count-low) periods (s .clock) d (lets .some) h
 
-    pub anew-arrives : finished ≡ false → next ≤ d → choosesAnew τ s d finished ≡ true
-    unfolding arrives
-    anew-arrives f h =
-        ap (λ (b : Bool). pick b true arrives) f
-        ∙ next-arrives τ (plan .count-low) periods (s .clock) d (omega (arith, n, lets .within))
+  anew-arrives : finished ≡ false → nextArrival τ (s .clock) ≤ d → choosesAnew τ s d finished ≡ true
+  unfolding arrives
+  anew-arrives f h =
+      ap (λ (b : Bool). pick b true arrives) f
+      ∙ next-arrives τ (plan .count-low) periods (s .clock) d (omega (arith, lets .within))
 
-  pub anew-finished : finished ≡ true → choosesAnew τ s d finished ≡ true
+  anew-finished : finished ≡ true → choosesAnew τ s d finished ≡ true
   unfolding arrives
   anew-finished f = ap (λ (b : Bool). pick b true arrives) f
 
   -- the moved state is fine but for its order, so it fits its block
   moved-facts : FineEntries baseSpeeds (planIn s) moved
-  moved-facts = moved-fine baseSpeeds baseRising (planIn s) plan s (sound-facts s ok) d finished lets
+  moved-facts = moved-fine baseSpeeds baseRising (planIn s) plan s (sound-facts s (k .ok)) d finished lets
 
-  pub moved-count : length (moved .entries) ≡ length (s .entries)
+  moved-count : length (moved .entries) ≡ length (s .entries)
   moved-count = sym (length-planIn moved) ∙ ap length (moved-facts .plan) ∙ length-planIn s
 
   moved-storable : Storable moved
   moved-storable =
-      let old : Storable s = fine-storable baseSpeeds (planIn s) s plan baseRising (omega arith) (sound-facts s ok) in
+      let old : Storable s = fine-storable baseSpeeds (planIn s) s plan baseRising (omega arith) (sound-facts s (k .ok)) in
       let new : Storable (chooseOrder baseSpeeds τ moved) =
       fine-storable baseSpeeds (planIn s) (chooseOrder baseSpeeds τ moved) plan baseRising (omega arith)
       (fine-chosen baseSpeeds (planIn s) (plan .tasks .admitted) moved moved-facts) in
@@ -109,16 +113,16 @@ module _ (s : State) (ok : stateSound baseSpeeds s ≡ true) (d : ℕ) (finished
         clock = omega (arith, moved-facts .clock);
         task = old .task;
         level = old .level;
-        count = omega (arith, moved-count, entries-few s ok);
+        count = omega (arith, moved-count, entries-few s (k .ok));
         entries = subst (λ (l : List Entry). (i : ℕ) → i < length l → StorableEntry (getD l i noEntry)) same (new .entries);
       }
 
   moved-doable : Doable moved
   moved-doable i h =
-      let k : i < length (planIn s) = omega (arith, moved-count, length-planIn s) in
-      doable-at (nominalSpeed baseSpeeds (planIn s)) (workOf moved i) (remainingOf moved i) (nominal-above s ok)
-      (speed-most (nominal baseSpeeds (planIn s)) (speedOf baseSpeeds (nominal baseSpeeds (planIn s))) (nominal-small s ok) refl)
-      (moved-facts .ahead i k)
+      let w : i < length (planIn s) = omega (arith, moved-count, length-planIn s) in
+      doable-at (nominalSpeed baseSpeeds (planIn s)) (workOf moved i) (remainingOf moved i) (nominal-above s (k .ok))
+      (speed-most (nominal baseSpeeds (planIn s)) (speedOf baseSpeeds (nominal baseSpeeds (planIn s))) (nominal-small s (k .ok)) refl)
+      (moved-facts .ahead i w)
 
   -- the order where it stays, and where it is chosen anew
   abbrev ordered : Bool → Reply
@@ -126,194 +130,175 @@ module _ (s : State) (ok : stateSound baseSpeeds s ≡ true) (d : ℕ) (finished
       orderWith (pick b (chooseOrder baseSpeeds τ moved) moved)
       (pick b (holdOf baseSpeeds τ (pick b (chooseOrder baseSpeeds τ moved) moved)) (holdOf baseSpeeds τ s - d))
 
-  -- the bytes after the pass
-  module _ (m : List ℕ) (e : m ≡ encode moved) where
-    pub moved-back : decode m ≡ moved
-    moved-back = ap decode e ∙ decode-encode moved moved-storable
-
-    moved-timing : timingIn m ≡ τ
-    moved-timing = ap (λ (x : State). timing baseSpeeds (planIn x)) moved-back ∙ ap (timing baseSpeeds) (moved-facts .plan)
-
-    pub moved-size : getD m 6 0 ≡ length (s .entries)
-    moved-size = ap (λ (l : List ℕ). getD l 6 0) e ∙ moved-count
-
-    pub moved-holds : Holds m
-    moved-holds = record {
-      size = ap length e ∙ length-encode moved (moved-storable .count);
-      few = omega (arith, moved-size, entries-few s ok);
-    }
-
-    pub moved-again : encode (decode m) ≡ m
-    moved-again = ap encode moved-back ∙ sym e
-
-    pub moved-does : Doable (decode m)
-    moved-does = subst Doable (sym moved-back) moved-doable
-
-    pub moved-clock : decode m .clock ≡ s .clock + d
-    moved-clock = ap (λ (x : State). x .clock) moved-back
-
-    -- its keys
-    pub moved-keyed :
-        (keys : List ℕ) → Keyed τ (s .clock) keys → (count clock : ℕ) → count ≡ getD m 6 0 → clock ≡ decode m .clock → (r : List ℕ) →
-        ((i : ℕ) → i < count → getD r i 0 ≡ pick (dueAt keys clock i) (keyOf (clock + entryIn m i .period) (entryIn m i .period) i) (getD keys i 0)) →
-        Keyed (timingIn m) (decode m .clock) r
-    moved-keyed keys keyed count clock n t r each =
-        let at : clock ≡ s .clock + d = t ∙ moved-clock in
-        let period : (i : ℕ) → i < getD m 6 0 → entryIn m i .period ≡ τ .period i =
-        λ i h.
-        ap (λ (x : Entry). x .period) (sym (entry-at m i h))
-        ∙ ap (λ (x : State). getD (x .entries) i noEntry .period) moved-back
-        ∙ ap (λ (x : Task). x .period) (sym (planIn-at moved i))
-        ∙ ap (λ (l : List Task). getD l i noTask .period) (moved-facts .plan) in
-        let new : Keyed τ (s .clock + d) r =
-        keyed-after τ (s .clock) keys keyed d (lets .some) (lets .within) r (lets .clock)
-        (λ i h.
-        let k : i < getD m 6 0 = omega (arith, moved-size, length-planIn s) in
-        each i (omega (arith, n))
-        ∙ ap₂ (λ (x y : ℕ). pick (dueAt keys x i) (keyOf (x + y) y i) (getD keys i 0)) at (period i k)) in
-        subst (λ (x : Timing). Keyed x (decode m .clock) r) (sym moved-timing)
-        (subst (λ (x : ℕ). Keyed τ x r) (sym moved-clock) new)
-
-    -- before the next arrival its keys are the old ones
-    pub moved-kept : (keys : List ℕ) → Keyed τ (s .clock) keys → d < nextArrival τ (s .clock) → Keyed (timingIn m) (decode m .clock) keys
-    moved-kept keys keyed h =
-        subst (λ (x : Timing). Keyed x (decode m .clock) keys) (sym moved-timing)
-        (subst (λ (x : ℕ). Keyed τ x keys) (sym moved-clock) (keyed-on τ (s .clock) keys keyed d (lets .some) h (lets .clock)))
-
-    pub moved-next : d < nextArrival τ (s .clock) → nextArrival τ (s .clock) - d ≡ nextArrival (timingIn m) (decode m .clock)
-    moved-next h =
-        sym (next-on τ (plan .count-low) periods (s .clock) d h) ∙ ap₂ nextArrival (sym moved-timing) (sym moved-clock)
-
-    -- where the order stays
-    module _ (anew : choosesAnew τ s d finished ≡ false) where
-      pub stays-bytes : m ≡ encode (passedState baseSpeeds τ s d finished)
-      stays-bytes = e ∙ ap (λ (b : Bool). encode (pick b (chooseOrder baseSpeeds τ moved) moved)) (sym anew)
-
-      pub stays-reply :
-          (c : Choice) → OrderIn s c → (next hold : ℕ) → next ≡ nextArrival τ (s .clock) → hold ≡ pick (eqb (c .task) 255) next (min (c .time) next) →
-          (r : Reply) → ((x : State) → c .task ≡ x .task → c .level ≡ x .level → r ≡ orderWith x (hold - d)) → r ≡ passOrder baseSpeeds s d finished
-      stays-reply c o next hold n h r q =
-          q moved (o .task) (o .level)
-          ∙ ap (λ (x : ℕ). orderWith moved (x - d)) (hold-is τ s c o next hold n h)
-          ∙ ap ordered (sym anew)
-
-    -- where one is chosen
-    module _ (anew : choosesAnew τ s d finished ≡ true) where
-      pub anew-bytes : (l : List ℕ) → l ≡ encode (chooseOrder baseSpeeds (timingIn m) (decode m)) → l ≡ encode (passedState baseSpeeds τ s d finished)
-      anew-bytes l h =
-          h
-          ∙ ap₂ (λ (x : Timing) (y : State). encode (chooseOrder baseSpeeds x y)) moved-timing moved-back
-          ∙ ap (λ (b : Bool). encode (pick b (chooseOrder baseSpeeds τ moved) moved)) (sym anew)
-
-      pub anew-reply :
-          (r : Reply) →
-          r ≡ orderWith (chooseOrder baseSpeeds (timingIn m) (decode m)) (holdOf baseSpeeds (timingIn m) (chooseOrder baseSpeeds (timingIn m) (decode m))) →
-          r ≡ passOrder baseSpeeds s d finished
-      anew-reply r h =
-          h
-          ∙ ap₂ (λ (x : Timing) (y : State). orderWith (chooseOrder baseSpeeds x y) (holdOf baseSpeeds x (chooseOrder baseSpeeds x y))) moved-timing moved-back
-          ∙ ap ordered (sym anew)
-
-  -- the hold that stands is at least the ticks of the pass
-  pub hold-enough :
-      (c : Choice) → OrderIn s c → (next hold : ℕ) → next ≡ nextArrival τ (s .clock) → hold ≡ pick (eqb (c .task) 255) next (min (c .time) next) → d ≤ hold
-  hold-enough c o next hold n h =
-      elim (ℕ-discrete (c .task) 255) [
-        | yes e ↦
-            let z : hold ≡ next = h ∙ ap (λ (b : Bool). pick b next (min (c .time) next)) (eq-eqb (c .task) 255 e) in
-            omega (arith, lets .within, n)
-        | no e ↦
-            let z : hold ≡ min (c .time) next = h ∙ ap (λ (b : Bool). pick b next (min (c .time) next)) (ne-eqb (c .task) 255 e) in
-            omega (arith, lets .within, n, o .time e, lets .time (ap not (ne-eqb (s .task) 255 (λ x. e (o .task ∙ x)))))
-      ]
-
   -- a pass leaves as many entries
-  pub passed-few : length (passedState baseSpeeds τ s d finished .entries) ≤ 16
+  passed-few : length (passedState baseSpeeds τ s d finished .entries) ≤ 16
   passed-few =
-      omega (arith, ap length (passed-entries baseSpeeds τ s d finished), moved-count, entries-few s ok)
+      omega (arith, ap length (passed-entries baseSpeeds τ s d finished), moved-count, entries-few s (k .ok))
 
--- the same of a block
-module _ (bytes keys : List ℕ) (highest next d : ℕ) (finished : Bool) (good : Good bytes keys highest)
-    (arrival : next ≡ nextArrival (timingIn bytes) (decode bytes .clock)) (clear : firstNo (passQuestions baseSpeeds (decode bytes) d finished) ≡ 0) where
-  fine : stateSound baseSpeeds (decode bytes) ≡ true
-  fine = sound-state bytes (good .sound)
+-- a pass from a sound block that the questions let through, with the order that stands and the next arrival
+pub record Passing (bytes keys : List ℕ) (highest next d : ℕ) (finished : Bool) (c : Choice) : Type 0 where
+  pub good : Good bytes keys highest
+  pub order : c ≡ choiceOf (decode bytes)
+  pub arrival : next ≡ nextArrival (timingIn bytes) (decode bytes .clock)
+  pub clear : firstNo (passQuestions baseSpeeds (decode bytes) d finished) ≡ 0
 
-  allows : Accepted baseSpeeds (timingIn bytes) (decode bytes) d finished
-  allows = accepted baseSpeeds (decode bytes) d finished clear
+module _ {bytes keys : List ℕ} {highest next d : ℕ} {finished : Bool} {c : Choice} (k : Passing bytes keys highest next d finished c) where
+  letting : Letting (decode bytes) d finished
+  letting = record { ok = sound-state bytes (k .good .sound); clear = k .clear }
 
   pub stepping : Stepping bytes keys highest d
-  stepping = record { good = good; some = allows .some; within = allows .within; clock = allows .clock }
+  stepping = record {
+    good = k .good;
+    some = lets letting .some;
+    within = lets letting .within;
+    clock = lets letting .clock;
+  }
 
-  module _ (c : Choice) (o : OrderIn (decode bytes) c) (m : List ℕ) (e : m ≡ encode (movedState baseSpeeds (timingIn bytes) (decode bytes) d finished)) where
-    pub after-holds : Holds m
-    after-holds = moved-holds (decode bytes) fine d finished clear m e
+  hold-now : holdBy c next ≡ holdOf baseSpeeds (timingIn bytes) (decode bytes)
+  hold-now = ap (λ (x : Choice). holdBy x next) (k .order) ∙ hold-is (timingIn bytes) (decode bytes) next (k .arrival)
 
-    pub after-some : 1 ≤ getD m 6 0
-    after-some = omega (arith, moved-size (decode bytes) fine d finished clear m e, count-in bytes, count-some bytes (good .sound))
+  -- the hold that stands is at least the ticks of the pass
+  pub hold-enough : (hold : ℕ) → hold ≡ holdBy c next → d ≤ hold
+  hold-enough hold h =
+      let s : State = decode bytes in
+      let at : hold ≡ holdOf baseSpeeds (timingIn bytes) s = h ∙ hold-now in
+      elim (ℕ-discrete (s .task) 255) [
+        | yes e ↦
+            let z : holdOf baseSpeeds (timingIn bytes) s ≡ nextArrival (timingIn bytes) (s .clock) = simp (eq-eqb (s .task) 255 e) in
+            omega (arith, lets letting .within)
+        | no e ↦
+            let z : holdOf baseSpeeds (timingIn bytes) s ≡ min (runningTime baseSpeeds s) (nextArrival (timingIn bytes) (s .clock)) =
+            simp (ne-eqb (s .task) 255 e) in
+            omega (arith, lets letting .within, lets letting .time (ap not (ne-eqb (s .task) 255 e)))
+      ]
 
-    pub after-clock : (clock : ℕ) → clock ≡ decode m .clock → clock ≤ largestClock
-    after-clock clock t = omega (arith, moved-clock (decode bytes) fine d finished clear m e, allows .clock)
+-- and the bytes that it was moved on to
+pub record After (bytes keys : List ℕ) (highest next d : ℕ) (finished : Bool) (c : Choice) (m : List ℕ) : Type 0 where
+  pub passing : Passing bytes keys highest next d finished c
+  pub moved : m ≡ encode (movedState baseSpeeds (timingIn bytes) (decode bytes) d finished)
 
-    pub after-below : (count : ℕ) → count ≡ getD m 6 0 → (i : ℕ) → i < count → getD keys i 0 < noKey
-    after-below count n i h =
-        key-below (timingIn bytes) (decode bytes .clock) keys (good .keyed) i
-        (omega (arith, moved-size (decode bytes) fine d finished clear m e, length-planIn (decode bytes)))
+module _ {bytes keys : List ℕ} {highest next d : ℕ} {finished : Bool} {c : Choice} {m : List ℕ} (k : After bytes keys highest next d finished c m) where
+  abbrev start : State
+  start = decode bytes
 
-    pub after-again : encode (decode m) ≡ m
-    after-again = moved-again (decode bytes) fine d finished clear m e
+  abbrev T : Timing
+  T = timingIn bytes
 
-    pub after-does : Doable (decode m)
-    after-does = moved-does (decode bytes) fine d finished clear m e
+  abbrev then : State
+  then = movedState baseSpeeds T start d finished
 
-    pub after-keyed :
-        (count clock : ℕ) → count ≡ getD m 6 0 → clock ≡ decode m .clock → (r : List ℕ) →
-        ((i : ℕ) → i < count → getD r i 0 ≡ pick (dueAt keys clock i) (keyOf (clock + entryIn m i .period) (entryIn m i .period) i) (getD keys i 0)) →
-        Keyed (timingIn m) (decode m .clock) r
-    after-keyed = moved-keyed (decode bytes) fine d finished clear m e keys (good .keyed)
+  allowed : Letting start d finished
+  allowed = letting (k .passing)
 
-    pub after-kept : d < next → Keyed (timingIn m) (decode m .clock) keys
-    after-kept h = moved-kept (decode bytes) fine d finished clear m e keys (good .keyed) (omega (arith, arrival))
+  back : decode m ≡ then
+  back = ap decode (k .moved) ∙ decode-encode then (moved-storable allowed)
 
-    pub after-next : d < next → next - d ≡ nextArrival (timingIn m) (decode m .clock)
-    after-next h = ap (λ (x : ℕ). x - d) arrival ∙ moved-next (decode bytes) fine d finished clear m e (omega (arith, arrival))
+  same-timing : timingIn m ≡ T
+  same-timing = ap (λ (x : State). timing baseSpeeds (planIn x)) back ∙ ap (timing baseSpeeds) (moved-facts allowed .plan)
 
-    pub after-hold : (hold : ℕ) → hold ≡ pick (eqb (c .task) 255) next (min (c .time) next) → d ≤ hold
-    after-hold hold h = hold-enough (decode bytes) fine d finished clear c o next hold arrival h
+  same-count : getD m 6 0 ≡ length (start .entries)
+  same-count = ap (λ (l : List ℕ). getD l 6 0) (k .moved) ∙ moved-count allowed
 
-    -- the order stays where the job goes on and the next arrival is not reached
-    module _ (f : finished ≡ false) (h : d < next) where
-      stays : choosesAnew (timingIn bytes) (decode bytes) d finished ≡ false
-      stays = anew-not (decode bytes) fine d finished clear next arrival f h
+  clock-then : decode m .clock ≡ start .clock + d
+  clock-then = ap (λ (x : State). x .clock) back
 
-      pub kept-bytes : m ≡ encode (passedState baseSpeeds (timingIn bytes) (decode bytes) d finished)
-      kept-bytes = stays-bytes (decode bytes) fine d finished clear m e stays
+  pub after-holds : Holds m
+  after-holds = record {
+    size = ap length (k .moved) ∙ length-encode then (moved-storable allowed .count);
+    few = omega (arith, same-count, entries-few start (allowed .ok));
+  }
 
-      pub kept-reply :
-          (hold : ℕ) → hold ≡ pick (eqb (c .task) 255) next (min (c .time) next) → (r : Reply) →
-          ((x : State) → c .task ≡ x .task → c .level ≡ x .level → r ≡ orderWith x (hold - d)) → r ≡ passOrder baseSpeeds (decode bytes) d finished
-      kept-reply hold k r q = stays-reply (decode bytes) fine d finished clear m e stays c o next hold arrival k r q
+  pub after-some : 1 ≤ getD m 6 0
+  after-some = omega (arith, same-count, count-in bytes, count-some bytes (k .passing .good .sound))
 
-    pub chosen-finished : finished ≡ true → choosesAnew (timingIn bytes) (decode bytes) d finished ≡ true
-    chosen-finished = anew-finished (decode bytes) fine d finished clear
+  pub after-clock : (clock : ℕ) → clock ≡ decode m .clock → clock ≤ largestClock
+  after-clock clock t = omega (arith, clock-then, lets allowed .clock)
 
-    pub chosen-late : next ≤ d → choosesAnew (timingIn bytes) (decode bytes) d finished ≡ true
-    chosen-late h =
-        elim (tested finished) as (λ b _. finished ≡ b → choosesAnew (timingIn bytes) (decode bytes) d finished ≡ true) [
-          | passed ↦ λ f. chosen-finished f
-          | failed ↦ λ f. anew-arrives (decode bytes) fine d finished clear next arrival f h
-        ]
-        refl
+  pub after-below : (count : ℕ) → count ≡ getD m 6 0 → (i : ℕ) → i < count → getD keys i 0 < noKey
+  after-below count n i h =
+      key-below T (start .clock) keys (k .passing .good .keyed) i (omega (arith, same-count, length-planIn start))
 
-    module _ (anew : choosesAnew (timingIn bytes) (decode bytes) d finished ≡ true) where
-      pub chosen-bytes :
-          (l : List ℕ) → l ≡ encode (chooseOrder baseSpeeds (timingIn m) (decode m)) → l ≡ encode (passedState baseSpeeds (timingIn bytes) (decode bytes) d finished)
-      chosen-bytes = anew-bytes (decode bytes) fine d finished clear m e anew
+  pub after-again : encode (decode m) ≡ m
+  after-again = ap encode back ∙ sym (k .moved)
 
-      pub chosen-reply :
-          (r : Reply) →
-          r ≡ orderWith (chooseOrder baseSpeeds (timingIn m) (decode m)) (holdOf baseSpeeds (timingIn m) (chooseOrder baseSpeeds (timingIn m) (decode m))) →
-          r ≡ passOrder baseSpeeds (decode bytes) d finished
-      chosen-reply = anew-reply (decode bytes) fine d finished clear m e anew
+  pub after-does : Doable (decode m)
+  after-does = subst Doable (sym back) (moved-doable allowed)
+
+  -- keys at its clock are keys of its block
+  keyed-then : (r : List ℕ) → Keyed T (start .clock + d) r → Keyed (timingIn m) (decode m .clock) r
+  keyed-then r new =
+      subst (λ (x : Timing). Keyed x (decode m .clock) r) (sym same-timing)
+      (subst (λ (x : ℕ). Keyed T x r) (sym clock-then) new)
+
+  period-then : (i : ℕ) → i < getD m 6 0 → entryIn m i .period ≡ T .period i
+  period-then i h =
+      ap (λ (x : Entry). x .period) (sym (entry-at m i h))
+      ∙ ap (λ (x : State). getD (x .entries) i noEntry .period) back
+      ∙ ap (λ (x : Task). x .period) (sym (planIn-at then i))
+      ∙ ap (λ (l : List Task). getD l i noTask .period) (moved-facts allowed .plan)
+
+  pub after-keyed : (count clock : ℕ) → count ≡ getD m 6 0 → clock ≡ decode m .clock → (r : List ℕ) → r ≡ renewedKeys m keys count clock → Keyed (timingIn m) (decode m .clock) r
+  after-keyed count clock n t r e =
+      keyed-then r
+      (keyed-after T (start .clock) keys (k .passing .good .keyed) d (lets allowed .some) (lets allowed .within) r (lets allowed .clock)
+      (λ i h.
+      let w : i < getD m 6 0 = omega (arith, same-count, length-planIn start) in
+      ap (λ (l : List ℕ). getD l i 0) e
+      ∙ value-at 16 0 count (λ j. pick (dueAt keys clock j) (keyOf (clock + entryIn m j .period) (entryIn m j .period) j) (getD keys j 0)) i (omega (arith, n))
+      ∙ ap₂ (λ (x y : ℕ). pick (dueAt keys x i) (keyOf (x + y) y i) (getD keys i 0)) (t ∙ clock-then) (period-then i w)))
+
+  -- before the next arrival its keys are the old ones, and the arrival is d ticks nearer
+  module _ (h : d < next) where
+    before : d < nextArrival T (start .clock)
+    before = omega (arith, k .passing .arrival)
+
+    pub after-kept : Keyed (timingIn m) (decode m .clock) keys
+    after-kept = keyed-then keys (keyed-on T (start .clock) keys (k .passing .good .keyed) d (lets allowed .some) before (lets allowed .clock))
+
+    pub after-next : next - d ≡ nextArrival (timingIn m) (decode m .clock)
+    after-next =
+        ap (λ (x : ℕ). x - d) (k .passing .arrival)
+        ∙ sym (next-on T (plan allowed .count-low) (periods allowed) (start .clock) d before)
+        ∙ ap₂ nextArrival (sym same-timing) (sym clock-then)
+
+    -- and the order stays where the job goes on
+    module _ (f : finished ≡ false) where
+      pub kept-bytes : m ≡ encode (passedState baseSpeeds T start d finished)
+      kept-bytes = k .moved ∙ ap (λ (b : Bool). encode (pick b (chooseOrder baseSpeeds T then) then)) (sym (anew-not allowed f before))
+
+      pub kept-reply : (hold : ℕ) → hold ≡ holdBy c next → (r : Reply) → r ≡ orderOf c (hold - d) → r ≡ passOrder baseSpeeds start d finished
+      kept-reply hold e r q =
+          q
+          ∙ ap₂ (λ (x : Choice) (y : ℕ). orderOf x (y - d)) (k .passing .order) (e ∙ hold-now (k .passing))
+          ∙ ap (ordered allowed) (sym (anew-not allowed f before))
+
+  -- an order is chosen where the job finished or the next arrival is reached
+  pub chosen-finished : finished ≡ true → choosesAnew T start d finished ≡ true
+  chosen-finished f = anew-finished allowed f
+
+  pub chosen-late : next ≤ d → choosesAnew T start d finished ≡ true
+  chosen-late h =
+      elim (tested finished) as (λ b _. finished ≡ b → choosesAnew T start d finished ≡ true) [
+        | passed ↦ λ f. chosen-finished f
+        | failed ↦ λ f. anew-arrives allowed f (omega (arith, k .passing .arrival))
+      ]
+      refl
+
+  module _ (anew : choosesAnew T start d finished ≡ true) where
+    pub chosen-bytes : (l : List ℕ) → l ≡ encode (chooseOrder baseSpeeds (timingIn m) (decode m)) → l ≡ encode (passedState baseSpeeds T start d finished)
+    chosen-bytes l h =
+        h
+        ∙ ap₂ (λ (x : Timing) (y : State). encode (chooseOrder baseSpeeds x y)) same-timing back
+        ∙ ap (λ (b : Bool). encode (pick b (chooseOrder baseSpeeds T then) then)) (sym anew)
+
+    pub chosen-reply :
+        (r : Reply) →
+        r ≡ orderWith (chooseOrder baseSpeeds (timingIn m) (decode m)) (holdOf baseSpeeds (timingIn m) (chooseOrder baseSpeeds (timingIn m) (decode m))) →
+        r ≡ passOrder baseSpeeds start d finished
+    chosen-reply r h =
+        h
+        ∙ ap₂ (λ (x : Timing) (y : State). orderWith (chooseOrder baseSpeeds x y) (holdOf baseSpeeds x (chooseOrder baseSpeeds x y))) same-timing back
+        ∙ ap (ordered allowed) (sym anew)
 
 -- a reply that is a refusal or an order, and the bytes that go with it
 replied-no : (n : ℕ) (order : Reply) → (n ≡ 0 → ⊥) → reply.Refused n ≡ repliedBy n order
@@ -329,56 +314,45 @@ stored-all : (bytes buffer : List ℕ) → length bytes ≡ length buffer → by
 stored-all bytes buffer e =
     sym (append-nil bytes) ∙ ap (λ (l : List ℕ). bytes ++ l) (sym (ap (λ (k : ℕ). drop k buffer) e ∙ drop-length buffer))
 
--- a pass over a block, by each way out
+-- the number of a pass, by whether its block is sound
 module _ (bytes : List ℕ) (d : ℕ) (finished : Bool) where
-  -- the reply and the bytes, by the number
-  abbrev replies : ℕ → Reply
-  replies n = repliedBy n (passOrder baseSpeeds (decode bytes) d finished)
-
-  abbrev after : List ℕ
-  after = encode (passedState baseSpeeds (timingIn bytes) (decode bytes) d finished)
-
-  module _ (n : ℕ) (e : n ≡ passNumber baseSpeeds bytes d finished) (h : n ≡ 0 → ⊥) where
-    pub refused-reply : reply.Refused n ≡ passReply baseSpeeds bytes d finished
-    refused-reply = replied-no n (passOrder baseSpeeds (decode bytes) d finished) h ∙ ap replies e
-
-    pub refused-bytes : bytes ≡ passBytes baseSpeeds bytes d finished
-    refused-bytes = stored-no n after bytes h ∙ ap (λ (k : ℕ). storedBy k after bytes) e
-
-  -- the number, by whether the block is sound
   abbrev numbered : Bool → ℕ
   numbered b = pick b (firstNo (passQuestions baseSpeeds (decode bytes) d finished)) 10
 
-  pub number-10 : (r : Tested) → TestedAs bytes r → r .sound ≡ false → 10 ≡ passNumber baseSpeeds bytes d finished
-  number-10 r tested u = ap numbered (sym u ∙ tested .sound)
+  pub number-10 : (r : Tested) → r ≡ testedBy (sound baseSpeeds bytes) bytes → r .sound ≡ false → 10 ≡ passNumber baseSpeeds bytes d finished
+  number-10 r e u = ap numbered (sym u ∙ tested-sound bytes r e)
 
-  module _ (ok : sound baseSpeeds bytes ≡ true) where
-    pub number-is : (n : ℕ) → n ≡ firstNo (passQuestions baseSpeeds (decode bytes) d finished) → n ≡ passNumber baseSpeeds bytes d finished
-    number-is n e = e ∙ ap numbered (sym ok)
+  pub number-is : sound baseSpeeds bytes ≡ true → (n : ℕ) → n ≡ firstNo (passQuestions baseSpeeds (decode bytes) d finished) → n ≡ passNumber baseSpeeds bytes d finished
+  number-is ok n e = e ∙ ap numbered (sym ok)
 
-    module _ (clear : firstNo (passQuestions baseSpeeds (decode bytes) d finished) ≡ 0) where
-      no-number : 0 ≡ passNumber baseSpeeds bytes d finished
-      no-number = number-is 0 (sym clear)
+  -- the bytes after a pass
+  abbrev after : List ℕ
+  after = encode (passedState baseSpeeds (timingIn bytes) (decode bytes) d finished)
 
-      pub accepted-reply : (r : Reply) → r ≡ passOrder baseSpeeds (decode bytes) d finished → r ≡ passReply baseSpeeds bytes d finished
-      accepted-reply r e = e ∙ ap replies no-number
+  -- a refusal, and what it leaves
+  pub refused :
+      (n : ℕ) →
+      n ≡ passNumber baseSpeeds bytes d finished →
+      (n ≡ 0 → ⊥) →
+      (reply.Refused n ≡ passReply baseSpeeds bytes d finished) × (bytes ≡ passBytes baseSpeeds bytes d finished)
+  refused n e h = (
+    replied-no n (passOrder baseSpeeds (decode bytes) d finished) h ∙ ap (λ (k : ℕ). repliedBy k (passOrder baseSpeeds (decode bytes) d finished)) e,
+    stored-no n after bytes h ∙ ap (λ (k : ℕ). storedBy k after bytes) e,
+  )
 
-      pub accepted-bytes : (l : List ℕ) → l ≡ encode (passedState baseSpeeds (timingIn bytes) (decode bytes) d finished) → l ≡ passBytes baseSpeeds bytes d finished
-      accepted-bytes l e =
-          e
-          ∙ stored-all after bytes
-          (length-encode (passedState baseSpeeds (timingIn bytes) (decode bytes) d finished) (passed-few (decode bytes) (sound-state bytes ok) d finished clear)
-          ∙ sym (sound-size bytes ok))
-          ∙ ap (λ (k : ℕ). storedBy k after bytes) no-number
-
--- the next arrival, from a sound block's keys
-module _ (bytes keys : List ℕ) (highest : ℕ) (good : Good bytes keys highest) (count clock : ℕ) (n : count ≡ getD bytes 6 0) (t : clock ≡ decode bytes .clock) where
-  pub good-requires : ((count ≤ 16) × (1 ≤ count)) × ((i : ℕ) → i < count → (clock ≤ deadlineIn (getD keys i 0)) × (getD keys i 0 < noKey))
-  good-requires = choose-next bytes keys (good .holds) (count-some bytes (good .sound)) (good .keyed) count n clock t
-
-  pub good-clock : clock ≤ largestClock
-  good-clock = omega (arith, sound-facts (decode bytes) (sound-state bytes (good .sound)) .clock)
-
-  pub good-next :
-      (next : ℕ) → next ≡ deadlineIn (leastTo count (λ i. getD keys i 0)) - clock → next ≡ nextArrival (timingIn bytes) (decode bytes .clock)
-  good-next = choose-when bytes keys (good .holds) (count-some bytes (good .sound)) (good .keyed) count n clock t
+-- an order, and the bytes that it leaves
+pub accepts :
+    {bytes keys : List ℕ} {highest next d : ℕ} {finished : Bool} {c : Choice} →
+    Passing bytes keys highest next d finished c →
+    (r : Reply) (l : List ℕ) →
+    r ≡ passOrder baseSpeeds (decode bytes) d finished →
+    l ≡ encode (passedState baseSpeeds (timingIn bytes) (decode bytes) d finished) →
+    (r ≡ passReply baseSpeeds bytes d finished) × (l ≡ passBytes baseSpeeds bytes d finished)
+accepts {bytes} {keys} {highest} {next} {d} {finished} k r l a b =
+    let ok : sound baseSpeeds bytes ≡ true = k .good .sound in
+    let none : 0 ≡ passNumber baseSpeeds bytes d finished = number-is bytes d finished ok 0 (sym (k .clear)) in
+    let same : length (after bytes d finished) ≡ length bytes =
+    length-encode (passedState baseSpeeds (timingIn bytes) (decode bytes) d finished) (passed-few (letting k)) ∙ sym (sound-size bytes ok) in (
+      a ∙ ap (λ (n : ℕ). repliedBy n (passOrder baseSpeeds (decode bytes) d finished)) none,
+      b ∙ stored-all (after bytes d finished) bytes same ∙ ap (λ (n : ℕ). storedBy n (after bytes d finished) bytes) none,
+    )

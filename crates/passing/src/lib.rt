@@ -17,18 +17,18 @@ ghost use mathlib.Core.Path.{_≡_};
 ghost use Prim.Native.Nat.{_≤_};
 ghost use Rattle.plan.specs.Levels.{baseSpeeds};
 ghost use Rattle.arith.specs.Asking.{firstNo};
-ghost use Rattle.reclaiming.specs.StateBlock.{State, planIn, timing, encode, decode};
+ghost use Rattle.reclaiming.specs.StateBlock.{encode, decode};
 ghost use Rattle.reclaiming.specs.Orders.{nextArrival};
 ghost use Rattle.reclaiming.specs.Passes.{passedState};
 ghost use Rattle.reclaiming.specs.Questions.{largestClock, passQuestions};
 ghost use Rattle.reclaiming.specs.Calls.{passOrder, passReply, passBytes};
 ghost use Rattle.state.specs.Code.{timingIn};
-ghost use Rattle.orders.specs.Code.{OrderIn, Good};
-ghost use Rattle.ticks.specs.Code.{finishQuestions};
+ghost use Rattle.orders.specs.Code.{choiceOf, Good};
+ghost use Rattle.passing.specs.Code.{finishQuestions, timeQuestions};
 
 // The first no of the questions 13 and 14, or 0.
 fn finish_number(c: Choice, d: u32, finished: bool) -> u32
-    ensures { λ r. ⌜ ((s : State) → OrderIn s c → r ≡ firstNo (finishQuestions s d finished)) ⌝ }
+    ensures { λ r. ⌜ r ≡ firstNo (finishQuestions c d finished) ⌝ }
 {
     if c.task == 255 {
         if finished {
@@ -51,7 +51,7 @@ fn finish_number(c: Choice, d: u32, finished: bool) -> u32
 // The first no of the questions 11 to 15, or 0.
 fn pass_number(clock: Clock, c: Choice, next: u32, d: u32, finished: bool) -> u32
     requires { ⌜ clock .ticks ≤ largestClock ⌝ }
-    ensures { λ r. ⌜ ((s : State) → clock .ticks ≡ s .clock → OrderIn s c → next ≡ nextArrival (timing baseSpeeds (planIn s)) (s .clock) → r ≡ firstNo (passQuestions baseSpeeds s d finished)) ⌝ }
+    ensures { λ r. ⌜ r ≡ firstNo (timeQuestions (clock .ticks) c next d finished) ⌝ }
 {
     if d < 1 {
         return 11;
@@ -79,7 +79,7 @@ fn passed(
     d: u32,
     finished: bool,
 ) -> Reply
-    requires { ⌜ Good (now block) (now keys) highest × OrderIn (decode (now block)) c ⌝ }
+    requires { ⌜ Good (now block) (now keys) highest × (c ≡ choiceOf (decode (now block))) ⌝ }
     requires { ⌜ next ≡ nextArrival (timingIn (now block)) (decode (now block) .clock) ⌝ }
     requires { ⌜ firstNo (passQuestions baseSpeeds (decode (now block)) d finished) ≡ 0 ⌝ }
     ensures { λ r. ⌜ r ≡ passOrder baseSpeeds (decode (now (block .entry))) d finished ⌝ }

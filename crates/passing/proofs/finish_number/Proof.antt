@@ -1,6 +1,6 @@
 -- `finish_number` meets its contract.
 -- Assumes nothing.
-use Rattle.ticks.proofs.TickSteps.{no-13, idle-on, time-left, time-over, time-whole, time-not}
+use Rattle.passing.proofs.QuestionSteps.{no-13, idle-on, time-left, time-over, time-whole, time-not}
 use Rattle.passing.proofs.finish_number.Statement.{statement}
 use Rattle.passing.proofs.finish_number.Tie as tie
 
