@@ -2,7 +2,7 @@
 -- Assumes nothing.
 use Prim.Native.Nat.{ℕ, _+_, _*_, _<_, _≤_}
 use mathlib.Core.Path.{_≡_, refl, sym, ap, ap₂, _∙_}
-use mathlib.Core.Bool.{Bool, true, false}
+use mathlib.Core.Bool.{Bool, false}
 use mathlib.Core.List.{List, [], _∷_, _++_}
 use native.Mathlib.Numerals.{add-one}
 use native.Mathlib.Omega.{arith}
@@ -24,12 +24,14 @@ use Rattle.orders.specs.declared.Tested.{Tested}
 use Rattle.reclaiming.specs.declared.Entry.{Entry}
 use Rattle.reclaiming.specs.StateBlock.{remainingOf, decode}
 use Rattle.reclaiming.specs.Calls.{queueBytes, shownBytes, showNumber}
-use Rattle.state.specs.Code.{tasksBytes, entryIn, timingIn, readyTo, Listed}
-use Rattle.orders.specs.Code.{Good, TestedAs}
+use Rattle.state.specs.Code.{tasksBytes, entryIn, timingIn, readyTo, readyOf}
+use Rattle.orders.specs.Code.{Good, testedBy}
+use Rattle.orders.proofs.SoundLaws.{tested-sound}
+use Rattle.reclaiming.specs.Questions.{sound}
 use Rattle.reclaiming.proofs.Soundness.{length-planIn}
 use Rattle.state.proofs.BlockLaws.{count-in, entry-at}
 use Rattle.state.proofs.KeyLaws.{ready-bytes}
-use Rattle.state.proofs.ReadySteps.{listed-below}
+use Rattle.state.proofs.ReadySteps.{ready-front, listed-below, listed-length}
 
 -- how many bytes tasks take
 pub length-tasksBytes : (left : ℕ → ℕ) (ts : List ℕ) → length (tasksBytes left ts) ≡ 3 * length ts
@@ -88,65 +90,74 @@ shown-all left ts buffer k len m e a = a ∙ ap (λ (n : ℕ). shownTo left ts b
 abbrev pub remainingIn : List ℕ → ℕ → ℕ
 remainingIn bytes i = entryIn bytes i .remaining
 
--- showing a block, by what its test finds
-module _ (bytes buffer : List ℕ) (t : Tested) (found : TestedAs bytes t) where
-  abbrev LeftByShow : Written → List ℕ → Type 0
-  LeftByShow r m = Leaves (showNumber baseSpeeds bytes (length buffer)) (shownBytes baseSpeeds bytes) buffer r m
+-- what showing a block answers and leaves
+abbrev LeftByShow : List ℕ → List ℕ → Written → List ℕ → Type 0
+LeftByShow bytes buffer r m = Leaves (showNumber baseSpeeds bytes (length buffer)) (shownBytes baseSpeeds bytes) buffer r m
 
-  pub show-unsound : t .sound ≡ false → LeftByShow (written.Refused 10) buffer
-  show-unsound h =
-      leaves-refused (showNumber baseSpeeds bytes (length buffer)) 10 (shownBytes baseSpeeds bytes) buffer (omega arith)
-      (ap (λ (b : Bool). pick b (firstNo (roomQuestion (length (shownBytes baseSpeeds bytes)) (length buffer) ∷ [])) 10) (sym (found .sound) ∙ h))
+-- its number, by whether the block is sound
+abbrev showNo : List ℕ → List ℕ → Bool → ℕ
+showNo bytes buffer b = pick b (firstNo (roomQuestion (length (shownBytes baseSpeeds bytes)) (length buffer) ∷ [])) 10
 
-  module _ (ok : t .sound ≡ true) (n : ℕ) (counted : n ≡ getD bytes 6 0) where
-    good : Good bytes (t .keys) (t .nominal)
-    good = found .good ok
+pub show-unsound :
+    (bytes buffer : List ℕ) (t : Tested) →
+    t ≡ testedBy (sound baseSpeeds bytes) bytes →
+    t .sound ≡ false →
+    LeftByShow bytes buffer (written.Refused 10) buffer
+show-unsound bytes buffer t e h =
+    leaves-refused (showNumber baseSpeeds bytes (length buffer)) 10 (shownBytes baseSpeeds bytes) buffer (omega arith)
+    (ap (showNo bytes buffer) (sym (tested-sound bytes t e) ∙ h))
 
-    -- the ready tasks can be asked for
-    pub show-few : n ≤ 16
-    show-few = omega (arith, good .holds .few)
+-- a sound block with its count and its ready tasks
+pub record Showing (bytes keys : List ℕ) (highest n : ℕ) (q : Ready) : Type 0 where
+  pub good : Good bytes keys highest
+  pub counted : n ≡ getD bytes 6 0
+  pub ready : q ≡ readyOf (readyTo keys (remainingIn bytes) n)
 
-    module _ (q : Ready) (listed : Listed (readyTo (t .keys) (remainingIn bytes) n) q) where
-      -- the bytes to show
-      shown-are : shownBytes baseSpeeds bytes ≡ tasksBytes (remainingIn bytes) (take (q .len) (q .tasks))
-      shown-are =
-          let τ : Timing = timingIn bytes in
-          let now : ℕ = decode bytes .clock in
-          let some : n ≤ τ .count = omega (arith, length-planIn (decode bytes), count-in bytes) in
-          ap (λ (k : ℕ). queueBytes (queueOf τ now (remainingOf (decode bytes)) k)) (count-in bytes ∙ sym counted)
-          ∙ ap (λ (x : List Pending). queueBytes x)
-          (queueOf-cong τ now (remainingOf (decode bytes)) (remainingIn bytes) n
-          (λ i h. ap (λ (e : Entry). e .remaining) (entry-at bytes i (omega arith))))
-          ∙ ready-bytes τ now (t .keys) (good .keyed) (remainingIn bytes) n some
-          ∙ ap (tasksBytes (remainingIn bytes)) (sym (listed .tasks))
+module _ {bytes keys : List ℕ} {highest n : ℕ} {q : Ready} (k : Showing bytes keys highest n q) (buffer : List ℕ) where
+  listed : take (q .len) (q .tasks) ≡ readyTo keys (remainingIn bytes) n
+  listed = ready-front (readyTo keys (remainingIn bytes) n) q (k .ready)
 
-      wanted : length (shownBytes baseSpeeds bytes) ≡ 3 * q .len
-      wanted =
-          ap length shown-are
-          ∙ length-tasksBytes (remainingIn bytes) (take (q .len) (q .tasks))
-          ∙ ap (λ (x : List ℕ). 3 * length x) (listed .tasks)
-          ∙ ap (λ (k : ℕ). 3 * k) (sym (listed .len))
+  pub show-len : q .len ≤ 16
+  show-len = omega (arith, listed-length keys (remainingIn bytes) n q (k .ready), k .counted, k .good .holds .few)
 
-      asked : showNumber baseSpeeds bytes (length buffer) ≡ firstNo (roomQuestion (3 * q .len) (length buffer) ∷ [])
-      asked =
-          ap (λ (b : Bool). pick b (firstNo (roomQuestion (length (shownBytes baseSpeeds bytes)) (length buffer) ∷ [])) 10) (sym (found .sound) ∙ ok)
-          ∙ ap (λ (k : ℕ). firstNo (roomQuestion k (length buffer) ∷ [])) wanted
+  pub show-below : (j : ℕ) → j < q .len → getD (q .tasks) j 0 < 16
+  show-below j h = omega (arith, listed-below keys (remainingIn bytes) n q (k .ready) j h, k .counted, k .good .holds .few)
 
-      pub show-below : (k : ℕ) → k < q .len → getD (q .tasks) k 0 < 16
-      show-below k h = omega (arith, listed-below (t .keys) (remainingIn bytes) n q listed k h, show-few)
+  -- the bytes to show
+  shown-are : shownBytes baseSpeeds bytes ≡ tasksBytes (remainingIn bytes) (take (q .len) (q .tasks))
+  shown-are =
+      let τ : Timing = timingIn bytes in
+      let now : ℕ = decode bytes .clock in
+      let some : n ≤ τ .count = omega (arith, length-planIn (decode bytes), count-in bytes, k .counted) in
+      ap (λ (x : ℕ). queueBytes (queueOf τ now (remainingOf (decode bytes)) x)) (count-in bytes ∙ sym (k .counted))
+      ∙ ap (λ (x : List Pending). queueBytes x)
+      (queueOf-cong τ now (remainingOf (decode bytes)) (remainingIn bytes) n
+      (λ i h. ap (λ (e : Entry). e .remaining) (entry-at bytes i (omega (arith, k .counted)))))
+      ∙ ready-bytes τ now keys (k .good .keyed) (remainingIn bytes) n some
+      ∙ ap (tasksBytes (remainingIn bytes)) (sym listed)
 
-      pub show-short : length buffer < 3 * q .len → LeftByShow (written.Refused 9) buffer
-      show-short h =
-          leaves-refused (showNumber baseSpeeds bytes (length buffer)) 9 (shownBytes baseSpeeds bytes) buffer (omega arith)
-          (asked ∙ ap (λ (b : Bool). pick {A = ℕ} b 0 9) (lt-leb (3 * q .len) (length buffer) h))
+  wanted : length (shownBytes baseSpeeds bytes) ≡ 3 * q .len
+  wanted =
+      ap length shown-are
+      ∙ length-tasksBytes (remainingIn bytes) (take (q .len) (q .tasks))
+      ∙ ap (λ (x : List ℕ). 3 * length x) listed
+      ∙ ap (λ (x : Ready). 3 * x .len) (sym (k .ready))
 
-      pub show-stored :
-          (m : List ℕ) →
-          3 * q .len ≤ length buffer →
-          m ≡ tasksBytes (remainingIn bytes) (take (q .len) (q .tasks)) ++ drop (3 * q .len) buffer →
-          LeftByShow (written.Bytes (3 * q .len)) m
-      show-stored m h e =
-          leaves-written (showNumber baseSpeeds bytes (length buffer)) (3 * q .len) (shownBytes baseSpeeds bytes) buffer m
-          (asked ∙ ap (λ (b : Bool). pick {A = ℕ} b 0 9) (le-leb (3 * q .len) (length buffer) h))
-          (sym wanted)
-          (e ∙ ap₂ (λ (x : List ℕ) (k : ℕ). x ++ drop k buffer) (sym shown-are) (sym wanted))
+  asked : showNumber baseSpeeds bytes (length buffer) ≡ firstNo (roomQuestion (3 * q .len) (length buffer) ∷ [])
+  asked = ap (showNo bytes buffer) (k .good .sound) ∙ ap (λ (x : ℕ). firstNo (roomQuestion x (length buffer) ∷ [])) wanted
+
+  pub show-short : length buffer < 3 * q .len → LeftByShow bytes buffer (written.Refused 9) buffer
+  show-short h =
+      leaves-refused (showNumber baseSpeeds bytes (length buffer)) 9 (shownBytes baseSpeeds bytes) buffer (omega arith)
+      (asked ∙ ap (λ (b : Bool). pick {A = ℕ} b 0 9) (lt-leb (3 * q .len) (length buffer) h))
+
+  pub show-stored :
+      3 * q .len ≤ length buffer →
+      (m : List ℕ) →
+      m ≡ tasksBytes (remainingIn bytes) (take (q .len) (q .tasks)) ++ drop (3 * q .len) buffer →
+      LeftByShow bytes buffer (written.Bytes (3 * q .len)) m
+  show-stored h m e =
+      leaves-written (showNumber baseSpeeds bytes (length buffer)) (3 * q .len) (shownBytes baseSpeeds bytes) buffer m
+      (asked ∙ ap (λ (b : Bool). pick {A = ℕ} b 0 9) (le-leb (3 * q .len) (length buffer) h))
+      (sym wanted)
+      (e ∙ ap₂ (λ (x : List ℕ) (y : ℕ). x ++ drop y buffer) (sym shown-are) (sym wanted))

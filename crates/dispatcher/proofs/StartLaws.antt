@@ -1,6 +1,6 @@
 -- Starting: the image in which every task has a new job, made entry by entry, and the order chosen in it.
 -- Assumes nothing.
-use Prim.Native.Nat.{ℕ, zero, suc, _+_, _-_, _*_, _/_, _<_, _≤_}
+use Prim.Native.Nat.{ℕ, zero, suc, _+_, _-_, _*_, _<_, _≤_}
 use mathlib.Core.Path.{_≡_, refl, sym, subst, ap, ap₂, _∙_}
 use mathlib.Core.Bool.{Bool}
 use mathlib.Core.List.{List, [], _∷_, _++_, map}
@@ -36,7 +36,8 @@ use Rattle.reclaiming.specs.StateBlock.{State, noEntry, taskOf, timingAt, timin
 use Rattle.reclaiming.specs.Orders.{chooseOrder, holdOf, orderWith}
 use Rattle.reclaiming.specs.Passes.{newEntry, startState}
 use Rattle.reclaiming.specs.Calls.{repliedBy, startNumber, startOrder, startReply, startBuffer}
-use Rattle.state.specs.Code.{Holds, entryIn, timingIn, keyOf, Keyed}
+use Rattle.state.specs.Code.{Holds, entryIn, timingIn, latestKey, keysIn, Keyed}
+use Rattle.arith.proofs.ArrayLaws.{value-at}
 use Rattle.orders.specs.Code.{Doable}
 use Rattle.dispatcher.specs.Code.{newState}
 use Rattle.reclaiming.proofs.Fine.{Fine, nominalSpeed}
@@ -175,7 +176,7 @@ newly p size ok level speed image e s new = record {
   bytes = new ∙ ap (λ (x : ℕ). encode (newState x (tasksOf p))) (s ∙ ap (speedOf baseSpeeds) e);
 }
 
-module _ (ts : List Task) (image : List ℕ) (new : Newly ts image) where
+module _ {ts : List Task} {image : List ℕ} (new : Newly ts image) where
   abbrev speed : ℕ
   speed = nominalSpeed baseSpeeds ts
 
@@ -252,14 +253,17 @@ module _ (ts : List Task) (image : List ℕ) (new : Newly ts image) where
       (mul-le-mul-left (need speed worst) (speed-most (nominal baseSpeeds ts) speed level refl)))
 
   -- with the keys that are found
-  module _ (keys : List ℕ) (found : (i : ℕ) → i < length ts → getD keys i 0 ≡ keyOf (0 / entryIn image i .period * entryIn image i .period + entryIn image i .period) (entryIn image i .period) i) where
+  module _ (count : ℕ) (same : count ≡ length ts) (keys : List ℕ) (found : keys ≡ keysIn image count 0) where
     keyed : Keyed τ 0 keys
     keyed = record {
       few = new .good .count-high;
       low = λ i h. task-range baseSpeeds ts (new .good) baseRising i h .period-low;
       high = λ i h. task-range baseSpeeds ts (new .good) baseRising i h .period-high;
       in-range = omega arith;
-      each = λ i h. found i h ∙ ap (λ (e : Entry). keyOf (0 / e .period * e .period + e .period) (e .period) i) (new-in i h);
+      each = λ i h.
+          ap (λ (l : List ℕ). getD l i 0) found
+          ∙ value-at 16 0 count (λ j. latestKey 0 (entryIn image j .period) j) i (omega arith)
+          ∙ ap (λ (e : Entry). latestKey 0 (e .period) i) (new-in i h);
     }
 
     new-keyed : Keyed (timingIn image) (decode image .clock) keys

@@ -1,11 +1,10 @@
 -- `move_on` meets its contract: what each call leaves in the block is the next step of its state.
 -- Assumes nothing.
-use mathlib.Core.Path.{_≡_, ap, _∙_}
+use mathlib.Core.Path.{ap, _∙_}
 use Prim.Native.Nat.{ℕ, _+_}
 use mathlib.Core.List.{List}
 use native.Mathlib.Omega.{arith}
 use borrow.Author.Needs.{needs}
-use Rattle.orders.specs.declared.Choice.{Choice}
 use Rattle.ticks.proofs.TickSteps.{Moving, Prepared, Stepped, highest-small, moving-short, moving-few, moving-keys, moving-none, order-form, speed-above, moved-on}
 use Rattle.ticks.proofs.move_on.Statement.{statement}
 use Rattle.ticks.proofs.move_on.Tie as tie

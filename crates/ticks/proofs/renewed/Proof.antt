@@ -1,6 +1,6 @@
 -- `renewed` meets its contract. The keys of the tasks below i are made.
 -- Assumes nothing.
-use Prim.Native.Nat.{ℕ, _-_, _<_, _≤_}
+use Prim.Native.Nat.{ℕ, _-_, _≤_}
 use mathlib.Core.Path.{_≡_, refl, sym, ap, _∙_}
 use mathlib.Core.Logic.{⊎-elim}
 use Rattle.ticks.specs.Code.{renewedKeys}

@@ -1,55 +1,75 @@
 -- `show` meets its contract: the block is not sound, the buffer is too short, or the queue is stored.
 -- Assumes nothing.
-use mathlib.Core.Path.{_≡_}
-use mathlib.Core.Bool.{true}
+use Prim.Native.Nat.{ℕ}
+use mathlib.Core.List.{List}
+use native.Mathlib.Omega.{arith}
+use borrow.Author.Needs.{needs}
 use borrow.Author.Tests.{not-true, not-false}
 use Rattle.orders.specs.Code.{Good}
-use Rattle.dispatcher.proofs.ShowLaws.{show-unsound, show-few, show-below, show-short, show-stored}
-use borrow.Author.Needs.{needs}
+use Rattle.orders.proofs.SoundLaws.{tested-good}
+use Rattle.dispatcher.proofs.ShowLaws.{Showing, show-unsound, show-len, show-below, show-short, show-stored}
 use Rattle.dispatcher.proofs.show.show.Statement.{statement}
 use Rattle.dispatcher.proofs.show.show.Tie as tie
 
-sound : (c : tie.Else1) → c .before .before .test-block .result .sound ≡ true
-sound c = not-false (c .before .before .test-block .result .sound) (c .if1 .left)
+-- the places that others are reached from
+abbrev begun : tie.Else1 → tie.Start
+begun c = c .before .before .before .before .before
 
-good : (c : tie.Else1) → Good (c .before .before .before .before .before .args .state .now) (c .before .before .test-block .result .keys) (c .before .before .test-block .result .nominal)
-good c = c .before .before .test-block .ensures .good (sound c)
+abbrev sound : tie.After-ready → tie.Else1
+sound c = c .before .before .before .before
+
+abbrev state : tie.Else1 → List ℕ
+state c = begun c .args .state .now
+
+abbrev buffer : tie.After-ready → List ℕ
+buffer c = begun (sound c) .args .buffer .now
+
+good : (c : tie.Else1) → Good (state c) (c .before .before .test-block .result .keys) (c .before .before .test-block .result .nominal)
+good c =
+    tested-good (state c) (c .before .before .test-block .result) (c .before .before .test-block .ensures)
+    (not-false (c .before .before .test-block .result .sound) (c .if1 .left))
+
+showing :
+    (c : tie.After-ready) →
+    Showing (state (sound c)) (sound c .before .before .test-block .result .keys) (sound c .before .before .test-block .result .nominal)
+    (c .before .count-at .result) (c .ready .result)
+showing c = record { good = good (sound c); counted = c .before .count-at .ensures; ready = c .ready .ensures }
 
 test-block-requires : tie.Need-test-block-requires
 test-block-requires c κs = search needs
 
 returns : tie.Need-returns
 returns c =
-    show-unsound (c .before .before .before .before .before .args .state .now) (c .before .before .before .before .before .args .buffer .now) (c .before .before .test-block .result) (c .before .before .test-block .ensures) (not-true (c .before .before .test-block .result .sound) (c .if1 .taken))
+    show-unsound (c .before .before .before .before .before .args .state .now) (c .before .before .before .before .before .args .buffer .now)
+    (c .before .before .test-block .result) (c .before .before .test-block .ensures) (not-true (c .before .before .test-block .result .sound) (c .if1 .taken))
 
 count-at-requires : tie.Need-count-at-requires
 count-at-requires c κs = good (c .before .before) .holds
 
 ready-requires : tie.Need-ready-requires
 ready-requires c κs = (
-  show-few (c .before .before .before .before .before .before .before .before .args .state .now) (c .before .before .before .before .before .before .before .before .args .buffer .now) (c .before .before .before .before .before .test-block .result) (c .before .before .before .before .before .test-block .ensures) (sound (c .before .before .before)) (c .count-at .result) (c .count-at .ensures),
+  omega (arith, c .count-at .ensures, good (c .before .before .before) .holds .few),
   good (c .before .before .before) .holds .size,
 )
 
 mul-wanted : tie.Need-mul-wanted
-mul-wanted c = search needs
+mul-wanted c = omega (arith, show-len (showing (c .before)) (buffer (c .before)))
 
 returns-2 : tie.Need-returns-2
-returns-2 c =
-    show-short (c .before .before .before .before .before .before .before .before .before .before .before .args .state .now) (c .before .before .before .before .before .before .before .before .before .before .before .args .buffer .now) (c .before .before .before .before .before .before .before .before .test-block .result) (c .before .before .before .before .before .before .before .before .test-block .ensures) (sound (c .before .before .before .before .before .before)) (c .before .before .before .count-at .result) (c .before .before .before .count-at .ensures) (c .before .before .ready .result) (c .before .before .ready .ensures) (c .if2 .taken)
+returns-2 c = show-short (showing (c .before .before)) (buffer (c .before .before)) (c .if2 .taken)
 
 put-queue-requires : tie.Need-put-queue-requires
-put-queue-requires c κs = (
-  (good (c .before .before .before .before .before .before .before) .holds .size, c .before .before .before .ready .ensures .few, c .before .if2 .left),
-  show-below (c .before .before .before .before .before .before .before .before .before .before .before .before .args .state .now) (c .before .before .before .before .before .before .before .before .before .before .before .before .args .buffer .now) (c .before .before .before .before .before .before .before .before .before .test-block .result) (c .before .before .before .before .before .before .before .before .before .test-block .ensures) (sound (c .before .before .before .before .before .before .before)) (c .before .before .before .before .count-at .result) (c .before .before .before .before .count-at .ensures) (c .before .before .before .ready .result) (c .before .before .before .ready .ensures),
-)
+put-queue-requires c κs =
+    let r : tie.After-ready = c .before .before .before in
+    ((good (sound r) .holds .size, show-len (showing r) (buffer r), c .before .if2 .left), show-below (showing r) (buffer r))
 
 same-length : tie.Need-same-length
 same-length c = search needs
 
 returns-3 : tie.Need-returns-3
 returns-3 c =
-    show-stored (c .before .before .before .before .before .before .before .before .before .before .before .before .before .before .before .args .state .now) (c .before .before .before .before .before .before .before .before .before .before .before .before .before .before .before .args .buffer .now) (c .before .before .before .before .before .before .before .before .before .before .before .before .test-block .result) (c .before .before .before .before .before .before .before .before .before .before .before .before .test-block .ensures) (sound (c .before .before .before .before .before .before .before .before .before .before)) (c .before .before .before .before .before .before .before .count-at .result) (c .before .before .before .before .before .before .before .count-at .ensures) (c .before .before .before .before .before .before .ready .result) (c .before .before .before .before .before .before .ready .ensures) (c .before .before .put-queue .last .0) (c .before .before .before .before .if2 .left) (c .before .before .put-queue .ensures)
+    let r : tie.After-ready = c .before .before .before .before .before .before in
+    show-stored (showing r) (buffer r) (c .before .before .before .before .if2 .left) (c .before .before .put-queue .last .0) (c .before .before .put-queue .ensures)
 
 pub show-spec : {M : Type 1} → statement M
 show-spec =
