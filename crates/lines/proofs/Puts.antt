@@ -8,12 +8,10 @@ use native.Mathlib.Nat.{add-zero}
 use native.Mathlib.Numerals.{add-one}
 use native.Mathlib.Omega.{arith}
 use borrow.Author.Tests.{lt-ltb, le-ltb}
-use lib.ListN.{length, getD, drop, set, length-append}
+use lib.ListN.{length, getD, drop, set, length-set, length-append}
 use lib.Seq.{sets, drop-cons, drop-length}
 use Rattle.arith.specs.Choice.{pick}
-use Rattle.reclaiming.specs.declared.Reply.{Reply}
 use Rattle.transcript.specs.Text.{decimalWithin}
-use Rattle.transcript.specs.Listing.{replyLine}
 use Rattle.lines.specs.Stores.{Put}
 
 -- a run of two texts is stored text by text
@@ -23,9 +21,11 @@ sets-append l at (a ∷ s) t =
     let e : suc at + length s ≡ at + suc (length s) = omega arith in
     sets-append (set l at a) (suc at) s t ∙ ap (λ (k : ℕ). sets (sets (set l at a) (suc at) s) k t) e
 
-pub then :
+-- a text, then another
+infixr 40 _then_
+pub _then_ :
     {m n at r q : ℕ} {a b c s t : List ℕ} → Put m a at s r b → Put n b r t q c → Put (m + n) a at (s ++ t) q c
-then {m} {n} {at} {r} {q} {a} {b} {c} {s} {t} p w = record {
+_then_ {m} {n} {at} {r} {q} {a} {b} {c} {s} {t} p w = record {
   place = omega (arith, p .place, w .place, length-append s t);
   bytes = w .bytes ∙ ap₂ (λ (x : List ℕ) (k : ℕ). sets x k t) (p .bytes) (p .place) ∙ sym (sets-append a at s t);
   near = omega (arith, p .near, w .near);
@@ -39,29 +39,41 @@ wider p h = record { place = p .place; bytes = p .bytes; near = omega (arith, p 
 pub as-text : {m n at r : ℕ} {a b s t : List ℕ} → Put m a at s r b → s ≡ t → m ≤ n → Put n a at t r b
 as-text {m} {n} {at} {r} {a} {b} p e h = wider (subst (λ (x : List ℕ). Put m a at x r b) e p) h
 
--- a word stored byte by byte: what is still to be stored
-pub word-more :
-    (word out whole : List ℕ) (at i : ℕ) →
-    i < length word →
-    sets out (at + i) (drop i word) ≡ whole →
-    sets (set out (at + i) (getD word i 0)) (at + (i + 1)) (drop (i + 1) word) ≡ whole
-word-more word out whole at i h inv =
-    let e : at + (i + 1) ≡ suc (at + i) = omega arith in
-    ap₂ (λ (k j : ℕ). sets (set out (at + i) (getD word i 0)) k (drop j word)) e (add-one i)
-    ∙ sym (ap (λ (l : List ℕ). sets out (at + i) l) (drop-cons word i 0 h))
-    ∙ inv
+-- a word stored byte by byte: what is still to be stored completes it
+pub record Storing (word start : List ℕ) (at : ℕ) (out : List ℕ) (i : ℕ) : Type 0 where
+  pub inside : i ≤ length word
+  pub room : length out ≡ length start
+  pub bytes : sets out (at + i) (drop i word) ≡ sets start at word
 
-pub word-all :
-    (word out start : List ℕ) (at i : ℕ) →
-    length word ≤ 7 →
-    i ≡ length word →
-    sets out (at + i) (drop i word) ≡ sets start at word →
-    Put 7 start at word (at + i) out
-word-all word out start at i few e inv = record {
-  place = ap (λ (k : ℕ). at + k) e;
-  bytes = ap (λ (l : List ℕ). sets out (at + i) l) (sym (drop-length word) ∙ ap (λ (k : ℕ). drop k word) (sym e)) ∙ inv;
-  near = omega arith;
+pub storing-first : (word out : List ℕ) (at : ℕ) → Storing word out at out 0
+storing-first word out at = record {
+  inside = omega arith;
+  room = refl;
+  bytes = ap (λ (k : ℕ). sets out k word) (add-zero at);
 }
+
+module _ {word start : List ℕ} {at : ℕ} {out : List ℕ} {i : ℕ} (s : Storing word start at out i) where
+  pub storing-more : i < length word → Storing word start at (set out (at + i) (getD word i 0)) (i + 1)
+  storing-more h =
+      let e : at + (i + 1) ≡ suc (at + i) = omega arith in
+      record {
+        inside = omega arith;
+        room = length-set out (at + i) (getD word i 0) ∙ s .room;
+        bytes =
+            ap₂ (λ (k j : ℕ). sets (set out (at + i) (getD word i 0)) k (drop j word)) e (add-one i)
+            ∙ sym (ap (λ (l : List ℕ). sets out (at + i) l) (drop-cons word i 0 h))
+            ∙ s .bytes;
+      }
+
+  pub storing-all : length word ≤ 7 → length word ≤ i → Put 7 start at word (at + i) out
+  storing-all few h =
+      let e : i ≡ length word = omega (arith, s .inside) in
+      let none : [] ≡ drop i word = sym (drop-length word) ∙ ap (λ (k : ℕ). drop k word) (sym e) in
+      record {
+        place = ap (λ (k : ℕ). at + k) e;
+        bytes = ap (λ (l : List ℕ). sets out (at + i) l) none ∙ s .bytes;
+        near = omega arith;
+      }
 
 -- a number in decimal: no digit before its last, a number of one digit, and one of more
 pub digits-none :
@@ -96,15 +108,7 @@ pub digits-more :
 digits-more zero n h l p w = absurd (h refl)
 digits-more (suc more) n h l p w =
     let e : suc more - 1 ≡ more = omega arith in
-    as-text (then p w)
+    as-text (p then w)
     (ap (λ (k : ℕ). decimalWithin k (n / 10) ++ ((48 + n % 10) ∷ [])) e
     ∙ sym (ap (λ (t : Bool). pick t ((48 + n) ∷ []) (decimalWithin more (n / 10) ++ ((48 + n % 10) ∷ []))) (le-ltb n 10 l)))
     (omega arith)
-
--- the line of a reply, by its case
-pub replied :
-    (clock : ℕ) (x y : Reply) {at r : ℕ} {a b : List ℕ} →
-    x ≡ y →
-    Put 52 a at (replyLine clock y) r b →
-    Put 52 a at (replyLine clock x) r b
-replied clock x y {at} {r} {a} {b} e p = subst (λ (z : Reply). Put 52 a at (replyLine clock z) r b) (sym e) p

@@ -1,5 +1,5 @@
 use native.Mathlib.Omega.{arith}
-use Rattle.lines.proofs.Puts.{then, wider}
+use Rattle.lines.proofs.Puts.{_then_, wider}
 use borrow.Author.Needs.{needs}
 use Rattle.lines.proofs.idle_line.Statement.{statement}
 use Rattle.lines.proofs.idle_line.Tie as tie
@@ -23,7 +23,17 @@ same-length : tie.Need-same-length
 same-length c = search needs
 
 returns : tie.Need-returns
-returns c = wider (then (c .before .before .before .before .before .before .before .before .before .before .before .before .before .before .before .put-decimal .ensures) (then (c .before .before .before .before .before .before .before .before .before .before .put-word .ensures) (then (c .before .before .before .before .before .before .put-spaced .ensures) (c .before .before .put-byte .ensures)))) (omega arith)
+returns c =
+    let ended : tie.After-put-byte = search in
+    let held : tie.After-put-spaced = search in
+    let worded : tie.After-put-word = search in
+    let clocked : tie.After-put-decimal = search in
+    wider
+    (clocked .put-decimal .ensures
+    then worded .put-word .ensures
+    then held .put-spaced .ensures
+    then ended .put-byte .ensures)
+    (omega arith)
 
 pub idle-line-spec : {M : Type 1} → statement M
 idle-line-spec =

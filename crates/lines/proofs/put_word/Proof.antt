@@ -1,21 +1,18 @@
-use Prim.Native.Nat.{ℕ, _+_, _-_, _≤_}
-use mathlib.Core.Path.{_≡_, refl, ap}
-use native.Mathlib.Nat.{add-zero}
+use Prim.Native.Nat.{_-_}
 use native.Mathlib.Omega.{arith}
-use lib.ListN.{length, drop, length-set}
-use lib.Seq.{sets}
-use Rattle.lines.proofs.Puts.{word-more, word-all}
+use lib.ListN.{length}
+use Rattle.lines.proofs.Puts.{Storing, storing-first, storing-more, storing-all}
 use Rattle.lines.proofs.put_word.Statement.{statement}
 use Rattle.lines.proofs.put_word.Tie as tie
 
 abbrev Inv-loop : tie.InvT-loop
-Inv-loop out₀ at word i₀ out i = (i ≤ length word) × (length out ≡ length out₀) × (sets out (at + i) (drop i word) ≡ sets out₀ at word)
+Inv-loop out₀ at word i₀ out i = Storing word out₀ at out i
 
 abbrev μ-loop : tie.MeasureT-loop
 μ-loop out₀ at word i₀ out i = length word - i
 
 loop-holds : tie.Need-loop-holds Inv-loop μ-loop
-loop-holds c = (omega arith, refl, ap (λ (k : ℕ). sets (c .args .out .now) k (c .args .word .now)) (add-zero (c .args .at)))
+loop-holds c = storing-first (c .args .word .now) (c .args .out .now) (c .args .at)
 
 shared-slice-read-out : tie.Need-shared-slice-read-out Inv-loop μ-loop
 shared-slice-read-out c = omega arith
@@ -33,20 +30,16 @@ loop-less : tie.Need-loop-less Inv-loop μ-loop
 loop-less c = omega arith
 
 loop-again : tie.Need-loop-again Inv-loop μ-loop
-loop-again c = (
-  omega arith,
-  simp length-set (c .before .before .loop .inv .1),
-  word-more (c .before .before .before .args .word .now) (c .before .before .loop .out) (sets (c .before .before .before .args .out .now) (c .before .before .before .args .at) (c .before .before .before .args .word .now)) (c .before .before .before .args .at) (c .before .before .loop .i) (omega arith) (c .before .before .loop .inv .2),
-)
+loop-again c = storing-more (c .before .before .loop .inv) (omega arith)
 
 add-result : tie.Need-add-result Inv-loop μ-loop
 add-result c = omega arith
 
 same-length : tie.Need-same-length Inv-loop μ-loop
-same-length c = c .before .loop .inv .1
+same-length c = c .before .loop .inv .room
 
 returns : tie.Need-returns Inv-loop μ-loop
-returns c = word-all (c .before .before .args .word .now) (c .before .loop .out) (c .before .before .args .out .now) (c .before .before .args .at) (c .before .loop .i) (c .before .before .pre .0) (omega arith) (c .before .loop .inv .2)
+returns c = storing-all (c .before .loop .inv) (c .before .before .pre .0) (omega arith)
 
 pub put-word-spec : {M : Type 1} → statement M
 put-word-spec =

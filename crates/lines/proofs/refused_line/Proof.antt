@@ -1,5 +1,5 @@
 use native.Mathlib.Omega.{arith}
-use Rattle.lines.proofs.Puts.{then, wider}
+use Rattle.lines.proofs.Puts.{_then_, wider}
 use borrow.Author.Needs.{needs}
 use Rattle.lines.proofs.refused_line.Statement.{statement}
 use Rattle.lines.proofs.refused_line.Tie as tie
@@ -20,7 +20,15 @@ same-length : tie.Need-same-length
 same-length c = search needs
 
 returns : tie.Need-returns
-returns c = wider (then (c .before .before .before .before .before .before .before .before .before .before .put-word .ensures) (then (c .before .before .before .before .before .before .put-spaced .ensures) (c .before .before .put-byte .ensures))) (omega arith)
+returns c =
+    let ended : tie.After-put-byte = search in
+    let numbered : tie.After-put-spaced = search in
+    let worded : tie.After-put-word = search in
+    wider
+    (worded .put-word .ensures
+    then numbered .put-spaced .ensures
+    then ended .put-byte .ensures)
+    (omega arith)
 
 pub refused-line-spec : {M : Type 1} → statement M
 refused-line-spec =

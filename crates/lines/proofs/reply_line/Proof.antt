@@ -1,5 +1,3 @@
-use Rattle.reclaiming.specs.declared.Reply.the-variants as reply
-use Rattle.lines.proofs.Puts.{replied}
 use borrow.Author.Needs.{needs}
 use Rattle.lines.proofs.reply_line.Statement.{statement}
 use Rattle.lines.proofs.reply_line.Tie as tie
@@ -26,19 +24,28 @@ same-length : tie.Need-same-length
 same-length c = search needs
 
 returns : tie.Need-returns
-returns c = replied (c .before .before .before .before .before .before .before .before .args .clock) (c .before .before .before .before .before .before .before .before .args .r) (reply.Run (c .before .before .before .before .before .r .given .0 .0) (c .before .before .before .before .before .r .given .0 .1 .0) (c .before .before .before .before .before .r .given .0 .1 .1 .0)) (c .before .before .before .before .before .r .given .1) (c .before .before .run-line .ensures)
+returns c =
+    let stored : tie.After-run-line = search in
+    let told : tie.After-r = search in
+    rw (told .r .given .1) (stored .run-line .ensures)
 
 same-length-2 : tie.Need-same-length-2
 same-length-2 c = search needs
 
 returns-2 : tie.Need-returns-2
-returns-2 c = replied (c .before .before .before .before .before .before .before .before .args .clock) (c .before .before .before .before .before .before .before .before .args .r) (reply.Idle (c .before .before .before .before .before .r2 .given .0 .0)) (c .before .before .before .before .before .r2 .given .1) (c .before .before .idle-line .ensures)
+returns-2 c =
+    let stored : tie.After-idle-line = search in
+    let told : tie.After-r2 = search in
+    rw (told .r2 .given .1) (stored .idle-line .ensures)
 
 same-length-3 : tie.Need-same-length-3
 same-length-3 c = search needs
 
 returns-3 : tie.Need-returns-3
-returns-3 c = replied (c .before .before .before .before .before .before .before .before .args .clock) (c .before .before .before .before .before .before .before .before .args .r) (reply.Refused (c .before .before .before .before .before .r3 .given .0 .0)) (c .before .before .before .before .before .r3 .given .1) (c .before .before .refused-line .ensures)
+returns-3 c =
+    let stored : tie.After-refused-line = search in
+    let told : tie.After-r3 = search in
+    rw (told .r3 .given .1) (stored .refused-line .ensures)
 
 pub reply-line-spec : {M : Type 1} → statement M
 reply-line-spec =
