@@ -1,4 +1,4 @@
--- Texts stored one after another.
+-- Texts stored one after another; a word byte by byte, a number digit by digit.
 -- Assumes nothing.
 use Prim.Native.Nat.{ℕ, zero, suc, _+_, _-_, _/_, _%_, _<_, _≤_}
 use mathlib.Core.Bool.{Bool}

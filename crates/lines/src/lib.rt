@@ -1,6 +1,5 @@
 // Lines of text stored into a lent buffer: each function returns the place past what it stored.
 use reclaiming::Reply;
-ghost use mathlib.Core.Path.{_≡_};
 ghost use mathlib.Core.List.{[], _∷_};
 ghost use Prim.Native.Nat.{_+_, _≤_};
 ghost use lib.ListN.{length};

@@ -42,27 +42,33 @@ good-at k n w a b e =
 abbrev Cut : List ℕ → ℕ → Type 0
 Cut input r = (r ≡ planCut input) × (r ≤ length input)
 
-module _ (input : List ℕ) where
-  pub cut-short : length input < 2 → Cut input (length input)
-  cut-short h = (short-at (countIn input) (length input) h, omega arith)
+pub cut-short : (input : List ℕ) → length input < 2 → Cut input (length input)
+cut-short input h = (short-at (countIn input) (length input) h, omega arith)
 
-  module _ (count : ℕ) (e : count ≡ countIn input) where
-    counted : (r : ℕ) → r ≡ cutAt count (length input) → r ≡ planCut input
-    counted r h = h ∙ ap (λ (k : ℕ). cutAt k (length input)) e
+-- by the count
+module _ (input : List ℕ) {count : ℕ} (e : count ≡ countIn input) where
+  counted : (r : ℕ) → r ≡ cutAt count (length input) → r ≡ planCut input
+  counted r h = h ∙ ap (λ (k : ℕ). cutAt k (length input)) e
 
-    pub cut-low : count < 1 → Cut input (length input)
-    cut-low h = (counted (length input) (low-at count (length input) h), omega arith)
+  pub cut-low : count < 1 → Cut input (length input)
+  cut-low h = (counted (length input) (low-at count (length input) h), omega arith)
 
-    pub cut-high : 16 < count → Cut input (length input)
-    cut-high h = (counted (length input) (high-at count (length input) h), omega arith)
+  pub cut-high : 16 < count → Cut input (length input)
+  cut-high h = (counted (length input) (high-at count (length input) h), omega arith)
 
-    module _ (low : 1 ≤ count) (high : count ≤ 16) (wanted : ℕ) (size : wanted ≡ blockLength count) where
-      pub cut-part : wanted < length input → Cut input wanted
-      cut-part h =
-          let m : wanted ≡ min wanted (length input) = omega arith in
-          (counted wanted (m ∙ good-at count (length input) wanted low high size), omega arith)
+-- a good count, and the length of its block
+pub record Wanted (input : List ℕ) (count wanted : ℕ) : Type 0 where
+  pub is-count : count ≡ countIn input
+  pub low : 1 ≤ count
+  pub high : count ≤ 16
+  pub size : wanted ≡ blockLength count
 
-      pub cut-whole : length input ≤ wanted → Cut input (length input)
-      cut-whole h =
-          let m : length input ≡ min wanted (length input) = omega arith in
-          (counted (length input) (m ∙ good-at count (length input) wanted low high size), omega arith)
+module _ {input : List ℕ} {count wanted : ℕ} (w : Wanted input count wanted) where
+  cut-min : (r : ℕ) → r ≡ min wanted (length input) → r ≡ planCut input
+  cut-min r m = counted input (w .is-count) r (m ∙ good-at count (length input) wanted (w .low) (w .high) (w .size))
+
+  pub cut-part : wanted < length input → Cut input wanted
+  cut-part h = (cut-min wanted (omega arith), omega arith)
+
+  pub cut-whole : length input ≤ wanted → Cut input (length input)
+  cut-whole h = (cut-min (length input) (omega arith), omega arith)

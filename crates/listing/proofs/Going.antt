@@ -42,18 +42,6 @@ two-more passes i high low h a b =
     ∙ ap (λ (l : List ℕ). high ∷ l)
     (drop-cons passes (i + 1) 0 h ∙ ap₂ (λ (x k : ℕ). x ∷ drop k passes) (sym b) two)
 
--- one pass: its line, then the lines of the rest
-pass-step :
-    (state : List ℕ) (clock high low : ℕ) (left : List ℕ) (r : Reply) (next : List ℕ) (after : ℕ) →
-    r ≡ passReply baseSpeeds state (high % 128 * 256 + low) (leb 128 high) →
-    next ≡ passBytes baseSpeeds state (high % 128 * 256 + low) (leb 128 high) →
-    after ≡ clockAfter clock (high % 128 * 256 + low) r →
-    passLines baseSpeeds state clock (high ∷ low ∷ left) ≡ replyLine after r ++ passLines baseSpeeds next after left
-pass-step state clock high low left r next after a b e =
-    let d : ℕ = high % 128 * 256 + low in
-    ap₂ (λ (x : Reply) (s : List ℕ). replyLine (clockAfter clock d x) x ++ passLines baseSpeeds s (clockAfter clock d x) left) (sym a) (sym b)
-    ∙ ap (λ (k : ℕ). replyLine k r ++ passLines baseSpeeds next k left) (sym e)
-
 -- where the loop stands: what is still to be stored from its place on completes the lines of all passes
 pub record Going (passes start before : List ℕ) (from : ℕ) (state out : List ℕ) (at clock i : ℕ) : Type 0 where
   pub inside : i ≤ length passes
@@ -77,50 +65,70 @@ going-first passes state out from = record {
   states = refl;
 }
 
+-- one pass: its two bytes, and what the dispatcher replied and left
+pub record Passed (passes : List ℕ) (i : ℕ) (state : List ℕ) (clock high low : ℕ) (r : Reply) (next : List ℕ) (after : ℕ) : Type 0 where
+  pub more : i + 1 < length passes
+  pub is-high : high ≡ getD passes i 0
+  pub is-low : low ≡ getD passes (i + 1) 0
+  pub small : low < 256
+  pub replied : r ≡ passReply baseSpeeds state (high % 128 * 256 + low) (leb 128 high)
+  pub stored : next ≡ passBytes baseSpeeds state (high % 128 * 256 + low) (leb 128 high)
+  pub kept : length next ≡ length state
+  pub moved : after ≡ clockAfter clock (high % 128 * 256 + low) r
+  pub later : after ≤ clock + (high % 128 * 256 + low)
+
+module _ {passes : List ℕ} {i : ℕ} {state : List ℕ} {clock high low : ℕ} {r : Reply} {next : List ℕ} {after : ℕ}
+    (h : Passed passes i state clock high low r next after) where
+  passed-bytes : drop i passes ≡ high ∷ low ∷ drop (i + 2) passes
+  passed-bytes = two-more passes i high low (h .more) (h .is-high) (h .is-low)
+
+  -- its line, then the lines of the rest
+  passed-line :
+      passLines baseSpeeds state clock (drop i passes)
+      ≡ replyLine after r ++ passLines baseSpeeds next after (drop (i + 2) passes)
+  passed-line =
+      let d : ℕ = high % 128 * 256 + low in
+      let left : List ℕ = drop (i + 2) passes in
+      ap (λ (l : List ℕ). passLines baseSpeeds state clock l) passed-bytes
+      ∙ ap₂ (λ (x : Reply) (s : List ℕ). replyLine (clockAfter clock d x) x ++ passLines baseSpeeds s (clockAfter clock d x) left) (sym (h .replied)) (sym (h .stored))
+      ∙ ap (λ (k : ℕ). replyLine k r ++ passLines baseSpeeds next k left) (sym (h .moved))
+
+  passed-states : passStates baseSpeeds next (drop (i + 2) passes) ≡ passStates baseSpeeds state (drop i passes)
+  passed-states =
+      ap (λ (s : List ℕ). passStates baseSpeeds s (drop (i + 2) passes)) (h .stored)
+      ∙ sym (ap (λ (l : List ℕ). passStates baseSpeeds state l) passed-bytes)
+
 module _ {passes start before : List ℕ} {from : ℕ} {state out : List ℕ} {at clock i : ℕ}
     (g : Going passes start before from state out at clock i) where
   -- another pass
-  module _ (h : i + 1 < length passes) (high low : ℕ)
-      (is-high : high ≡ getD passes i 0) (is-low : low ≡ getD passes (i + 1) 0) (small : low < 256)
-      (r : Reply) (next : List ℕ)
-      (replied : r ≡ passReply baseSpeeds state (high % 128 * 256 + low) (leb 128 high))
-      (stored : next ≡ passBytes baseSpeeds state (high % 128 * 256 + low) (leb 128 high))
-      (after : ℕ) (moved : after ≡ clockAfter clock (high % 128 * 256 + low) r) where
-    rest-is : passLines baseSpeeds state clock (drop i passes) ≡ replyLine after r ++ passLines baseSpeeds next after (drop (i + 2) passes)
-    rest-is =
-        ap (λ (l : List ℕ). passLines baseSpeeds state clock l) (two-more passes i high low h is-high is-low)
-        ∙ pass-step state clock high low (drop (i + 2) passes) r next after replied stored moved
-
-    states-is : passStates baseSpeeds next (drop (i + 2) passes) ≡ passStates baseSpeeds state (drop i passes)
-    states-is =
-        ap (λ (s : List ℕ). passStates baseSpeeds s (drop (i + 2) passes)) stored
-        ∙ sym (ap (λ (l : List ℕ). passStates baseSpeeds state l) (two-more passes i high low h is-high is-low))
-
-    pub going-again :
-        {r′ : ℕ} {out′ : List ℕ} →
-        length next ≡ length state →
-        after ≤ clock + (high % 128 * 256 + low) →
-        Put 52 out at (replyLine after r) r′ out′ →
-        length out′ ≡ length out →
-        Going passes start before from next out′ r′ after (i + 2)
-    going-again {r′} {out′} kept′ later p room′ = record {
-      inside = omega arith;
-      room = room′ ∙ g .room;
-      kept = kept′ ∙ g .kept;
-      near = omega (arith, g .near, p .near);
-      early = omega (arith, g .early);
-      bytes = rest-bytes p (passLines baseSpeeds state clock (drop i passes)) (passLines baseSpeeds next after (drop (i + 2) passes)) rest-is (sets before from (passLines baseSpeeds start 0 passes)) (g .bytes);
-      place = rest-place p (passLines baseSpeeds state clock (drop i passes)) (passLines baseSpeeds next after (drop (i + 2) passes)) rest-is (from + length (passLines baseSpeeds start 0 passes)) (g .place);
-      states = states-is ∙ g .states;
-    }
+  pub going-again :
+      {high low after r′ : ℕ} {r : Reply} {next out′ : List ℕ} →
+      Passed passes i state clock high low r next after →
+      Put 52 out at (replyLine after r) r′ out′ →
+      length out′ ≡ length out →
+      Going passes start before from next out′ r′ after (i + 2)
+  going-again {after = after} {next = next} h p room′ =
+      let lines : List ℕ = passLines baseSpeeds start 0 passes in
+      let rest : List ℕ = passLines baseSpeeds state clock (drop i passes) in
+      let left : List ℕ = passLines baseSpeeds next after (drop (i + 2) passes) in
+      record {
+        inside = omega (arith, h .more);
+        room = room′ ∙ g .room;
+        kept = h .kept ∙ g .kept;
+        near = omega (arith, g .near, p .near);
+        early = omega (arith, g .early, h .small, h .later);
+        bytes = rest-bytes p rest left (passed-line h) (sets before from lines) (g .bytes);
+        place = rest-place p rest left (passed-line h) (from + length lines) (g .place);
+        states = passed-states h ∙ g .states;
+      }
 
   -- what the loop leaves behind
-  abbrev Ends : List ℕ → List ℕ → ℕ → List ℕ → Type 0
-  Ends before′ out′ r state′ =
-      Put 1800000 before′ from (passLines baseSpeeds start 0 passes) r out′ × (state′ ≡ passStates baseSpeeds start passes)
+  abbrev Ends : ℕ → List ℕ → Type 0
+  Ends r out′ =
+      Put 1800000 before from (passLines baseSpeeds start 0 passes) r out′ × (state ≡ passStates baseSpeeds start passes)
 
   -- no byte is left
-  pub going-even : length passes ≤ 65536 → length passes ≤ i → Ends before out at state
+  pub going-even : length passes ≤ 65536 → length passes ≤ i → Ends at out
   going-even few h =
       let none : [] ≡ drop i passes = sym (drop-of-length-le passes h) in (
         record {
@@ -141,7 +149,7 @@ module _ {passes start before : List ℕ} {from : ℕ} {state out : List ℕ} {a
       i < length passes →
       length passes ≤ i + 1 →
       Put 52 out at (refusedLine 16) r out′ →
-      Ends before out′ r state
+      Ends r out′
   going-odd {r} {out′} few h last p =
       let odd : ℕ = getD passes i 0 in
       let one : odd ∷ [] ≡ drop i passes =

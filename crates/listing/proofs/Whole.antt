@@ -1,6 +1,6 @@
 -- The whole listing, at the front of a buffer.
 -- Assumes nothing.
-use Prim.Native.Nat.{ℕ, _+_, _-_, _<_, _≤_}
+use Prim.Native.Nat.{ℕ, _-_, _<_, _≤_}
 use mathlib.Core.Bool.{Bool}
 use mathlib.Core.Path.{_≡_, sym, subst, ap, ap₂, _∙_}
 use mathlib.Core.List.{List, _++_}
@@ -26,7 +26,12 @@ abbrev pub Front : List ℕ → List ℕ → ℕ → List ℕ → Type 0
 Front text before r after =
     (r ≡ length text) × ((after ≡ text ++ drop (length text) before) × ((r ≤ length after) × (r ≡ length (take r after))))
 
-pub front : {m r : ℕ} {text whole before after : List ℕ} → Put m before 0 text r after → m ≤ length before → text ≡ whole → Front whole before r after
+pub front :
+    {m r : ℕ} {text whole before after : List ℕ} →
+    Put m before 0 text r after →
+    m ≤ length before →
+    text ≡ whole →
+    Front whole before r after
 front {m} {r} {text} {whole} {before} {after} p room e =
     let size : r ≡ length text = p .place ∙ zero-add (length text) in
     let long : length after ≡ length before = ap (λ (x : List ℕ). length x) (p .bytes) ∙ length-sets before 0 text in
@@ -39,40 +44,53 @@ front {m} {r} {text} {whole} {before} {after} p room e =
 
 -- the lines from the start on
 pub started-is :
-    (block passes : List ℕ) (r : Reply) (s : List ℕ) →
+    (block passes : List ℕ) {r : Reply} {s : List ℕ} →
     r ≡ startReply baseSpeeds block 200 →
     s ≡ startBuffer baseSpeeds block (replicate 200 0) →
     replyLine 0 r ++ passLines baseSpeeds s 0 passes ≡ startedLines baseSpeeds block passes
-started-is block passes r s a b = ap₂ (λ (x : Reply) (y : List ℕ). replyLine 0 x ++ passLines baseSpeeds y 0 passes) a b
+started-is block passes a b = ap₂ (λ (x : Reply) (y : List ℕ). replyLine 0 x ++ passLines baseSpeeds y 0 passes) a b
+
+-- the lines of an input that is cut and read
+abbrev linesAt : List ℕ → ℕ → List ℕ
+linesAt input cut = readLines baseSpeeds (take cut input) (readBlock baseSpeeds (take cut input)) (drop cut input)
 
 -- an input that is too long
 pub over-is : (input : List ℕ) → 65536 < length input → refusedLine 17 ≡ listing baseSpeeds input
 over-is input h =
-    let cut : ℕ = planCut input in
-    let lines : List ℕ = readLines baseSpeeds (take cut input) (readBlock baseSpeeds (take cut input)) (drop cut input) in
-    sym (ap (λ (b : Bool). pick b lines (refusedLine 17)) (lt-leb (length input) 65536 h))
+    sym (ap (λ (b : Bool). pick b (linesAt input (planCut input)) (refusedLine 17)) (lt-leb (length input) 65536 h))
 
--- one that is not: by the reader's verdict
-module _ (input : List ℕ) (few : length input ≤ 65536) (cut : ℕ) (is-cut : cut ≡ planCut input)
-    (j : Judged) (is-read : j ≡ readBlock baseSpeeds (take cut input)) where
+-- one that is not: its cut, and what the reader says of it
+pub record Read (input : List ℕ) (cut : ℕ) (j : Judged) : Type 0 where
+  pub few : length input ≤ 65536
+  pub is-cut : cut ≡ planCut input
+  pub is-read : j ≡ readBlock baseSpeeds (take cut input)
+
+module _ {input : List ℕ} {cut : ℕ} {j : Judged} (h : Read input cut j) where
   read-is : readLines baseSpeeds (take cut input) j (drop cut input) ≡ listing baseSpeeds input
   read-is =
-      ap (λ (x : Judged). readLines baseSpeeds (take cut input) x (drop cut input)) is-read
-      ∙ ap (λ (k : ℕ). readLines baseSpeeds (take k input) (readBlock baseSpeeds (take k input)) (drop k input)) is-cut
-      ∙ sym (ap (λ (b : Bool). pick b (readLines baseSpeeds (take (planCut input) input) (readBlock baseSpeeds (take (planCut input) input)) (drop (planCut input) input)) (refusedLine 17)) (le-leb (length input) 65536 few))
+      ap (λ (x : Judged). readLines baseSpeeds (take cut input) x (drop cut input)) (h .is-read)
+      ∙ ap (λ (k : ℕ). linesAt input k) (h .is-cut)
+      ∙ sym (ap (λ (b : Bool). pick b (linesAt input (planCut input)) (refusedLine 17)) (le-leb (length input) 65536 (h .few)))
 
-  by-verdict : (v : Verdict) → j .verdict ≡ v → judgedLines baseSpeeds (take cut input) v (j .plan .count) (drop cut input) ≡ listing baseSpeeds input
+  -- by the reader's verdict
+  by-verdict :
+      (v : Verdict) →
+      j .verdict ≡ v →
+      judgedLines baseSpeeds (take cut input) v (j .plan .count) (drop cut input) ≡ listing baseSpeeds input
   by-verdict v e =
       sym (ap (λ (x : Verdict). judgedLines baseSpeeds (take cut input) x (j .plan .count) (drop cut input)) e) ∙ read-is
 
-  pub refused-is : (k n : ℕ) → k ≡ refusalOf (j .verdict) → j .verdict ≡ verdict.Refused n → refusedLine k ≡ listing baseSpeeds input
-  refused-is k n a e =
+  pub refused-is :
+      {k n : ℕ} → k ≡ refusalOf (j .verdict) → j .verdict ≡ verdict.Refused n → refusedLine k ≡ listing baseSpeeds input
+  refused-is {k} {n} a e =
       ap (λ (x : ℕ). refusedLine x) (a ∙ ap (λ (v : Verdict). refusalOf v) e) ∙ by-verdict (verdict.Refused n) e
 
   pub admitted-is :
-      (level span : ℕ) →
+      {level span : ℕ} →
       j .verdict ≡ verdict.Admitted level span →
-      planLine (j .plan .count) level span ++ startedLines baseSpeeds (take cut input) (take (length input - cut) (drop cut input)) ≡ listing baseSpeeds input
-  admitted-is level span e =
+      planLine (j .plan .count) level span
+      ++ startedLines baseSpeeds (take cut input) (take (length input - cut) (drop cut input))
+      ≡ listing baseSpeeds input
+  admitted-is {level} {span} e =
       ap (λ (l : List ℕ). planLine (j .plan .count) level span ++ startedLines baseSpeeds (take cut input) l) (part-to-end input cut)
       ∙ by-verdict (verdict.Admitted level span) e

@@ -1,8 +1,10 @@
+use Prim.Native.Nat.{ℕ}
 use mathlib.Core.Path.{sym}
+use mathlib.Core.List.{List}
 use native.Mathlib.Omega.{arith}
 use lib.Seq.{length-take-le}
-use Rattle.lines.proofs.Puts.{then}
-use Rattle.listing.proofs.Whole.{front, over-is, refused-is, admitted-is}
+use Rattle.lines.proofs.Puts.{_then_}
+use Rattle.listing.proofs.Whole.{Read, front, over-is, refused-is, admitted-is}
 use borrow.Author.Needs.{needs}
 use Rattle.listing.proofs.list_into.Statement.{statement}
 use Rattle.listing.proofs.list_into.Tie as tie
@@ -14,13 +16,19 @@ same-length : tie.Need-same-length
 same-length c = search needs
 
 returns : tie.Need-returns
-returns c = front (c .before .before .refused-line .ensures) (omega (arith, c .before .before .before .before .before .before .before .pre)) (over-is (c .before .before .before .before .before .before .before .args .input .now) (c .before .before .before .before .if1 .taken))
+returns c =
+    let refused : tie.After-refused-line = search in
+    let over : tie.Then1 = search in
+    let start : tie.Start = search in
+    front (refused .refused-line .ensures) (omega (arith, start .pre)) (over-is (start .args .input .now) (over .if1 .taken))
 
 plan-cut-requires : tie.Need-plan-cut-requires
 plan-cut-requires c κs = search needs
 
 slice-aggregate-read : tie.Need-slice-aggregate-read
-slice-aggregate-read c = sym (length-take-le (c .before .plan-cut .result) (c .before .before .before .before .before .args .input .now) (c .before .plan-cut .ensures .1))
+slice-aggregate-read c =
+    let start : tie.Start = search in
+    sym (length-take-le (c .before .plan-cut .result) (start .args .input .now) (c .before .plan-cut .ensures .1))
 
 read-requires : tie.Need-read-requires
 read-requires c κs = search needs
@@ -40,17 +48,31 @@ refused-line-requires-2 c κs = search needs
 same-length-2 : tie.Need-same-length-2
 same-length-2 c = search needs
 
+-- what is known of the input once it is read
+abbrev input : tie.After-read → List ℕ
+input c = c .before .before .before .before .before .before .args .input .now
+
+known : (c : tie.After-read) → Read (input c) (c .before .before .plan-cut .result) (c .read .result)
+known c = record { few = search; is-cut = c .before .before .plan-cut .ensures .0; is-read = c .read .ensures }
+
 returns-2 : tie.Need-returns-2
 returns-2 c =
-    front (c .before .before .refused-line2 .ensures) (omega (arith, c .before .before .before .before .before .before .before .before .before .before .before .before .before .pre))
-    (refused-is (c .before .before .before .before .before .before .before .before .before .before .before .before .before .args .input .now) (c .before .before .before .before .before .before .before .before .before .before .if1 .left) (c .before .before .before .before .before .before .before .before .before .plan-cut .result) (c .before .before .before .before .before .before .before .before .before .plan-cut .ensures .0) (c .before .before .before .before .before .before .before .read .result) (c .before .before .before .before .before .before .before .read .ensures)
-    (c .before .before .before .refusal-of .result) (c .before .before .before .before .before .enum-told .given .0 .0) (c .before .before .before .refusal-of .ensures) (c .before .before .before .before .before .enum-told .given .1))
+    let refused : tie.After-refused-line2 = search in
+    let numbered : tie.After-refusal-of = search in
+    let told : tie.After-enum-told = search in
+    let read : tie.After-read = search in
+    let start : tie.Start = search in
+    front (refused .refused-line2 .ensures) (omega (arith, start .pre))
+    (refused-is (known read) (numbered .refusal-of .ensures) (told .enum-told .given .1))
 
 plan-line-requires : tie.Need-plan-line-requires
 plan-line-requires c κs = search needs
 
 slice-aggregate-started-lines : tie.Need-slice-aggregate-started-lines
-slice-aggregate-started-lines c = sym (length-take-le (c .before .before .before .before .before .before .before .before .before .before .before .plan-cut .result) (c .before .before .before .before .before .before .before .before .before .before .before .before .before .before .before .args .input .now) (c .before .before .before .before .before .before .before .before .before .before .before .plan-cut .ensures .1))
+slice-aggregate-started-lines c =
+    let cut : tie.After-plan-cut = search in
+    let start : tie.Start = search in
+    sym (length-take-le (cut .plan-cut .result) (start .args .input .now) (cut .plan-cut .ensures .1))
 
 sub-started-lines : tie.Need-sub-started-lines
 sub-started-lines c = search needs
@@ -69,9 +91,13 @@ same-length-3 c = search needs
 
 returns-3 : tie.Need-returns-3
 returns-3 c =
-    front (then (c .before .before .before .before .before .before .before .before .plan-line .ensures) (c .before .before .started-lines .ensures)) (omega (arith, c .before .before .before .before .before .before .before .before .before .before .before .before .before .before .before .before .before .before .before .before .pre))
-    (admitted-is (c .before .before .before .before .before .before .before .before .before .before .before .before .before .before .before .before .before .before .before .before .args .input .now) (c .before .before .before .before .before .before .before .before .before .before .before .before .before .before .before .before .before .if1 .left) (c .before .before .before .before .before .before .before .before .before .before .before .before .before .before .before .before .plan-cut .result) (c .before .before .before .before .before .before .before .before .before .before .before .before .before .before .before .before .plan-cut .ensures .0) (c .before .before .before .before .before .before .before .before .before .before .before .before .before .before .read .result) (c .before .before .before .before .before .before .before .before .before .before .before .before .before .before .read .ensures)
-    (c .before .before .before .before .before .before .before .before .before .before .before .before .verdict .given .0 .0) (c .before .before .before .before .before .before .before .before .before .before .before .before .verdict .given .0 .1 .0) (c .before .before .before .before .before .before .before .before .before .before .before .before .verdict .given .1))
+    let started : tie.After-started-lines = search in
+    let planned : tie.After-plan-line = search in
+    let told : tie.After-verdict = search in
+    let read : tie.After-read = search in
+    let start : tie.Start = search in
+    front (planned .plan-line .ensures then started .started-lines .ensures) (omega (arith, start .pre))
+    (admitted-is (known read) (told .verdict .given .1))
 
 pub list-into-spec : {M : Type 1} → statement M
 list-into-spec =

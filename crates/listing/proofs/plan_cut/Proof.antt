@@ -1,4 +1,6 @@
-use Rattle.listing.proofs.Cuts.{cut-short, cut-low, cut-high, cut-part, cut-whole}
+use Prim.Native.Nat.{ℕ}
+use mathlib.Core.List.{List}
+use Rattle.listing.proofs.Cuts.{Wanted, cut-short, cut-low, cut-high, cut-part, cut-whole}
 use borrow.Author.Needs.{needs}
 use Rattle.listing.proofs.plan_cut.Statement.{statement}
 use Rattle.listing.proofs.plan_cut.Tie as tie
@@ -12,22 +14,34 @@ bits-at-requires c κs = search needs
 cast-count : tie.Need-cast-count
 cast-count c = search needs
 
+abbrev input : tie.After-bits-at → List ℕ
+input c = c .before .before .before .args .input .now
+
 returns-2 : tie.Need-returns-2
-returns-2 c = cut-low (c .before .before .before .before .args .input .now) (c .before .bits-at .result) (c .before .bits-at .ensures) (c .if2 .taken)
+returns-2 c = cut-low (input (c .before)) (c .before .bits-at .ensures) (c .if2 .taken)
 
 returns-3 : tie.Need-returns-3
-returns-3 c = cut-high (c .before .before .before .before .before .args .input .now) (c .before .before .bits-at .result) (c .before .before .bits-at .ensures) (c .if3 .taken)
+returns-3 c = cut-high (input (c .before .before)) (c .before .before .bits-at .ensures) (c .if3 .taken)
 
 block-length-requires : tie.Need-block-length-requires
 block-length-requires c κs = search needs
 
+abbrev counted : tie.After-block-length → tie.After-bits-at
+counted c = c .before .before .before
+
+known : (c : tie.After-block-length) → Wanted (input (counted c)) (counted c .bits-at .result) (c .block-length .result)
+known c = record {
+  is-count = counted c .bits-at .ensures;
+  low = c .before .before .if2 .left;
+  high = c .before .if3 .left;
+  size = c .block-length .ensures;
+}
+
 returns-4 : tie.Need-returns-4
-returns-4 c =
-    cut-part (c .before .before .before .before .before .before .before .args .input .now) (c .before .before .before .before .bits-at .result) (c .before .before .before .before .bits-at .ensures) (c .before .before .before .if2 .left) (c .before .before .if3 .left) (c .before .block-length .result) (c .before .block-length .ensures) (c .if4 .taken)
+returns-4 c = cut-part (known (c .before)) (c .if4 .taken)
 
 returns-5 : tie.Need-returns-5
-returns-5 c =
-    cut-whole (c .before .before .before .before .before .before .before .args .input .now) (c .before .before .before .before .bits-at .result) (c .before .before .before .before .bits-at .ensures) (c .before .before .before .if2 .left) (c .before .before .if3 .left) (c .before .block-length .result) (c .before .block-length .ensures) (c .if4 .left)
+returns-5 c = cut-whole (known (c .before)) (c .if4 .left)
 
 pub plan-cut-spec : {M : Type 1} → statement M
 plan-cut-spec =

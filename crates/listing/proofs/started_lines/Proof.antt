@@ -1,5 +1,5 @@
 use native.Mathlib.Omega.{arith}
-use Rattle.lines.proofs.Puts.{then, as-text}
+use Rattle.lines.proofs.Puts.{_then_, as-text}
 use Rattle.listing.proofs.Whole.{started-is}
 use borrow.Author.Needs.{needs}
 use Rattle.listing.proofs.started_lines.Statement.{statement}
@@ -25,8 +25,12 @@ same-length c = search needs
 
 returns : tie.Need-returns
 returns c =
-    as-text (then (c .before .before .before .before .before .before .before .before .reply-line .ensures) (c .before .before .before .pass-lines .ensures .0))
-    (started-is (c .before .before .before .before .before .before .before .before .before .before .before .before .before .before .before .before .args .block .now) (c .before .before .before .before .before .before .before .before .before .before .before .before .before .before .before .before .args .passes .now) (c .before .before .before .before .before .before .before .before .before .before .before .start .result) (c .before .before .before .before .before .before .before .before .before .before .before .start .last .1 .0) (c .before .before .before .before .before .before .before .before .before .before .before .start .ensures .0) (c .before .before .before .before .before .before .before .before .before .before .before .start .ensures .1))
+    let listed : tie.After-pass-lines = search in
+    let replied : tie.After-reply-line = search in
+    let started : tie.After-start = search in
+    let start : tie.Start = search in
+    as-text (replied .reply-line .ensures then listed .pass-lines .ensures .0)
+    (started-is (start .args .block .now) (start .args .passes .now) (started .start .ensures .0) (started .start .ensures .1))
     (omega arith)
 
 pub started-lines-spec : {M : Type 1} → statement M

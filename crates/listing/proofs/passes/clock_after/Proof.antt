@@ -1,7 +1,4 @@
-use mathlib.Core.Path.{sym, ap}
 use native.Mathlib.Omega.{arith}
-use Rattle.reclaiming.specs.declared.Reply.{Reply}
-use Rattle.transcript.specs.Listing.{clockAfter}
 use borrow.Author.Needs.{needs}
 use Rattle.listing.proofs.passes.clock_after.Statement.{statement}
 use Rattle.listing.proofs.passes.clock_after.Tie as tie
@@ -22,10 +19,10 @@ enum-told-3 : tie.Need-enum-told-3
 enum-told-3 c = search needs
 
 returns : tie.Need-returns
-returns c = (sym (ap (λ (x : Reply). clockAfter (c .before .before .args .clock) (c .before .before .args .d) x) (c .enum-told .given .1)), omega arith)
+returns c = (rw (c .enum-told .given .1), omega arith)
 
 returns-2 : tie.Need-returns-2
-returns-2 c = (sym (ap (λ (x : Reply). clockAfter (c .before .before .args .clock) (c .before .before .args .d) x) (c .enum-told2 .given .1)), omega arith)
+returns-2 c = (rw (c .enum-told2 .given .1), omega arith)
 
 returns-3 : tie.Need-returns-3
 returns-3 c = search needs
