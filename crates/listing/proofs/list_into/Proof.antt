@@ -18,9 +18,8 @@ same-length c = search needs
 returns : tie.Need-returns
 returns c =
     let refused : tie.After-refused-line = search in
-    let over : tie.Then1 = search in
     let start : tie.Start = search in
-    front (refused .refused-line .ensures) (omega (arith, start .pre)) (over-is (start .args .input .now) (over .if1 .taken))
+    front (refused .refused-line .ensures) (omega (arith, start .pre)) (over-is (start .args .input .now) (omega arith))
 
 plan-cut-requires : tie.Need-plan-cut-requires
 plan-cut-requires c κs = search needs
@@ -53,7 +52,7 @@ abbrev input : tie.After-read → List ℕ
 input c = c .before .before .before .before .before .before .args .input .now
 
 known : (c : tie.After-read) → Read (input c) (c .before .before .plan-cut .result) (c .read .result)
-known c = record { few = search; is-cut = c .before .before .plan-cut .ensures .0; is-read = c .read .ensures }
+known c = record { few = omega arith; is-cut = c .before .before .plan-cut .ensures .0; is-read = c .read .ensures }
 
 returns-2 : tie.Need-returns-2
 returns-2 c =
