@@ -2,7 +2,9 @@
 -- Assumes nothing.
 use Prim.Native.Nat.{ℕ, zero, suc, _+_, _*_, _/_, _%_, _<_, _≤_, _∣_}
 use mathlib.Core.Path.{_≡_, refl, sym, subst, ap, _∙_}
-use native.Mathlib.Nat.{le-of-lt, lt-of-le-of-lt, mul-le-mul-left, mod-lt, dvd-refl, dvd-zero, dvd-mod-iff, dvd-mul-left, dvd-mul-right, pos-of-dvd-of-pos, not-suc-le-zero, mul-div-cancel', div-mul-cancel, mul-assoc, mul-comm, dvd-of-mul-dvd-mul-right, mul-dvd-mul-left, mod-add-div', add-mul, mul-lt-mul-of-pos-right, zero-mul, mul-pos, dvd-antisymm, dvd-of-mod-eq-zero}
+use native.Mathlib.Nat.{le-of-lt, lt-of-le-of-lt, not-suc-le-zero, mul-le-mul-left, mul-lt-mul-of-pos-right, mul-assoc, mul-comm, mul-pos, zero-mul, add-mul}
+use native.Mathlib.Nat.{mod-lt, mod-add-div', mul-div-cancel', div-mul-cancel, pos-of-dvd-of-pos}
+use native.Mathlib.Nat.{dvd-refl, dvd-zero, dvd-antisymm, dvd-mod-iff, dvd-of-mod-eq-zero, dvd-mul-left, dvd-mul-right, mul-dvd-mul-left, dvd-of-mul-dvd-mul-right}
 use native.Mathlib.Omega.{arith}
 use lib.Arith.{digits-mod}
 use Rattle.arith.specs.Divisor.{gcdWithin, gcd, lcm}

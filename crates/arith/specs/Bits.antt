@@ -1,10 +1,10 @@
 -- 01, "Blocks": "Bits are packed most significant first."
 -- Assumes nothing.
-use Prim.Native.Nat.{ℕ, zero, suc, _+_}
+use Prim.Native.Nat.{ℕ, zero, suc}
 use mathlib.Core.List.{List, [], _∷_, _++_}
 use lib.ListN.{length, drop}
-use Rattle.arith.specs.Digits.{number, digits}
 use Rattle.arith.specs.Need.{need}
+use Rattle.arith.specs.Digits.{number, digits}
 
 -- the bits of a list of bytes
 abbrev pub unpacked : List ℕ → List ℕ

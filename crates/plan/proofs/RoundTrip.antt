@@ -1,26 +1,26 @@
 -- Demand 2: a written plan reads back as the same plan, and an accepted block written again has the same bytes.
 -- Assumes nothing.
 use Prim.Native.Nat.{ℕ, _+_, _-_, _≤_}
-use mathlib.Core.Bool.{true}
 use mathlib.Core.Path.{_≡_, sym, subst, ap, ap₂, _∙_}
+use mathlib.Core.Bool.{true}
 use mathlib.Core.List.{List}
 use native.Mathlib.Omega.{arith}
+use borrow.Author.Tests.{eq-eqb}
 use lib.Dec.{eqb}
 use lib.ListN.{length, getD, drop, replicate}
 use lib.Seq.{ext-getD, getD-drop, length-take-le, take-append-seam}
-use Rattle.arith.specs.Need.{need}
 use Rattle.arith.specs.Choice.{every}
+use Rattle.arith.specs.Need.{need}
 use Rattle.arith.specs.Bits.{unpacked, packedTo}
+use Rattle.arith.specs.Asking.{firstNo}
+use Rattle.arith.proofs.ListLaws.{at-every, zero-at}
 use Rattle.arith.proofs.Needs.{need-covers}
 use Rattle.arith.proofs.BitLaws.{unpacked-packed, unpacked-below, packed-same, packed-unpacked}
 use Rattle.plan.specs.declared.Task.{Task}
 use Rattle.plan.specs.Blocks.{planBits, planBlock, bitCount, blockLength, countIn, tasksIn, closingBits, tasksOf, planOf, noTask}
 use Rattle.plan.specs.Questions.{inRange, judging, reading}
-use Rattle.arith.specs.Asking.{firstNo}
 use Rattle.plan.specs.Answers.{judgedBy}
 use Rattle.plan.specs.Laws.{Bytes, WrittenReadsBack, AcceptedWritesBack}
-use borrow.Author.Tests.{eq-eqb}
-use Rattle.arith.proofs.ListLaws.{at-every, zero-at}
 use Rattle.plan.proofs.BlockBits.{length-planBits, planBits-below, length-planBlock, blockLength-covers, length-tasksFrom, tasksFrom-read}
 use Rattle.plan.proofs.Facts.{FineTasks, FineList, FineBlock, fine-list, fine-block, block-yes}
 use Rattle.plan.proofs.Fields.{Holds, holds-same, planBits-hold, holds-bits}

@@ -3,6 +3,7 @@
 use Prim.Native.Nat.{ℕ, zero, suc}
 use mathlib.Core.List.{List, [], _∷_, _++_}
 use lib.ListN.{length, drop}
+use Rattle.arith.specs.Asking.{firstNo}
 use Rattle.plan.specs.declared.Task.{Task}
 use Rattle.plan.specs.declared.Plan.{Plan}
 use Rattle.plan.specs.declared.Judged.{Judged}
@@ -13,7 +14,6 @@ use Rattle.plan.specs.declared.Written.the-variants as written
 use Rattle.plan.specs.Levels.{hyperperiod, nominal}
 use Rattle.plan.specs.Blocks.{planOf, tasksOf, tasksIn, planBlock}
 use Rattle.plan.specs.Questions.{judging, reading, roomQuestion}
-use Rattle.arith.specs.Asking.{firstNo}
 
 -- 01: "Reading and judging return the plan, its nominal level and hyperperiod"; at a refusal its number "is all that is returned"
 abbrev pub answered : ℕ → List ℕ → List Task → Verdict

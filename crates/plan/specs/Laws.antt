@@ -3,15 +3,15 @@
 use Prim.Native.Nat.{ℕ, _<_, _≤_, _∣_}
 use mathlib.Core.Path.{_≡_}
 use mathlib.Core.Bool.{true}
-use mathlib.Core.Logic.{_↔_}
 use mathlib.Core.List.{List}
+use mathlib.Core.Logic.{_↔_}
 use lib.ListN.{length, getD}
+use Rattle.arith.specs.Asking.{firstNo}
 use Rattle.plan.specs.declared.Task.{Task}
 use Rattle.plan.specs.declared.Plan.{Plan}
 use Rattle.plan.specs.Levels.{speedOf, hyperperiod, admits, nominal}
 use Rattle.plan.specs.Blocks.{noTask, tasksOf, planBlock}
 use Rattle.plan.specs.Questions.{judging, reading}
-use Rattle.arith.specs.Asking.{firstNo}
 use Rattle.plan.specs.Answers.{judgedPlan, readBlock}
 
 -- a list of bytes

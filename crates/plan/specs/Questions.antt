@@ -6,10 +6,10 @@ use mathlib.Core.List.{List, [], _∷_}
 use lib.Dec.{leb, ltb, eqb}
 use lib.ListN.{length}
 use Rattle.arith.specs.Choice.{both, every}
+use Rattle.arith.specs.Asking.{Question, ask, within}
 use Rattle.plan.specs.declared.Task.{Task}
 use Rattle.plan.specs.Levels.{hyperperiod, nominal}
 use Rattle.plan.specs.Blocks.{editionIn, countIn, tasksIn, blockLength, closingBits}
-use Rattle.arith.specs.Asking.{Question, ask, within}
 
 -- 01: "A task has a period (1 to 65,535 ticks) and a worst case (1 to 1,048,575 units of work)."
 abbrev pub inRange : Task → Bool

@@ -8,14 +8,14 @@ use native.Mathlib.Omega.{arith}
 use lib.Dec.{eqb}
 use Rattle.arith.specs.Choice.{pick}
 use Rattle.arith.specs.Sum.{sumTo, sumOf}
-use Rattle.schedule.specs.PlainSchedule.{Timing, Job, Pending, moreUrgent, latest, enqueue, drain, queueOf, leftIn}
 use Rattle.arith.proofs.Tests.{le-yes, le-not, testLe, eq-yes, eq-not, testEq}
-use Rattle.schedule.proofs.Urgency.{MoreUrgent, ahead, same, behind, compared, irreflexive, asymmetric, transitive, urgent-true, urgent-false}
 use Rattle.arith.proofs.Sums.{sumTo-le, sumTo-eq, sumTo-add, part-falls, sum-one}
+use Rattle.schedule.specs.PlainSchedule.{Timing, Job, Pending, moreUrgent, latest, enqueue, drain, queueOf, leftIn}
+use Rattle.schedule.proofs.Urgency.{MoreUrgent, ahead, same, behind, compared, irreflexive, asymmetric, transitive, urgent-true, urgent-false}
 use Rattle.schedule.proofs.Queue.{enqueue-sum}
+use Rattle.schedule.proofs.Drain.{taken}
 use Rattle.schedule.proofs.QueueLaws.{latestPending, drain-queueOf}
 use Rattle.schedule.proofs.Ahead.{left-drain}
-use Rattle.schedule.proofs.Drain.{taken}
 
 module _ (τ : Timing) (t : ℕ) (left : ℕ → ℕ) where
   -- of what task j has left: what goes before task i's job, and what counts in the allowance of task x's

@@ -7,8 +7,8 @@ use mathlib.Core.List.{List, [], _∷_}
 use mathlib.Core.Logic.{_≢_, inl, inr}
 use native.Mathlib.Decide.{decLe, ℕ-discrete}
 use native.Mathlib.Omega.{arith}
-use lib.Dec.{leb, eqb}
 use borrow.Author.Tests.{leb-true, le-leb, eqb-true, eq-eqb}
+use lib.Dec.{leb, eqb}
 use Rattle.arith.specs.Choice.{both}
 use Rattle.arith.proofs.Tests.{both-left, both-right, both-true}
 use Rattle.schedule.specs.PlainSchedule.{Timing, Job, Pending, latest, queueOf}

@@ -6,9 +6,9 @@ use mathlib.Core.Bool.{Bool}
 use mathlib.Core.List.{List, [], _∷_, _++_}
 use lib.ListN.{length}
 use Rattle.arith.specs.Digits.{digits}
+use Rattle.arith.specs.Asking.{firstNo}
 use Rattle.plan.specs.declared.Written.{Written}
 use Rattle.plan.specs.Blocks.{tasksIn}
-use Rattle.arith.specs.Asking.{firstNo}
 use Rattle.plan.specs.Answers.{writtenBy, storedBy}
 use Rattle.schedule.specs.PlainSchedule.{Pending, queueOf}
 use Rattle.reclaiming.specs.declared.Reply.{Reply}

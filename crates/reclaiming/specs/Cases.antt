@@ -7,7 +7,6 @@ use lib.ListN.{length, take, replicate}
 use Rattle.arith.specs.Choice.{every}
 use Rattle.arith.specs.Need.{need}
 use Rattle.arith.specs.Divisor.{gcd, lcm}
-use Rattle.schedule.specs.PlainSchedule.{Timing, moreUrgent}
 use Rattle.plan.specs.declared.Task.{Task}
 use Rattle.plan.specs.declared.Judged.{Judged}
 use Rattle.plan.specs.declared.Verdict.{Verdict}
@@ -17,6 +16,7 @@ use Rattle.plan.specs.declared.Written.the-variants as written
 use Rattle.plan.specs.Levels.{baseSpeeds, speedOf, hyperperiod, demandWithin, nominal}
 use Rattle.plan.specs.Blocks.{planBlock, planOf}
 use Rattle.plan.specs.Answers.{judgedList, readBlock}
+use Rattle.schedule.specs.PlainSchedule.{Timing, moreUrgent}
 use Rattle.reclaiming.specs.declared.Reply.{Reply}
 use Rattle.reclaiming.specs.declared.Reply.the-variants as reply
 use Rattle.reclaiming.specs.StateBlock.{sameBytes, timing}

@@ -6,12 +6,12 @@ use lib.Dec.{leb, eqb}
 use Rattle.arith.specs.Choice.{pick, first}
 use Rattle.arith.specs.Sum.{sumTo}
 use Rattle.arith.specs.Need.{need}
+use Rattle.arith.specs.Ranges.{leastTo}
 use Rattle.plan.specs.Levels.{speedOf}
-use Rattle.schedule.specs.PlainSchedule.{Timing, Pending, moreUrgent, latest, queueOf}
+use Rattle.schedule.specs.PlainSchedule.{Timing, Pending, deadline, moreUrgent, latest, queueOf}
 use Rattle.reclaiming.specs.declared.Reply.{Reply}
 use Rattle.reclaiming.specs.declared.Reply.the-variants as reply
 use Rattle.reclaiming.specs.StateBlock.{State, workOf, remainingOf}
-use Rattle.arith.specs.Ranges.{leastTo}
 
 -- "the ticks to the next arrival of any task"
 abbrev pub nextArrival : Timing → ℕ → ℕ

@@ -6,6 +6,7 @@ use mathlib.Core.List.{List}
 use lib.Dec.{eqb}
 use lib.ListN.{length, getD}
 use Rattle.arith.specs.Choice.{pick}
+use Rattle.arith.specs.Ranges.{listTo, someTo}
 use Rattle.plan.specs.declared.Task.{Task}
 use Rattle.plan.specs.Levels.{speedOf}
 use Rattle.plan.specs.Blocks.{noTask}
@@ -13,7 +14,6 @@ use Rattle.schedule.specs.PlainSchedule.{Timing, drain, queueOf, leftIn}
 use Rattle.reclaiming.specs.declared.Entry.{Entry}
 use Rattle.reclaiming.specs.StateBlock.{State, noEntry, workOf, remainingOf, planIn, timing}
 use Rattle.reclaiming.specs.Orders.{holdOf, chooseOrder}
-use Rattle.arith.specs.Ranges.{listTo, someTo}
 
 -- 01: "a new job with full worst case and allotment"
 abbrev pub newEntry : Timing → List Task → ℕ → Entry

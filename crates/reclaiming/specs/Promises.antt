@@ -6,13 +6,13 @@ use mathlib.Core.Bool.{true}
 use mathlib.Core.List.{List, [], _∷_}
 use lib.Dec.{eqb}
 use lib.ListN.{length}
+use Rattle.arith.specs.Choice.{both}
 use Rattle.plan.specs.Blocks.{tasksIn}
 use Rattle.schedule.specs.PlainSchedule.{Timing, Job, Book, deadline, opened}
 use Rattle.schedule.specs.Feasibility.{In}
 use Rattle.reclaiming.specs.declared.Reply.{Reply}
 use Rattle.reclaiming.specs.declared.Reply.the-variants as reply
 use Rattle.reclaiming.specs.StateBlock.{decode, timing}
-use Rattle.arith.specs.Choice.{both}
 use Rattle.reclaiming.specs.Questions.{sound, largestClock, running, runningTime}
 use Rattle.reclaiming.specs.Calls.{refusalOf, startReply, passReply, queueBytes, shownBytes}
 use Rattle.reclaiming.specs.Run.{Pass, Answered, DispatcherBook, Arrived, trace, bytesAfter, startedBytes, openedBook, bookedAll, ranAll}

@@ -7,9 +7,9 @@ use lib.Dec.{leb, ltb, eqb}
 use lib.ListN.{length}
 use Rattle.arith.specs.Choice.{pick, both, every}
 use Rattle.arith.specs.Need.{need}
+use Rattle.arith.specs.Asking.{Question, ask, firstNo}
 use Rattle.plan.specs.Levels.{speedOf, nominal}
 use Rattle.plan.specs.Questions.{judging, reading, roomQuestion}
-use Rattle.arith.specs.Asking.{Question, ask, firstNo}
 use Rattle.schedule.specs.PlainSchedule.{Timing, Pending}
 use Rattle.reclaiming.specs.declared.Entry.{Entry}
 use Rattle.reclaiming.specs.StateBlock.{State, workOf, planIn, timing, decode, laidOut}

@@ -1,4 +1,5 @@
--- What d ticks leave of a task: they go first to the jobs ahead of it. Assumes nothing.
+-- What d ticks leave of a task: they go first to the jobs ahead of it.
+-- Assumes nothing.
 use Prim.Native.Nat.{ℕ, zero, suc, _+_, _-_, _<_}
 use mathlib.Core.Path.{_≡_, refl, ap, ap₂, sym, _∙_, subst}
 use mathlib.Core.Bool.{Bool, true, false}
@@ -8,9 +9,9 @@ use native.Mathlib.Decide.{ℕ-discrete}
 use native.Mathlib.Omega.{arith}
 use Rattle.arith.specs.Choice.{pick}
 use Rattle.arith.specs.Sum.{sumTo, sumOf}
+use Rattle.arith.proofs.Tests.{le-yes, le-not, testLe, eq-yes, eq-not, testEq}
 use Rattle.schedule.specs.PlainSchedule.{Timing, Job, Pending, moreUrgent, enqueue, drain, latest, queueOf, leftIn}
 use Rattle.schedule.specs.Feasibility.{In}
-use Rattle.arith.proofs.Tests.{le-yes, le-not, testLe, eq-yes, eq-not, testEq}
 use Rattle.schedule.proofs.Urgency.{MoreUrgent, ahead, same, behind, compared, irreflexive, asymmetric, urgent-false}
 use Rattle.schedule.proofs.Queue.{Leads, Sorted, leads-in, enqueue-sum}
 use Rattle.schedule.proofs.Drain.{taken}

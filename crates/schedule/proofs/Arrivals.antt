@@ -1,4 +1,5 @@
--- What the arrivals at a tick do to the ready queue. Assumes nothing.
+-- What the arrivals at a tick do to the ready queue.
+-- Assumes nothing.
 use Prim.Native.Nat.{ℕ, zero, suc, _+_, _%_, _<_}
 use mathlib.Core.Path.{_≡_, refl, ap, subst}
 use mathlib.Core.List.{List}
@@ -8,9 +9,9 @@ use native.Mathlib.Omega.{arith}
 use lib.Dec.{eqb}
 use Rattle.arith.specs.Choice.{pick}
 use Rattle.arith.specs.Sum.{sumTo, sumOf}
+use Rattle.arith.proofs.Tests.{eq-yes, eq-not, testEq}
 use Rattle.schedule.specs.PlainSchedule.{Timing, Job, Pending, enqueue, newJob, arrive}
 use Rattle.schedule.specs.Feasibility.{All, In}
-use Rattle.arith.proofs.Tests.{eq-yes, eq-not, testEq}
 use Rattle.schedule.proofs.Members.{all-in, in-all}
 use Rattle.schedule.proofs.Queue.{Sorted, enqueue-in, in-enqueue, enqueue-sorted, enqueue-sum}
 

@@ -9,13 +9,13 @@ use native.Mathlib.Omega.{arith}
 use lib.Dec.{leb, eqb}
 use Rattle.arith.specs.Choice.{pick}
 use Rattle.arith.specs.Sum.{sumTo, sumOf}
+use Rattle.arith.proofs.Tests.{le-yes, le-not, testLe, eq-yes, eq-not, testEq}
+use Rattle.arith.proofs.Sums.{sumTo-le, sumTo-eq, sumTo-add, sumTo-mul}
 use Rattle.schedule.specs.PlainSchedule.{Timing, Pending, deadline, serve, newJob, arrive}
 use Rattle.schedule.specs.Feasibility.{All, Fitting}
-use Rattle.arith.proofs.Tests.{le-yes, le-not, testLe, eq-yes, eq-not, testEq}
 use Rattle.schedule.proofs.Urgency.{in-order}
 use Rattle.schedule.proofs.Queue.{Leads, Sorted, Positive}
 use Rattle.schedule.proofs.Arrivals.{arrive-sum}
-use Rattle.arith.proofs.Sums.{sumTo-le, sumTo-eq, sumTo-add, sumTo-mul}
 use Rattle.schedule.proofs.Periods.{div-due, div-between, div-rest}
 
 -- the ticks that an entry must have by d: all it has left where its deadline is at most d

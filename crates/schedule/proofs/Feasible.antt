@@ -1,4 +1,5 @@
--- The feasibility theorem: where the demand of a hyperperiod fits, no job of the plain schedule is late. Assumes nothing.
+-- The feasibility theorem: where the demand of a hyperperiod fits, no job of the plain schedule is late.
+-- Assumes nothing.
 use Prim.Native.Nat.{ℕ, zero, suc, _+_, _≤_, _<_}
 use mathlib.Core.Path.{_≡_, sym, subst}
 use mathlib.Core.List.{List}

@@ -1,13 +1,14 @@
--- What holds of the ready queue at every tick. Assumes nothing.
+-- What holds of the ready queue at every tick.
+-- Assumes nothing.
 use Prim.Native.Nat.{ℕ, zero, suc, _-_, _%_, _≤_, _<_}
 use mathlib.Core.Path.{_≡_, refl, ap, sym, subst}
 use mathlib.Core.List.{List, [], _∷_}
 use mathlib.Core.Logic.{_⊎_, inl, inr}
 use native.Mathlib.Omega.{arith}
 use Rattle.arith.specs.Choice.{pick}
+use Rattle.arith.proofs.Tests.{le-yes, le-not, testLe}
 use Rattle.schedule.specs.PlainSchedule.{Timing, Pending, Book, serve, arrive, opened, tick, canonicalAt}
 use Rattle.schedule.specs.Feasibility.{All, In}
-use Rattle.arith.proofs.Tests.{le-yes, le-not, testLe}
 use Rattle.schedule.proofs.Members.{all-in, in-all}
 use Rattle.schedule.proofs.Queue.{Sorted, serve-sorted}
 use Rattle.schedule.proofs.Arrivals.{New, arrive-in, arrive-sorted}

@@ -1,4 +1,5 @@
--- A plan that fits exists, and its plain schedule is computed: the theorems here are not empty. Assumes nothing.
+-- A plan that fits exists, and its plain schedule is computed: the theorems here are not empty.
+-- Assumes nothing.
 use Prim.Native.Nat.{ℕ, zero, suc, _+_, _%_, _<_}
 use mathlib.Core.Path.{_≡_, refl, ap, _∙_}
 use mathlib.Core.List.{[], _∷_}
