@@ -1,41 +1,79 @@
--- Laws of packed bits: packing and unpacking undo each other, and bits are read out of the bytes that cover them.
+-- Laws of bits: a number by its bits, packing and unpacking undo each other, and bits are read out of the bytes that cover them.
 -- Assumes nothing.
 use Prim.Native.Nat.{ℕ, zero, suc, _+_, _-_, _*_, _/_, _%_, _^_, _<_, _≤_}
 use mathlib.Core.Path.{_≡_, refl, sym, subst, ap, ap₂, _∙_}
 use mathlib.Core.List.{List, [], _∷_, _++_}
 use native.Mathlib.Nat.{not-suc-le-zero, mod-eq-of-lt}
-use native.Mathlib.Omega.{arith}
 use native.Mathlib.Decide.{decLe}
+use native.Mathlib.Omega.{arith}
+use borrow.Author.Tests.{eqb-true, eq-eqb}
+use lib.Dec.{eqb}
 use lib.Pow.{pow-lt}
-use lib.ListN.{length, getD, drop, length-append, length-drop, List·getD-append, List·getD-eq-default}
-use lib.Seq.{getD-append-add, getD-drop, drop-at, drop-drop}
+use lib.ListN.{length, getD, drop, length-append, length-drop, List·getD-eq-default}
+use lib.Seq.{getD-drop, drop-at, drop-drop}
+use Rattle.arith.specs.Choice.{every}
 use Rattle.arith.specs.Digits.{number, digits}
 use Rattle.arith.specs.Bits.{unpacked, packedTo}
-use Rattle.arith.proofs.DigitLaws.{length-digits, digit-below, digit-number, number-digits, number-same, number-within, number-regrouped}
+use Rattle.arith.proofs.Tests.{same-test}
+use Rattle.arith.proofs.ListLaws.{getD-early, getD-later, every-at, at-every}
+use Rattle.arith.proofs.DigitLaws.{length-digits, digit-at, digit-below, digit-number, number-digits, number-same, number-within, number-regrouped}
 
+-- a number is zero exactly if its bits are
+pub number-zero : (n : ℕ) (ds : List ℕ) → ((k : ℕ) → k < n → getD ds k 0 ≡ 0) → number 2 n ds ≡ 0
+number-zero zero ds h = refl
+number-zero (suc n) ds h = omega (arith, number-zero n ds (λ k l. h k (omega arith)), h n (omega arith))
+
+pub zero-number : (n : ℕ) (ds : List ℕ) → number 2 n ds ≡ 0 → (k : ℕ) → k < n → getD ds k 0 ≡ 0
+zero-number zero ds h k l = absurd (not-suc-le-zero l)
+zero-number (suc n) ds h k l =
+    elim (decLe (suc k) n) [
+      | yes f ↦ zero-number n ds (omega arith) k f
+      | no f ↦ let e : n ≡ k = omega arith in
+          subst (λ (j : ℕ). getD ds j 0 ≡ 0) e (omega arith)
+    ]
+
+pub every-zero : (ds : List ℕ) → every (eqb 0) ds ≡ eqb (number 2 (length ds) ds) 0
+every-zero ds =
+    same-test (every (eqb 0) ds) (eqb (number 2 (length ds) ds) 0)
+    (λ h. eq-eqb (number 2 (length ds) ds) 0 (number-zero (length ds) ds (λ k l. sym (eqb-true 0 (getD ds k 0) (every-at (eqb 0) ds k 0 h l)))))
+    (λ h. at-every (eqb 0) ds 0 (λ k l. eq-eqb 0 (getD ds k 0) (sym (zero-number (length ds) ds (eqb-true (number 2 (length ds) ds) 0 h) k l))))
+
+-- a bit of a number of n bits that stands at a place, by that number
+pub number-bit :
+    (bits : List ℕ) →
+    ((k : ℕ) → getD bits k 0 < 2) →
+    (at n j e k : ℕ) →
+    j < n →
+    e ≡ n - suc j →
+    at + j ≡ k →
+    number 2 n (drop at bits) / 2 ^ e % 2 ≡ getD bits k 0
+number-bit bits below at n j e k h same place =
+    ap (λ (m : ℕ). number 2 n (drop at bits) / 2 ^ m % 2) same
+    ∙ sym (digit-at 2 n (number 2 n (drop at bits)) j h)
+    ∙ digit-number 2 n (drop at bits) (λ i l. subst (λ (x : ℕ). x < 2) (sym (getD-drop at bits i 0)) (below (at + i))) j h
+    ∙ getD-drop at bits j 0
+    ∙ ap (λ (m : ℕ). getD bits m 0) place
+
+-- how many bits bytes have
 pub length-unpacked : (s : List ℕ) → length (unpacked s) ≡ 8 * length s
 length-unpacked [] = refl
 length-unpacked (b ∷ bs) =
     length-append (digits 2 8 b) (unpacked bs) ∙ omega (arith, length-digits 2 8 b, length-unpacked bs)
 
--- past the first byte, the bits are those of the rest
-later : (b : ℕ) (bits : List ℕ) (j : ℕ) → getD (digits 2 8 b ++ bits) (8 + j) 0 ≡ getD bits j 0
-later b bits j =
-    subst (λ (n : ℕ). getD (digits 2 8 b ++ bits) (n + j) 0 ≡ getD bits j 0) (length-digits 2 8 b)
-    (getD-append-add (digits 2 8 b) bits j 0)
+-- within the first byte the bits are its own; past it they are those of the rest
+module _ (b : ℕ) (bits : List ℕ) (k : ℕ) where
+  early : k < 8 → getD (digits 2 8 b ++ bits) k 0 ≡ getD (digits 2 8 b) k 0
+  early = getD-early (digits 2 8 b) bits 8 k 0 (length-digits 2 8 b)
 
--- within the first byte they are its own
-early : (b : ℕ) (bits : List ℕ) (k : ℕ) → k < 8 → getD (digits 2 8 b ++ bits) k 0 ≡ getD (digits 2 8 b) k 0
-early b bits k h = List·getD-append (digits 2 8 b) bits 0 k (omega (arith, length-digits 2 8 b))
+  later : 8 ≤ k → getD (digits 2 8 b ++ bits) k 0 ≡ getD bits (k - 8) 0
+  later = getD-later (digits 2 8 b) bits 8 k 0 (length-digits 2 8 b)
 
 -- every one is 0 or 1
 pub unpacked-below : (s : List ℕ) (k : ℕ) → getD (unpacked s) k 0 < 2
 unpacked-below [] k = omega arith
 unpacked-below (b ∷ bs) k =
     elim (decLe 8 k) [
-      | yes h ↦ let e : k ≡ 8 + (k - 8) = omega arith in
-          subst (λ (n : ℕ). getD (unpacked (b ∷ bs)) n 0 < 2) (sym e)
-          (subst (λ (x : ℕ). x < 2) (sym (later b (unpacked bs) (k - 8))) (unpacked-below bs (k - 8)))
+      | yes h ↦ subst (λ (x : ℕ). x < 2) (sym (later b (unpacked bs) k h)) (unpacked-below bs (k - 8))
       | no h ↦ subst (λ (x : ℕ). x < 2) (sym (early b (unpacked bs) k (omega arith))) (digit-below 2 8 b k (omega arith))
     ]
 
@@ -84,8 +122,7 @@ unpacked-packed (suc n) bits l h k =
       | yes f ↦ let e : 8 + (k - 8) ≡ k = omega arith in
           let rest : getD (unpacked (packedTo n (drop 8 bits))) (k - 8) 0 ≡ getD (drop 8 bits) (k - 8) 0 =
           unpacked-packed n (drop 8 bits) (simp length-drop (omega arith)) (λ j. subst (λ (x : ℕ). x < 2) (sym (getD-drop 8 bits j 0)) (h (8 + j))) (k - 8) in
-          ap (λ (j : ℕ). getD (unpacked (packedTo (suc n) bits)) j 0) (sym e)
-          ∙ later (number 2 8 bits) (unpacked (packedTo n (drop 8 bits))) (k - 8)
+          later (number 2 8 bits) (unpacked (packedTo n (drop 8 bits))) k f
           ∙ rest
           ∙ getD-drop 8 bits (k - 8) 0
           ∙ ap (λ (j : ℕ). getD bits j 0) e

@@ -3,10 +3,11 @@
 use Prim.Native.Nat.{ℕ, zero, suc, _+_, _-_, _*_, _/_, _%_, _^_, _<_, _≤_}
 use mathlib.Core.Path.{_≡_, refl, sym, subst, ap, ap₂, _∙_}
 use mathlib.Core.List.{List, [], _∷_, _++_, append-assoc}
-use native.Mathlib.Nat.{mod-lt, div-add-mod', div-lt-iff-lt-mul, div-div-eq-div-mul, pow-zero, pow-suc, add-mul, mul-assoc, mul-comm, div-one, not-suc-le-zero, lt-of-lt-of-le, pow-le-pow-right}
+use native.Mathlib.Nat.{not-suc-le-zero, lt-of-lt-of-le, add-mul, mul-assoc, mul-comm, pow-zero, pow-suc, pow-le-pow-right}
+use native.Mathlib.Nat.{mod-lt, div-add-mod', div-one, div-lt-iff-lt-mul, div-div-eq-div-mul}
 use native.Mathlib.Numerals.{add-one}
-use native.Mathlib.Omega.{arith}
 use native.Mathlib.Decide.{decLe}
+use native.Mathlib.Omega.{arith}
 use lib.Arith.{digits-lt, digits-div, digits-mod}
 use lib.ListN.{length, getD, take, drop, length-append, List·getD-append, List·getD-eq-default}
 use lib.Seq.{getD-append-seam, ext-getD, length-take-le, getD-take, getD-drop}
@@ -26,9 +27,13 @@ number-same b zero ds es h = refl
 number-same b (suc n) ds es h =
     ap₂ (λ (x y : ℕ). x * b + y) (number-same b n ds es (λ k l. h k (omega arith))) (h n (omega arith))
 
-pub number-append : (b n : ℕ) (ds es : List ℕ) → n ≤ length ds → number b n (ds ++ es) ≡ number b n ds
-number-append b n ds es h =
-    number-same b n (ds ++ es) ds (λ k l. List·getD-append ds es 0 k (omega arith))
+-- and so do the digits from a place on
+pub number-drop-same :
+    (b n at : ℕ) (xs ys : List ℕ) →
+    ((k : ℕ) → getD xs k 0 ≡ getD ys k 0) →
+    number b n (drop at xs) ≡ number b n (drop at ys)
+number-drop-same b n at xs ys h =
+    number-same b n (drop at xs) (drop at ys) (λ k l. getD-drop at xs k 0 ∙ h (at + k) ∙ sym (getD-drop at ys k 0))
 
 -- a number of n digits is below the base to the n
 pub number-below :
@@ -100,10 +105,12 @@ digit-at b (suc n) x k h =
   where
     front : k < n → getD (digits b n (x / b)) k 0 ≡ x / b / b ^ (n - suc k) % b → getD (digits b (suc n) x) k 0 ≡ x / b ^ (suc n - suc k) % b
     front l rest =
-        let e : suc n - suc k ≡ suc (n - suc k) = omega arith in
+        let p : ℕ = n - suc k in
+        let e : suc n - suc k ≡ suc p = omega arith in
+        let power : b * b ^ p ≡ b ^ (suc n - suc k) = mul-comm b (b ^ p) ∙ sym (pow-suc b p) ∙ ap (λ (m : ℕ). b ^ m) (sym e) in
         List·getD-append (digits b n (x / b)) (x % b ∷ []) 0 k (subst (λ (m : ℕ). k < m) (sym (length-digits b n (x / b))) l)
         ∙ rest
-        ∙ ap (λ (m : ℕ). m % b) (div-div-eq-div-mul x b (b ^ (n - suc k)) ∙ ap (λ (m : ℕ). x / m) (mul-comm b (b ^ (n - suc k)) ∙ sym (pow-suc b (n - suc k)) ∙ ap (λ (m : ℕ). b ^ m) (sym e)))
+        ∙ ap (λ (m : ℕ). m % b) (div-div-eq-div-mul x b (b ^ p) ∙ ap (λ (m : ℕ). x / m) power)
 
     last : k ≡ n → getD (digits b (suc n) x) k 0 ≡ x / b ^ (suc n - suc k) % b
     last e =

@@ -1,4 +1,5 @@
 pub mod Tests
+pub mod ListLaws
 pub mod Needs
 pub mod Divisors
 pub mod DigitLaws
@@ -8,6 +9,5 @@ pub mod Sums
 pub mod QuestionLaws
 pub mod RangeLaws
 pub mod Searches
-pub mod ListLaws
 pub mod Loops
 pub mod ArrayLaws

@@ -3,6 +3,7 @@
 use Prim.Native.Nat.{ℕ, suc, _+_, _-_, _*_, _/_, _%_, _<_, _≤_}
 use mathlib.Core.Path.{_≡_, sym, subst, ap, _∙_}
 use native.Mathlib.Nat.{mod-add-div', mod-lt, div-lt-iff-lt-mul, le-trans, le-of-suc-le-suc, mul-le-mul-left, add-mul, lt-of-mul-lt-mul-right, suc-mul, mul-one}
+use native.Mathlib.Decide.{decLe}
 use native.Mathlib.Omega.{arith}
 use Rattle.arith.specs.Need.{need}
 
@@ -45,6 +46,10 @@ pub need-zero-work : (s w : ℕ) → 0 < s → need s w ≡ 0 → w ≡ 0
 need-zero-work s w h e =
     let c : w ≤ 0 * s = subst (λ (k : ℕ). w ≤ k * s) e (need-covers s w h) in
     omega arith
+
+pub need-positive : (s w : ℕ) → 0 < s → 0 < w → 0 < need s w
+need-positive s w h p =
+    elim (decLe 1 (need s w)) [ yes l ↦ l | no l ↦ absurd (omega (arith, need-zero-work s w h (omega arith))) ]
 
 -- after d ticks at the speed, d ticks less are needed
 pub need-after : (s w d : ℕ) → 0 < s → d ≤ need s w → need s (w - d * s) ≡ need s w - d

@@ -1,16 +1,15 @@
 -- Laws of questions and of the first no.
 -- Assumes nothing.
-use Prim.Native.Nat.{ℕ, suc, _≤_, _<_}
+use Prim.Native.Nat.{ℕ, _≤_, _<_}
+use mathlib.Core.Path.{_≡_, refl, sym, ap, _∙_}
 use mathlib.Core.Bool.{Bool, true, false}
-use mathlib.Core.Path.{_≡_, refl, sym, subst, ap, _∙_}
+use mathlib.Core.List.{List, [], _∷_, _++_}
 use native.Mathlib.Omega.{arith}
+use borrow.Author.Tests.{leb-true, le-leb, lt-leb}
 use lib.Dec.{leb}
 use Rattle.arith.specs.Choice.{pick, every}
-use Rattle.arith.proofs.Tests.{both-left, both-right, both-true, both-false}
 use Rattle.arith.specs.Asking.{within, Question, firstNo}
-use borrow.Author.Tests.{leb-true, le-leb, lt-leb}
-use mathlib.Core.List.{List, [], _∷_, _++_}
-use Rattle.arith.specs.Digits.{number}
+use Rattle.arith.proofs.Tests.{both-left, both-right, both-true, both-false}
 
 -- a value from low to high
 pub within-low : (low high x : ℕ) → within low high x ≡ true → low ≤ x
@@ -21,18 +20,6 @@ within-high low high x h = leb-true x high (both-right (leb low x) (leb x high) 
 
 pub within-true : (low high x : ℕ) → low ≤ x → x ≤ high → within low high x ≡ true
 within-true low high x l h = both-true (le-leb low x l) (le-leb x high h)
-
--- the first of two questions is answered yes, and so is the rest
-pub yes-first : (n : ℕ) (b : Bool) (rest : ℕ) → pick b rest (suc n) ≡ 0 → b ≡ true
-yes-first n true rest h = refl
-yes-first n false rest h = absurd (omega arith)
-
-pub yes-rest : (n : ℕ) (b : Bool) (rest : ℕ) → pick b rest (suc n) ≡ 0 → rest ≡ 0
-yes-rest n true rest h = h
-yes-rest n false rest h = absurd (omega arith)
-
-pub yes-both : (n : ℕ) {b : Bool} {rest : ℕ} → b ≡ true → rest ≡ 0 → pick b rest n ≡ 0
-yes-both n {b} {rest} h r = subst (λ (t : Bool). pick t rest n ≡ 0) (sym h) r
 
 -- a question answered no decides; one answered yes leaves it to the rest
 pub ask-no : (n : ℕ) {b : Bool} (rest : ℕ) → b ≡ false → pick b rest n ≡ n
@@ -80,3 +67,27 @@ yes-of (q ∷ qs) rest h = step (q .reply) (firstNo (qs ++ rest)) (firstNo qs) (
     step : (b : Bool) (x y m : ℕ) → (x ≡ 0 → y ≡ 0) → pick b x m ≡ 0 → pick b y m ≡ 0
     step true x y m f e = f e
     step false x y m f e = e
+
+pub yes-after : (qs rest : List Question) → every numbered qs ≡ true → firstNo (qs ++ rest) ≡ 0 → firstNo rest ≡ 0
+yes-after qs rest p h = sym (yes-before qs rest p (yes-of qs rest h)) ∙ h
+
+-- each question is answered yes
+abbrev pub Yes : List Question → Type 0
+Yes [] = Unit {0}
+Yes (q ∷ qs) = (q .reply ≡ true) × Yes qs
+
+-- that is so exactly if there is no first no
+pub all-yes : (qs : List Question) → every numbered qs ≡ true → firstNo qs ≡ 0 → Yes qs
+all-yes [] p h = tt
+all-yes (q ∷ qs) p h =
+    step (q .reply) refl (leb-true 1 (q .number) (both-left (numbered q) (every numbered qs) p))
+    (all-yes qs (both-right (numbered q) (every numbered qs) p))
+    h
+  where
+    step : (b : Bool) → q .reply ≡ b → 1 ≤ q .number → (firstNo qs ≡ 0 → Yes qs) → pick b (firstNo qs) (q .number) ≡ 0 → Yes (q ∷ qs)
+    step true e l f k = (e, f k)
+    step false e l f k = absurd (omega arith)
+
+pub yes-all : (qs : List Question) → Yes qs → firstNo qs ≡ 0
+yes-all [] a = refl
+yes-all (q ∷ qs) a = ask-yes (q .number) (a .0) (yes-all qs (a .1))

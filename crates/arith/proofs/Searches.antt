@@ -1,12 +1,12 @@
 -- Laws of the first element that passes a test.
 -- Assumes nothing.
 use Prim.Native.Nat.{ℕ, zero, suc, _+_, _<_, _≤_}
-use mathlib.Core.Bool.{Bool, true, false}
 use mathlib.Core.Path.{_≡_, refl, sym, subst, _∙_}
+use mathlib.Core.Bool.{Bool, true, false}
 use mathlib.Core.List.{List, [], _∷_}
 use native.Mathlib.Nat.{not-suc-le-zero, le-trans}
-use native.Mathlib.Omega.{arith}
 use native.Mathlib.Decide.{decLe}
+use native.Mathlib.Omega.{arith}
 use lib.Dec.{T}
 use lib.ListN.{length, getD}
 use Rattle.arith.specs.Choice.{pick, first}
@@ -45,13 +45,6 @@ module _ {ℓ} {A : Type ℓ} (f : A → Bool) where
           f (getD (x ∷ xs) (pick t 0 (suc (first f xs))) d) ≡ true
       go true e l rest = e
       go false e l rest = rest (omega arith)
-
-  pub first-before : (l : List A) (k : ℕ) (d : A) → k < first f l → f (getD l k d) ≡ false
-  first-before l k d h =
-      elim (tested (f (getD l k d))) as (λ t _. f (getD l k d) ≡ t → t ≡ false) [
-        | passed ↦ λ e. absurd (omega (arith, first-le l k d (omega (arith, first-most l)) e))
-        | failed ↦ λ e. refl
-      ] refl
 
   -- a search from the front: where it stops, where it goes on, and at the end
   pub first-found :

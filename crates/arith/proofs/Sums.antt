@@ -1,15 +1,17 @@
--- Sums over the indices below a count, compared term by term. Assumes nothing.
+-- Laws of sums, over the indices below a count and over a list.
+-- Assumes nothing.
 use Prim.Native.Nat.{ℕ, zero, suc, _+_, _*_, _≤_, _<_}
-use mathlib.Core.Path.{_≡_, refl, sym, ap, _∙_}
-use native.Mathlib.Omega.{arith}
-use Rattle.arith.specs.Sum.{sumTo, sumOf}
-use mathlib.Core.List.{List, [], _∷_, _++_}
-use native.Mathlib.Nat.{add-le-add}
-use lib.ListN.{length, getD, take}
-use lib.Seq.{take-suc}
+use mathlib.Core.Path.{_≡_, refl, sym, subst, ap, _∙_}
 use mathlib.Core.Bool.{Bool}
+use mathlib.Core.List.{List, [], _∷_, _++_}
+use native.Mathlib.Nat.{add-le-add, not-suc-le-zero}
+use native.Mathlib.Decide.{decLe}
+use native.Mathlib.Omega.{arith}
 use lib.Dec.{eqb}
+use lib.ListN.{length, getD, take}
+use lib.Seq.{take-suc, take-length}
 use Rattle.arith.specs.Choice.{pick}
+use Rattle.arith.specs.Sum.{sumTo, sumOf}
 use Rattle.arith.proofs.Tests.{passed, failed, tested, eq-yes, eq-not, testEq}
 
 -- smaller terms, smaller sum
@@ -49,6 +51,19 @@ sumOf-taken f l d (suc n) h =
     ap (λ (x : ℕ). x + f (getD l n d)) (sumOf-taken f l d n (omega arith))
     ∙ sym (sumOf-snoc f (take n l) (getD l n d))
     ∙ ap (λ x. sumOf f x) (sym (take-suc l n d h))
+
+pub sumOf-places {ℓ} : {A : Type ℓ} (f : A → ℕ) (l : List A) (d : A) → sumOf f l ≡ sumTo (length l) (λ i. f (getD l i d))
+sumOf-places f l d = ap (λ x. sumOf f x) (sym (take-length l)) ∙ sym (sumOf-taken f l d (length l) (omega arith))
+
+-- a term is at most the sum
+pub sumTo-term : (n : ℕ) (f : ℕ → ℕ) (i : ℕ) → i < n → f i ≤ sumTo n f
+sumTo-term zero f i h = absurd (not-suc-le-zero h)
+sumTo-term (suc n) f i h =
+    elim (decLe (suc i) n) [
+      | yes l ↦ omega (arith, sumTo-term n f i l)
+      | no l ↦ let e : n ≡ i = omega arith in
+          subst (λ (k : ℕ). f k ≤ sumTo n f + f n) e (omega arith)
+    ]
 
 -- a sum of which only one term counts
 sum-none : (n x : ℕ) (f : ℕ → ℕ) → n ≤ x → sumTo n (λ j. pick {A = ℕ} (eqb j x) (f j) 0) ≡ 0

@@ -1,10 +1,10 @@
 -- A test inside a definition, and what it tells: a view for each kind of test, to be taken apart by `elim`.
 -- Assumes nothing.
 use Prim.Native.Nat.{ℕ, suc, _≤_, _<_}
-use mathlib.Core.Bool.{Bool, true, false, not}
 use mathlib.Core.Path.{_≡_, subst, sym, refl}
-use lib.Dec.{T, leb, ltb, eqb, leb→le, nleb→lt, eqb→eq, eqb-refl}
+use mathlib.Core.Bool.{Bool, true, false, not, true≢false}
 use native.Mathlib.Omega.{arith}
+use lib.Dec.{T, leb, ltb, eqb, leb→le, nleb→lt, eqb→eq, eqb-refl}
 use Rattle.arith.specs.Choice.{pick, lex, both}
 
 pub data TestLe (m n : ℕ) : Bool → Type 0 where
@@ -39,6 +39,12 @@ pub tested : (b : Bool) → Tested b
 tested true = passed
 tested false = failed
 
+-- tests that pass at the same time are equal
+pub same-test : (a b : Bool) → (a ≡ true → b ≡ true) → (b ≡ true → a ≡ true) → a ≡ b
+same-test true b f g = sym (f refl)
+same-test false true f g = g refl
+same-test false false f g = refl
+
 -- both tests of a pair passed
 pub both-left : (a b : Bool) → both a b ≡ true → a ≡ true
 both-left true b h = refl
@@ -50,6 +56,28 @@ both-right false b h = absurd (subst T (sym h) tt)
 
 pub both-true : {a b : Bool} → a ≡ true → b ≡ true → both a b ≡ true
 both-true {a} {b} p q = subst (λ (x : Bool). both x b ≡ true) (sym p) q
+
+-- the second did not
+pub both-false : (a : Bool) → both a false ≡ false
+both-false true = refl
+both-false false = refl
+
+-- a test that counts only where another passes
+pub only-if : (a b : Bool) → (a ≡ true → b ≡ true) → pick a b true ≡ true
+only-if true b h = h refl
+only-if false b h = refl
+
+pub if-so : (a b : Bool) → pick a b true ≡ true → a ≡ true → b ≡ true
+if-so a b h e = subst (λ (t : Bool). pick t b true ≡ true) e h
+
+-- neither of two tests passed
+pub neither-first : (a b : Bool) → pick a true b ≡ false → a ≡ false
+neither-first true b h = h
+neither-first false b h = refl
+
+pub neither-second : (a b : Bool) → pick a true b ≡ false → b ≡ false
+neither-second true b h = absurd (true≢false h)
+neither-second false b h = h
 
 -- the three outcomes of an order by a first key
 pub data TestLex (m n : ℕ) (rest : Bool) : Bool → Type 0 where
@@ -65,8 +93,3 @@ testLex m n rest =
           elim (testLe (suc n) m) as (λ s _. TestLex m n rest (pick s false rest))
           [ le-yes k ↦ lex-more k | le-not k ↦ lex-same (omega arith) ]
     ]
-
--- a task's four limits, in the order in which they are tested
-pub both-false : (a : Bool) → both a false ≡ false
-both-false true = refl
-both-false false = refl

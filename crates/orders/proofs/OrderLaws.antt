@@ -36,7 +36,8 @@ use Rattle.reclaiming.proofs.OrderFacts.{head-below}
 use Rattle.reclaiming.proofs.Allowances.{allowance-is}
 use Rattle.state.proofs.BlockLaws.{count-in, entry-at, store-order}
 use Rattle.state.proofs.KeyLaws as keys
-use Rattle.orders.proofs.NeedTests.{need-test, speed-positive}
+use Rattle.plan.proofs.TimeLaws.{need-test}
+use Rattle.orders.proofs.NeedTests.{speed-positive}
 use Rattle.state.proofs.OpenJobs.{timing-count, open-head}
 
 -- the lowest level that meets an allowance is one of the eight, or 8

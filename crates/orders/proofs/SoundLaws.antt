@@ -40,7 +40,8 @@ use Rattle.state.specs.Code.{Holds, entryIn, timingIn, Keyed, latestKey, keysIn
 use Rattle.orders.specs.Code.{Good, testedBy}
 use Rattle.reclaiming.proofs.Soundness.{planIn-at}
 use Rattle.reclaiming.proofs.OrderFacts.{head-below}
-use Rattle.orders.proofs.NeedTests.{need-test, need-above, speed-positive, speed-most}
+use Rattle.plan.proofs.TimeLaws.{need-test, need-above}
+use Rattle.orders.proofs.NeedTests.{speed-positive, speed-most}
 use Rattle.orders.proofs.SoundFacts.{sound-holds, sound-plan-yes, sound-clock}
 use Rattle.state.proofs.OpenJobs.{timing-count, open-head}
 use Rattle.state.proofs.BlockLaws.{count-in, entry-at}

@@ -4,20 +4,20 @@ use Prim.Native.Nat.{ℕ, zero, suc, _+_, _-_, _*_, _/_, _%_, _^_, _<_, _≤_}
 use mathlib.Core.Path.{_≡_, refl, sym, subst, ap, _∙_}
 use mathlib.Core.List.{List, [], _∷_, _++_}
 use native.Mathlib.Nat.{not-suc-le-zero}
-use native.Mathlib.Omega.{arith}
 use native.Mathlib.Decide.{decLe}
+use native.Mathlib.Omega.{arith}
 use lib.Dec.{eqb}
 use lib.ListN.{length, getD, drop, length-append, length-drop, List·getD-eq-default}
 use lib.Seq.{drop-drop, getD-drop}
-use Rattle.arith.specs.Need.{need}
 use Rattle.arith.specs.Choice.{every}
+use Rattle.arith.specs.Need.{need}
 use Rattle.arith.specs.Digits.{number, digits}
 use Rattle.arith.specs.Bits.{unpacked}
+use Rattle.arith.proofs.ListLaws.{getD-early, getD-later}
 use Rattle.arith.proofs.DigitLaws.{digit-at}
-use Rattle.arith.proofs.BitLaws.{length-unpacked, length-packed, packed-at}
+use Rattle.arith.proofs.BitLaws.{every-zero, length-unpacked, length-packed, packed-at}
 use Rattle.plan.specs.declared.Task.{Task}
 use Rattle.plan.specs.Blocks.{taskBits, tasksBits, planBits, planBlock, bitCount, blockLength, countIn, taskFrom, tasksFrom, closingBits, noTask}
-use Rattle.arith.proofs.ListLaws.{getD-early, getD-later, every-zero}
 
 -- how many bits there are
 pub length-taskBits : (t : Task) → length (taskBits t) ≡ 36

@@ -1,21 +1,24 @@
 -- What is known of a task, a list of tasks and a block once its questions are answered yes.
 -- Assumes nothing.
 use Prim.Native.Nat.{ℕ, suc, _<_, _≤_}
-use mathlib.Core.Bool.{Bool, true}
 use mathlib.Core.Path.{_≡_, refl}
+use mathlib.Core.Bool.{true}
 use mathlib.Core.List.{List}
-use lib.Dec.{leb, ltb, eqb}
-use lib.ListN.{length, getD}
-use Rattle.arith.specs.Choice.{pick, every}
-use Rattle.arith.proofs.Tests.{both-left, both-right, both-true}
+use native.Mathlib.Omega.{arith}
+use borrow.Author.Tests.{leb-true, le-leb, eqb-true, eq-eqb}
+use lib.Dec.{eqb}
+use lib.ListN.{length, getD, drop}
+use Rattle.arith.specs.Choice.{every}
+use Rattle.arith.specs.Bits.{unpacked}
+use Rattle.arith.specs.Asking.{firstNo, within}
+use Rattle.arith.proofs.Tests.{both-left, both-right}
+use Rattle.arith.proofs.ListLaws.{every-at}
+use Rattle.arith.proofs.QuestionLaws.{within-high, within-low, within-true, Yes, all-yes, yes-all}
 use Rattle.plan.specs.declared.Task.{Task}
 use Rattle.plan.specs.Levels.{hyperperiod, nominal}
 use Rattle.plan.specs.Blocks.{editionIn, countIn, tasksIn, blockLength, closingBits, noTask}
 use Rattle.plan.specs.Questions.{inRange, taskQuestions, judging, reading}
-use Rattle.arith.specs.Asking.{firstNo, within}
-use borrow.Author.Tests.{leb-true, le-leb, eqb-true, eq-eqb}
-use Rattle.arith.proofs.ListLaws.{every-at}
-use Rattle.arith.proofs.QuestionLaws.{within-high, within-low, within-true, yes-both, yes-first, yes-rest}
+use Rattle.plan.proofs.BlockBits.{length-tasksFrom}
 
 -- a task in range
 pub record InRange (t : Task) : Type 0 where
@@ -35,11 +38,6 @@ in-range t h =
       worst-high = within-high 1 1048575 (t .worst) w;
     }
 
-pub range-test : (t : Task) → InRange t → inRange t ≡ true
-range-test t h =
-    both-true (within-true 1 65535 (t .period) (h .period-low) (h .period-high))
-    (within-true 1 1048575 (t .worst) (h .worst-low) (h .worst-high))
-
 pub range-at : (ts : List Task) (i : ℕ) → every inRange ts ≡ true → i < length ts → InRange (getD ts i noTask)
 range-at ts i h l = in-range (getD ts i noTask) (every-at inRange ts i noTask h l)
 
@@ -49,25 +47,22 @@ pub record FineTasks (speeds : List ℕ) (ts : List Task) : Type 0 where
   pub span-most : hyperperiod ts ≤ 1000000
   pub admitted : nominal speeds ts < length speeds
 
-pub fine-tasks : (speeds : List ℕ) (ts : List Task) → firstNo (taskQuestions speeds ts) ≡ 0 → FineTasks speeds ts
-fine-tasks speeds ts h =
-    let b6 : Bool = every inRange ts in
-    let b7 : Bool = leb (hyperperiod ts) 1000000 in
-    let b8 : Bool = ltb (nominal speeds ts) (length speeds) in
-    let r8 : ℕ = pick b8 0 8 in
-    let r7 : ℕ = pick b7 r8 7 in
-    let h7 : r7 ≡ 0 = yes-rest 5 b6 r7 h in
-    record {
-      ranges = yes-first 5 b6 r7 h;
-      span-most = leb-true (hyperperiod ts) 1000000 (yes-first 6 b7 r8 h7);
-      admitted = leb-true (suc (nominal speeds ts)) (length speeds) (yes-first 7 b8 0 (yes-rest 6 b7 r8 h7));
-    }
+-- from the answers to the facts, and back
+tasks-fine : (speeds : List ℕ) (ts : List Task) → Yes (taskQuestions speeds ts) → FineTasks speeds ts
+tasks-fine speeds ts a = record {
+  ranges = a .0;
+  span-most = leb-true (hyperperiod ts) 1000000 (a .1 .0);
+  admitted = leb-true (suc (nominal speeds ts)) (length speeds) (a .1 .1 .0);
+}
 
-pub tasks-yes : (speeds : List ℕ) (ts : List Task) → FineTasks speeds ts → firstNo (taskQuestions speeds ts) ≡ 0
-tasks-yes speeds ts f =
-    yes-both 6 (f .ranges)
-    (yes-both 7 (le-leb (hyperperiod ts) 1000000 (f .span-most))
-    (yes-both 8 (le-leb (suc (nominal speeds ts)) (length speeds) (f .admitted)) refl))
+fine-yes : (speeds : List ℕ) (ts : List Task) → FineTasks speeds ts → Yes (taskQuestions speeds ts)
+fine-yes speeds ts f = (
+  f .ranges,
+  (le-leb (hyperperiod ts) 1000000 (f .span-most), (le-leb (suc (nominal speeds ts)) (length speeds) (f .admitted), tt)),
+)
+
+pub fine-tasks : (speeds : List ℕ) (ts : List Task) → firstNo (taskQuestions speeds ts) ≡ 0 → FineTasks speeds ts
+fine-tasks speeds ts h = tasks-fine speeds ts (all-yes (taskQuestions speeds ts) refl h)
 
 -- a list of tasks that judging, or writing, answers with no refusal
 pub record FineList (speeds : List ℕ) (count : ℕ) (ts : List Task) : Type 0 where
@@ -80,13 +75,11 @@ pub fine-list :
     firstNo (judging speeds count ts) ≡ 0 →
     FineList speeds count ts
 fine-list speeds count ts h =
-    let b3 : Bool = within 1 16 count in
-    let r6 : ℕ = firstNo (taskQuestions speeds ts) in
-    let c : b3 ≡ true = yes-first 2 b3 r6 h in
+    let a : Yes (judging speeds count ts) = all-yes (judging speeds count ts) refl h in
     record {
-      count-low = within-low 1 16 count c;
-      count-high = within-high 1 16 count c;
-      tasks = fine-tasks speeds ts (yes-rest 2 b3 r6 h);
+      count-low = within-low 1 16 count (a .0);
+      count-high = within-high 1 16 count (a .0);
+      tasks = tasks-fine speeds ts (a .1);
     }
 
 pub list-yes :
@@ -94,7 +87,7 @@ pub list-yes :
     FineList speeds count ts →
     firstNo (judging speeds count ts) ≡ 0
 list-yes speeds count ts f =
-    yes-both 3 (within-true 1 16 count (f .count-low) (f .count-high)) (tasks-yes speeds ts (f .tasks))
+    yes-all (judging speeds count ts) (within-true 1 16 count (f .count-low) (f .count-high), fine-yes speeds ts (f .tasks))
 
 -- a block that reading answers with no refusal
 pub record FineBlock (speeds block : List ℕ) : Type 0 where
@@ -108,35 +101,35 @@ pub record FineBlock (speeds block : List ℕ) : Type 0 where
 
 pub fine-block : (speeds block : List ℕ) → firstNo (reading speeds block) ≡ 0 → FineBlock speeds block
 fine-block speeds block h =
-    let b1 : Bool = leb 2 (length block) in
-    let b2 : Bool = eqb (editionIn block) 1 in
-    let b3 : Bool = within 1 16 (countIn block) in
-    let b4 : Bool = eqb (length block) (blockLength (countIn block)) in
-    let b5 : Bool = every (eqb 0) (closingBits block) in
-    let r6 : ℕ = firstNo (taskQuestions speeds (tasksIn block)) in
-    let r5 : ℕ = pick b5 r6 5 in
-    let r4 : ℕ = pick b4 r5 4 in
-    let r3 : ℕ = pick b3 r4 3 in
-    let r2 : ℕ = pick b2 r3 2 in
-    let h2 : r2 ≡ 0 = yes-rest 0 b1 r2 h in
-    let h3 : r3 ≡ 0 = yes-rest 1 b2 r3 h2 in
-    let h4 : r4 ≡ 0 = yes-rest 2 b3 r4 h3 in
-    let h5 : r5 ≡ 0 = yes-rest 3 b4 r5 h4 in
-    let c : b3 ≡ true = yes-first 2 b3 r4 h3 in
+    let a : Yes (reading speeds block) = all-yes (reading speeds block) refl h in
     record {
-      long = leb-true 2 (length block) (yes-first 0 b1 r2 h);
-      edition = eqb-true (editionIn block) 1 (yes-first 1 b2 r3 h2);
-      count-low = within-low 1 16 (countIn block) c;
-      count-high = within-high 1 16 (countIn block) c;
-      size = eqb-true (length block) (blockLength (countIn block)) (yes-first 3 b4 r5 h4);
-      closing = yes-first 4 b5 r6 h5;
-      tasks = fine-tasks speeds (tasksIn block) (yes-rest 4 b5 r6 h5);
+      long = leb-true 2 (length block) (a .0);
+      edition = eqb-true (editionIn block) 1 (a .1 .0);
+      count-low = within-low 1 16 (countIn block) (a .1 .1 .0);
+      count-high = within-high 1 16 (countIn block) (a .1 .1 .0);
+      size = eqb-true (length block) (blockLength (countIn block)) (a .1 .1 .1 .0);
+      closing = a .1 .1 .1 .1 .0;
+      tasks = tasks-fine speeds (tasksIn block) (a .1 .1 .1 .1 .1);
     }
 
 pub block-yes : (speeds block : List ℕ) → FineBlock speeds block → firstNo (reading speeds block) ≡ 0
 block-yes speeds block f =
-    yes-both 1 (le-leb 2 (length block) (f .long))
-    (yes-both 2 (eq-eqb (editionIn block) 1 (f .edition))
-    (yes-both 3 (within-true 1 16 (countIn block) (f .count-low) (f .count-high))
-    (yes-both 4 (eq-eqb (length block) (blockLength (countIn block)) (f .size))
-    (yes-both 5 (f .closing) (tasks-yes speeds (tasksIn block) (f .tasks))))))
+    yes-all (reading speeds block) (
+      le-leb 2 (length block) (f .long),
+      (
+        eq-eqb (editionIn block) 1 (f .edition),
+        (
+          within-true 1 16 (countIn block) (f .count-low) (f .count-high),
+          (
+            eq-eqb (length block) (blockLength (countIn block)) (f .size),
+            (f .closing, fine-yes speeds (tasksIn block) (f .tasks)),
+          ),
+        ),
+      ),
+    )
+
+-- its tasks are a list that judging accepts
+pub block-list : (speeds block : List ℕ) → FineBlock speeds block → FineList speeds (length (tasksIn block)) (tasksIn block)
+block-list speeds block f =
+    let n : length (tasksIn block) ≡ countIn block = length-tasksFrom (countIn block) (drop 9 (unpacked block)) in
+    record { count-low = omega (arith, f .count-low); count-high = omega (arith, f .count-high); tasks = f .tasks }

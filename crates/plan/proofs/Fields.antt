@@ -1,20 +1,20 @@
 -- A list of bits holds a plan: its fields are the plan's, and all after them is zero. Those are exactly the bits of the plan.
 -- Assumes nothing.
 use Prim.Native.Nat.{ℕ, suc, _+_, _-_, _*_, _/_, _%_, _^_, _<_, _≤_}
-use mathlib.Core.Bool.{true}
 use mathlib.Core.Path.{_≡_, sym, ap, _∙_}
+use mathlib.Core.Bool.{true}
 use mathlib.Core.List.{List, _++_, append-assoc}
-use native.Mathlib.Omega.{arith}
 use native.Mathlib.Decide.{decLe}
+use native.Mathlib.Omega.{arith}
 use lib.ListN.{length, getD, drop, List·getD-eq-default}
 use lib.Seq.{drop-drop}
 use Rattle.arith.specs.Choice.{every}
 use Rattle.arith.specs.Digits.{number, digits}
-use Rattle.arith.proofs.DigitLaws.{number-digits}
+use Rattle.arith.proofs.DigitLaws.{number-digits, number-drop-same}
+use Rattle.arith.proofs.BitLaws.{number-bit}
 use Rattle.plan.specs.declared.Task.{Task}
 use Rattle.plan.specs.Blocks.{taskBits, tasksBits, planBits, bitCount, noTask}
 use Rattle.plan.specs.Questions.{inRange}
-use Rattle.arith.proofs.ListLaws.{number-bit, number-drop-same}
 use Rattle.plan.proofs.BlockBits.{length-planBits, planBits-from, planBits-edition, planBits-count, planBits-period, planBits-worst, planBits-past}
 use Rattle.plan.proofs.Facts.{InRange, range-at}
 

@@ -1,5 +1,6 @@
+pub mod BlockBits
 pub mod Facts
 pub mod LevelLaws
-pub mod BlockBits
+pub mod TimeLaws
 pub mod Fields
 pub mod RoundTrip
