@@ -1,17 +1,20 @@
--- Many ticks taken at once: as long as no job arrives between, they only drain the ready queue. Assumes nothing.
-use Prim.Native.Nat.{ℕ, zero, suc, _+_, _-_, _%_, _≤_, _<_}
+-- Many ticks taken at once: as long as no job arrives between, they only drain the ready queue.
+-- Assumes nothing.
+use Prim.Native.Nat.{ℕ, zero, suc, _+_, _-_, _*_, _/_, _%_, _≤_, _<_}
 use mathlib.Core.Path.{_≡_, refl, ap, sym, _∙_, subst}
 use mathlib.Core.List.{List, [], _∷_}
 use mathlib.Core.Logic.{inl, inr, _≢_}
 use native.Mathlib.Nat.{sub-zero, lt-irrefl}
+use native.Mathlib.Decide.{ℕ-discrete}
 use native.Mathlib.Omega.{arith}
 use Rattle.arith.specs.Choice.{pick}
-use Rattle.schedule.specs.PlainSchedule.{Timing, Pending, Book, serve, drain, arrive, tick, after}
-use Rattle.schedule.specs.Feasibility.{In}
 use Rattle.arith.proofs.Tests.{le-yes, le-not, testLe}
+use Rattle.schedule.specs.PlainSchedule.{Timing, Pending, Book, serve, drain, arrive, tick, after, latest}
+use Rattle.schedule.specs.Feasibility.{In}
 use Rattle.schedule.proofs.Members.{all-in, in-all}
 use Rattle.schedule.proofs.Queue.{Sorted, Positive}
 use Rattle.schedule.proofs.Arrivals.{arrive-none}
+use Rattle.schedule.proofs.Periods.{quiet-last}
 
 -- an entry with d ticks taken from it
 abbrev pub taken : ℕ → Pending → Pending
@@ -90,12 +93,11 @@ drain-add a b (e ∷ q) =
     shorter : e .remaining < suc a → a + b < e .remaining → ⊥
     shorter h k = omega arith
 
--- e has its job from an entry of q, and no more ticks left than that
+-- e has its job from an entry of q, and ticks left
 pub record Was (q : List Pending) (e : Pending) : Type 0 where
   pub entry : Pending
   pub member : In entry q
   pub job : e .job ≡ entry .job
-  pub less : e .remaining ≤ entry .remaining
   pub some : 0 < e .remaining
 
 -- draining brings nothing in
@@ -106,14 +108,14 @@ drain-was d (f ∷ q) a e =
       | le-yes h ↦
           λ m.
           elim m [
-            | inl x ↦ subst (Was (f ∷ q)) (sym x) (record { entry = f; member = inl refl; job = refl; less = omega arith; some = omega arith })
-            | inr n ↦ record { entry = e; member = inr n; job = refl; less = omega arith; some = all-in (λ (g : Pending). 0 < g .remaining) q (a .1) e n }
+            | inl x ↦ subst (Was (f ∷ q)) (sym x) (record { entry = f; member = inl refl; job = refl; some = omega arith })
+            | inr n ↦ record { entry = e; member = inr n; job = refl; some = all-in (λ (g : Pending). 0 < g .remaining) q (a .1) e n }
           ]
       | le-not h ↦ λ m. behind (drain-was (d - f .remaining) q (a .1) e m)
     ]
   where
     behind : Was q e → Was (f ∷ q) e
-    behind w = record { entry = w .entry; member = inr (w .member); job = w .job; less = w .less; some = w .some }
+    behind w = record { entry = w .entry; member = inr (w .member); job = w .job; some = w .some }
 
 -- nor does it leave an entry with nothing left
 pub drain-positive : (d : ℕ) (q : List Pending) → Positive q → Positive (drain d q)
@@ -129,6 +131,15 @@ drain-sorted τ d (e ∷ q) s =
 -- no task below n has an arrival strictly between t and t + d
 abbrev pub Quiet : Timing → ℕ → ℕ → ℕ → Type 0
 Quiet τ n t d = (i k : ℕ) → i < n → 0 < k → k < d → (t + k) % τ .period i ≢ 0
+
+-- then a task that has none at t + d either keeps its job
+pub latest-kept : (τ : Timing) (n t d i : ℕ) → i < n → 0 < τ .period i → Quiet τ n t d → (t + d) % τ .period i ≢ 0 → latest τ t i ≡ latest τ (t + d) i
+latest-kept τ n t d i h p quiet z =
+    let q : (t + d) / τ .period i ≡ t / τ .period i = quiet-last (τ .period i) p t d up in
+    λ k. record { task = i; arrival = sym q k * τ .period i }
+  where
+    up : (k : ℕ) → 0 < k → k ≤ d → (t + k) % τ .period i ≢ 0
+    up k x y = elim (ℕ-discrete k d) [ yes e ↦ subst (λ (u : ℕ). (t + u) % τ .period i ≢ 0) (sym e) z | no e ↦ quiet i k h x (omega arith) ]
 
 module _ (τ : Timing) where
   -- the book d ticks on, if no job arrives before the last of them

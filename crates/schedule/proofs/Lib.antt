@@ -7,8 +7,7 @@ pub mod Periods
 pub mod Demand
 pub mod Feasible
 pub mod Drain
-pub mod Latest
+pub mod QueueLaws
 pub mod Ahead
 pub mod Span
 pub mod Sample
-pub mod QueueLaws

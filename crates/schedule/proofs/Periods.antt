@@ -1,8 +1,9 @@
--- Quotients by a period: how many arrivals there have been. Assumes nothing.
+-- Quotients by a period: how many arrivals there have been.
+-- Assumes nothing.
 use Prim.Native.Nat.{ℕ, zero, suc, _+_, _-_, _*_, _/_, _%_, _≤_, _<_}
 use mathlib.Core.Path.{_≡_, refl, ap, _∙_, subst}
 use mathlib.Core.Logic.{_≢_}
-use native.Mathlib.Nat.{mod-add-div', div-eq-of-lt-le, mod-lt, le-div-iff-mul-le, lt-of-mul-lt-mul-right, le-of-mul-le-mul-right, mul-le-mul-right, add-zero, add-suc}
+use native.Mathlib.Nat.{mod-add-div', mod-lt, le-div-iff-mul-le, lt-of-mul-lt-mul-right, le-of-mul-le-mul-right, mul-le-mul-right, add-zero, add-suc}
 use native.Mathlib.Decide.{decLe}
 use native.Mathlib.Omega.{arith}
 
@@ -45,13 +46,6 @@ module _ (p : ℕ) (positive : 0 < p) where
           let z : x + suc (t / p) ≡ d / p = omega arith in
           let k : (x + suc (t / p)) * p ≡ d / p * p = ap (λ (u : ℕ). u * p) z in
           omega (arith, e, f, r)
-
-  -- a multiple at most t, less than a period before t, is the greatest one
-  pub last-multiple : (t a : ℕ) → a % p ≡ 0 → a ≤ t → t < a + p → a ≡ t / p * p
-  last-multiple t a z low high =
-      let e : a % p + a / p * p ≡ a = mod-add-div' a p in
-      let q : t / p ≡ a / p = div-eq-of-lt-le p (omega arith) (omega arith) in
-      rw q (omega arith)
 
   -- a multiple is the greatest one up to itself
   pub multiple-last : (t : ℕ) → t % p ≡ 0 → t / p * p ≡ t

@@ -1,14 +1,16 @@
--- The ready queue: strictly sorted by urgency, hence determined by its members. Assumes nothing.
-use Prim.Native.Nat.{ℕ, _+_, _-_, _<_}
+-- The ready queue: strictly sorted by urgency, hence determined by its members.
+-- Assumes nothing.
+use Prim.Native.Nat.{ℕ, suc, _+_, _-_, _<_}
 use mathlib.Core.Path.{_≡_, refl, ap, ap₂, sym, _∙_, subst}
 use mathlib.Core.List.{List, [], _∷_}
 use mathlib.Core.Logic.{_⊎_, inl, inr, _≢_}
 use native.Mathlib.Omega.{arith}
+use lib.ListN.{length}
 use Rattle.arith.specs.Choice.{pick}
 use Rattle.arith.specs.Sum.{sumOf}
-use Rattle.schedule.specs.PlainSchedule.{Timing, Job, Pending, enqueue, serve}
+use Rattle.arith.proofs.Tests.{le-yes, le-not, testLe, passed, failed, tested}
+use Rattle.schedule.specs.PlainSchedule.{Timing, Job, Pending, moreUrgent, enqueue, serve}
 use Rattle.schedule.specs.Feasibility.{All, In}
-use Rattle.arith.proofs.Tests.{le-yes, le-not, testLe}
 use Rattle.schedule.proofs.Urgency.{MoreUrgent, ahead, same, behind, compared, irreflexive, asymmetric, transitive}
 use Rattle.schedule.proofs.Members.{all-in, in-all}
 
@@ -85,6 +87,13 @@ module _ (τ : Timing) (f : Pending) where
   enqueue-sum w (g ∷ q) =
       elim (compared τ (g .job) (f .job)) as (λ s _. sumOf w (pick s (g ∷ enqueue τ f q) (f ∷ g ∷ q)) ≡ w f + (w g + sumOf w q))
       [ ahead h ↦ omega (arith, enqueue-sum w q) | same h ↦ refl | behind h ↦ refl ]
+
+  -- nor does its length
+  pub enqueue-length : (q : List Pending) → length (enqueue τ f q) ≡ suc (length q)
+  enqueue-length [] = refl
+  enqueue-length (g ∷ q) =
+      elim (tested (moreUrgent τ (g .job) (f .job))) as (λ s _. length (pick s (g ∷ enqueue τ f q) (f ∷ g ∷ q)) ≡ suc (suc (length q)))
+      [ passed ↦ ap suc (enqueue-length q) | failed ↦ refl ]
 
 -- a tick leaves the order as it is: the head keeps its job or goes
 pub serve-sorted : (τ : Timing) (q : List Pending) → Sorted τ q → Sorted τ (serve q)

@@ -1,17 +1,19 @@
--- Laws of the ready queue as a function of each task's remaining ticks. Assumes nothing.
-use Prim.Native.Nat.{ℕ, zero, suc, _<_}
+-- Laws of the ready queue as a function of each task's remaining ticks.
+-- Assumes nothing.
+use Prim.Native.Nat.{ℕ, zero, suc, _≤_, _<_}
 use mathlib.Core.Path.{_≡_, refl, ap, ap₂, sym, _∙_, subst}
 use mathlib.Core.List.{List, [], _∷_}
 use mathlib.Core.Logic.{inl, inr, _≢_}
 use native.Mathlib.Decide.{ℕ-discrete, decLe}
 use native.Mathlib.Omega.{arith}
 use lib.Dec.{eqb}
+use lib.ListN.{length}
 use Rattle.arith.specs.Choice.{pick}
+use Rattle.arith.proofs.Tests.{eq-yes, eq-not, testEq}
 use Rattle.schedule.specs.PlainSchedule.{Timing, Job, Pending, enqueue, drain, latest, queueOf, leftIn}
 use Rattle.schedule.specs.Feasibility.{All, In}
-use Rattle.arith.proofs.Tests.{eq-yes, eq-not, testEq}
 use Rattle.schedule.proofs.Members.{all-in, in-all}
-use Rattle.schedule.proofs.Queue.{Sorted, Positive, enqueue-in, in-enqueue, enqueue-sorted, sorted-single, same-members}
+use Rattle.schedule.proofs.Queue.{Sorted, Positive, enqueue-in, in-enqueue, enqueue-sorted, enqueue-length, sorted-single, same-members}
 use Rattle.schedule.proofs.Drain.{Was, drain-was, drain-sorted}
 
 -- task i's entry, if it has ticks left
@@ -84,6 +86,16 @@ module _ (τ : Timing) (t : ℕ) (left : ℕ → ℕ) where
   queueOf-positive n =
       in-all (λ (e : Pending). 0 < e .remaining) (queueOf τ t left n)
       (λ e m. let s : Stands τ t left n e = queueOf-in n e m in subst (λ (p : Pending). 0 < p .remaining) (sym (s .is)) (s .some))
+
+  -- it has at most one entry for each task
+  pub queueOf-length : (n : ℕ) → length (queueOf τ t left n) ≤ n
+  queueOf-length zero = omega arith
+  queueOf-length (suc i) =
+      elim (testEq (left i) 0)
+      as (λ b _. length (pick b (queueOf τ t left i) (enqueue τ (latestPending τ t left i) (queueOf τ t left i))) ≤ suc i) [
+        | eq-yes h ↦ omega (arith, queueOf-length i)
+        | eq-not h ↦ omega (arith, queueOf-length i, enqueue-length τ (latestPending τ t left i) (queueOf τ t left i))
+      ]
 
 -- only the tasks below n count
 pub queueOf-cong : (τ : Timing) (t : ℕ) (f g : ℕ → ℕ) (n : ℕ) → ((i : ℕ) → i < n → f i ≡ g i) → queueOf τ t f n ≡ queueOf τ t g n

@@ -1,22 +1,23 @@
--- A span of ticks at once, from one standing queue to the next. Assumes nothing.
-use Prim.Native.Nat.{ℕ, zero, suc, _+_, _*_, _/_, _%_, _≤_, _<_}
+-- A span of ticks at once, from one standing queue to the next.
+-- Assumes nothing.
+use Prim.Native.Nat.{ℕ, zero, suc, _+_, _*_, _/_, _%_, _<_}
 use mathlib.Core.Path.{_≡_, refl, ap, ap₂, sym, _∙_, subst}
 use mathlib.Core.List.{List, []}
 use mathlib.Core.Logic.{_⊎_, inl, inr, _≢_}
-use native.Mathlib.Decide.{ℕ-discrete}
 use native.Mathlib.Nat.{add-zero, add-suc, zero-mod, zero-div, zero-mul, div-mul-le-self}
+use native.Mathlib.Decide.{ℕ-discrete}
 use native.Mathlib.Omega.{arith}
 use lib.Dec.{eqb}
 use Rattle.arith.specs.Choice.{pick}
+use Rattle.arith.proofs.Tests.{eq-yes, eq-not, testEq}
 use Rattle.schedule.specs.PlainSchedule.{Timing, Job, Pending, Book, deadline, enqueue, drain, newJob, arrive, opened, tick, after, canonicalAt, latest, queueOf, leftIn}
 use Rattle.schedule.specs.Feasibility.{All, Fitting, In}
-use Rattle.arith.proofs.Tests.{eq-yes, eq-not, testEq}
 use Rattle.schedule.proofs.Members.{all-in, in-all}
 use Rattle.schedule.proofs.Queue.{same-members}
 use Rattle.schedule.proofs.Arrivals.{New, arrive-in, in-arrive, arrive-sorted}
-use Rattle.schedule.proofs.Periods.{multiple-last, next-multiple, quiet-last}
+use Rattle.schedule.proofs.Periods.{multiple-last, next-multiple}
 use Rattle.schedule.proofs.Feasible.{never-late}
-use Rattle.schedule.proofs.Drain.{Quiet, after-drain}
+use Rattle.schedule.proofs.Drain.{Quiet, latest-kept, after-drain}
 use Rattle.schedule.proofs.QueueLaws.{latestPending, Stands, queueOf-in, in-queueOf, queueOf-sorted, queueOf-positive, left-none, drain-stood, drain-queueOf}
 
 -- what each task has left once the jobs due at tick t have arrived: the new job's allotment, else what it had
@@ -41,15 +42,6 @@ module _ (τ : Timing) (t d n : ℕ) (left : ℕ → ℕ)
       elim (testEq ((t + d) % τ .period i) 0) as (λ b _. pick {A = ℕ} b (τ .allotment i) (left i) ≡ left i)
       [ eq-yes h ↦ absurd (z h) | eq-not h ↦ refl ]
 
-  -- it keeps its job
-  kept : (i : ℕ) → i < n → (t + d) % τ .period i ≢ 0 → latest τ t i ≡ latest τ (t + d) i
-  kept i h z =
-      let q : (t + d) / τ .period i ≡ t / τ .period i = quiet-last (τ .period i) (periods i h) t d up in
-      λ k. record { task = i; arrival = sym q k * τ .period i }
-    where
-      up : (k : ℕ) → 0 < k → k ≤ d → (t + k) % τ .period i ≢ 0
-      up k x y = elim (ℕ-discrete k d) [ yes e ↦ subst (λ (u : ℕ). (t + u) % τ .period i ≢ 0) (sym e) z | no e ↦ quiet i k h x (omega arith) ]
-
   -- the new job is the task's entry at t + d
   fresh : (i : ℕ) → i < n → (t + d) % τ .period i ≡ 0 → newJob τ (t + d) i ≡ latestPending τ (t + d) (renewed τ (t + d) left) i
   fresh i h z =
@@ -57,7 +49,7 @@ module _ (τ : Timing) (t d n : ℕ) (left : ℕ → ℕ)
 
   -- the entry of a task with no arrival is the same at both ticks
   old : (i : ℕ) → i < n → (t + d) % τ .period i ≢ 0 → latestPending τ t left i ≡ latestPending τ (t + d) (renewed τ (t + d) left) i
-  old i h z = λ k. record { job = kept i h z k; remaining = sym (not-due-old i z) k }
+  old i h z = λ k. record { job = latest-kept τ n t d i h (periods i h) quiet z k; remaining = sym (not-due-old i z) k }
 
   -- the entries and new jobs make up the standing queue at t + d
   to : (e : Pending) → In e (queueOf τ t left n) ⊎ New τ (t + d) n e → Stands τ (t + d) (renewed τ (t + d) left) n e

@@ -1,14 +1,15 @@
--- The order of urgency: strict, and total on jobs. Assumes nothing.
+-- The order of urgency: strict, and total on jobs.
+-- Assumes nothing.
 use Prim.Native.Nat.{suc, _≤_, _<_}
 use mathlib.Core.Path.{_≡_, refl, sym, subst}
-use mathlib.Core.Bool.{Bool, true, false, false≢true}
+use mathlib.Core.Bool.{Bool, true, false}
 use mathlib.Core.Logic.{_⊎_, inl, inr}
 use native.Mathlib.Decide.{decLe}
 use native.Mathlib.Omega.{arith}
 use lib.Dec.{ltb}
 use Rattle.arith.specs.Choice.{lex}
-use Rattle.schedule.specs.PlainSchedule.{Timing, Job, deadline, moreUrgent}
 use Rattle.arith.proofs.Tests.{le-yes, le-not, testLe, lex-less, lex-same, lex-more, testLex}
+use Rattle.schedule.specs.PlainSchedule.{Timing, Job, deadline, moreUrgent}
 
 -- one constructor for each way in which a is more urgent than b
 pub data MoreUrgent (τ : Timing) (a b : Job) : Type 0 where
@@ -83,12 +84,6 @@ urgent-true τ a b h =
 -- it fails where a is not
 pub urgent-false : (τ : Timing) (a b : Job) → (MoreUrgent τ a b → ⊥) → moreUrgent τ a b ≡ false
 urgent-false τ a b h = elim (compared τ a b) as (λ s _. s ≡ false) [ ahead k ↦ absurd (h k) | same e ↦ refl | behind k ↦ refl ]
-
--- so a is more urgent where it passes
-pub true-urgent : (τ : Timing) (a b : Job) → moreUrgent τ a b ≡ true → MoreUrgent τ a b
-true-urgent τ a b =
-    elim (compared τ a b) as (λ s _. s ≡ true → MoreUrgent τ a b)
-    [ ahead k ↦ λ e. k | same e ↦ λ f. absurd (false≢true f) | behind k ↦ λ f. absurd (false≢true f) ]
 
 -- of two distinct jobs one is more urgent
 pub total : (τ : Timing) (a b : Job) → (moreUrgent τ a b ≡ true) ⊎ ((moreUrgent τ b a ≡ true) ⊎ (a ≡ b))
