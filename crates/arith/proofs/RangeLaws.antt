@@ -2,7 +2,7 @@
 -- Assumes nothing.
 use Prim.Native.Nat.{ℕ, zero, suc, _-_, _≤_, _<_}
 use mathlib.Core.Path.{_≡_, refl, sym, subst, _∙_, ap₂}
-use mathlib.Core.Bool.{Bool, true, false, true≢false, false≢true}
+use mathlib.Core.Bool.{Bool, true, false, true≢false}
 use mathlib.Core.List.{[], _∷_, List, _++_}
 use native.Mathlib.Nat.{not-suc-le-zero}
 use native.Mathlib.Decide.{decLe}
@@ -10,8 +10,8 @@ use native.Mathlib.Omega.{arith}
 use lib.ListN.{length, getD, length-append, List·getD-append}
 use lib.Seq.{getD-at}
 use Rattle.arith.specs.Choice.{pick}
-use Rattle.arith.proofs.Tests.{passed, failed, tested}
 use Rattle.arith.specs.Ranges.{leastTo, listTo, someTo}
+use Rattle.arith.proofs.Tests.{passed, failed, tested}
 
 -- what is below suc n is below n, or n itself
 below-split {ℓ} : (P : ℕ → Type ℓ) (n i : ℕ) → i < suc n → (i < n → P i) → P n → P i
@@ -67,7 +67,7 @@ getD-listTo (suc n) f i d h =
     (λ k. List·getD-append (listTo n f) (f n ∷ []) d i (omega (arith, length-listTo n f)) ∙ getD-listTo n f i d k)
     (getD-at (listTo n f) (f n) [] d n (length-listTo n f))
 
--- a test that some index passes: each one that does makes it pass, and where it passes there is one
+-- a test that some index passes: each one that does makes it pass, and it fails exactly if each does
 module _ (f : ℕ → Bool) where
   pub some-yes : (n i : ℕ) → i < n → f i ≡ true → someTo n f ≡ true
   some-yes zero i h e = absurd (not-suc-le-zero h)
@@ -88,19 +88,6 @@ module _ (f : ℕ → Bool) where
         | passed ↦ λ x. sym (some-yes n i k x) ∙ h
         | failed ↦ λ x. refl
       ] refl
-
-  pub record Some (n : ℕ) : Type 0 where
-    pub number : ℕ
-    pub below : number < n
-    pub is : f number ≡ true
-
-  pub yes-some : (n : ℕ) → someTo n f ≡ true → Some n
-  yes-some zero h = absurd (false≢true h)
-  yes-some (suc n) h =
-      elim (tested (f n)) as (λ t _. f n ≡ t → pick t true (someTo n f) ≡ true → Some (suc n)) [
-        | passed ↦ λ x y. record { number = n; below = omega arith; is = x }
-        | failed ↦ λ x y. let s : Some n = yes-some n y in record { number = s .number; below = omega arith; is = s .is }
-      ] refl h
 
 -- lists that agree at each place
 pub listTo-same {ℓ} : {A : Type ℓ} (n : ℕ) (f g : ℕ → A) → ((i : ℕ) → i < n → f i ≡ g i) → listTo n f ≡ listTo n g

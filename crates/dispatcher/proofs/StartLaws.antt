@@ -229,7 +229,7 @@ module _ {ts : List Task} {image : List ℕ} (new : Newly ts image) where
   new-timing : timingIn image ≡ τ
   new-timing =
       ap (λ (s : State). timing baseSpeeds (planIn s)) new-read
-      ∙ ap (timing baseSpeeds) (sym (ap (λ (es : List Entry). map taskOf es) entries-are) ∙ fine .plan)
+      ∙ ap (timing baseSpeeds) (sym (ap (λ (es : List Entry). map taskOf es) entries-are) ∙ fine .entries .plan)
 
   module _ (i : ℕ) (h : i < length ts) where
     new-at : getD (decode image .entries) i noEntry ≡ newEntry τ ts i
@@ -289,7 +289,7 @@ module _ {ts : List Task} {image : List ℕ} (new : Newly ts image) where
   new-reply r e =
       e
       ∙ ap₂ (λ (x : Timing) (s : State). orderWith s (holdOf baseSpeeds x s)) new-timing chosen-is
-      ∙ sym (ap (λ (us : List Task). orderWith S (holdOf baseSpeeds (timing baseSpeeds us) S)) (fine .plan))
+      ∙ sym (ap (λ (us : List Task). orderWith S (holdOf baseSpeeds (timing baseSpeeds us) S)) (fine .entries .plan))
 
   pub new-stored :
       (buffer l m : List ℕ) →

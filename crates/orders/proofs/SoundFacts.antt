@@ -75,11 +75,11 @@ module _ (s : State) (ok : stateSound baseSpeeds s ≡ true) where
     pub work-most : workOf s i ≤ 16777215
     work-most =
         let e : getD (planIn s) i noTask .worst ≡ getD (s .entries) i noEntry .worst = ap (λ (t : Task). t .worst) (planIn-at s i) in
-        omega (arith, sound-facts .work i within-plan, worst-most)
+        omega (arith, sound-facts .entries .work i within-plan, worst-most)
 
     pub remaining-most : remainingOf s i ≤ 65535
     remaining-most =
-        omega (arith, sound-facts .remaining i within-plan, allotment-short baseSpeeds (planIn s) sound-plan baseRising i within-plan)
+        omega (arith, sound-facts .entries .remaining i within-plan, allotment-short baseSpeeds (planIn s) sound-plan baseRising i within-plan)
 
     pub period-some : 0 < timing baseSpeeds (planIn s) .period i
     period-some = task-range baseSpeeds (planIn s) sound-plan baseRising i within-plan .period-low
@@ -118,4 +118,4 @@ module _ (bytes : List ℕ) (ok : sound baseSpeeds bytes ≡ true) where
   sound-plan-yes = tasks-yes baseSpeeds (planIn (decode bytes)) (sound-plan (decode bytes) sound-state .tasks)
 
   pub sound-clock : decode bytes .clock ≤ largestClock
-  sound-clock = sound-facts (decode bytes) sound-state .clock
+  sound-clock = sound-facts (decode bytes) sound-state .entries .clock

@@ -36,12 +36,12 @@ use Rattle.reclaiming.specs.Calls.{repliedBy, passNumber, passOrder, passReply,
 use Rattle.state.specs.Code.{Holds, entryIn, timingIn, keyOf, noKey, dueAt, Keyed}
 use Rattle.orders.specs.Code.{choiceOf, holdBy, orderOf, Doable, Good, testedBy}
 use Rattle.ticks.specs.Code.{Stepping, renewedKeys}
-use Rattle.reclaiming.proofs.Fine.{nominalSpeed, Accepted}
+use Rattle.reclaiming.proofs.Fine.{nominalSpeed, FineEntries, Accepted}
 use Rattle.reclaiming.proofs.StateCodec.{Storable, StorableEntry, decode-encode, length-encode}
 use Rattle.reclaiming.proofs.Soundness.{planIn-at, length-planIn, accepted, fine-storable}
 use Rattle.reclaiming.proofs.NextArrival.{next-arrives, before-next, next-on}
 use Rattle.reclaiming.proofs.PassedStates.{choose-entries, passed-entries}
-use Rattle.reclaiming.proofs.PassSound.{FineEntries, fine-chosen, moved-fine}
+use Rattle.reclaiming.proofs.PassSound.{fine-chosen, moved-fine}
 use Rattle.state.proofs.BlockLaws.{count-in, entry-at}
 use Rattle.state.proofs.KeyLaws.{key-below, keyed-after, keyed-on}
 use Rattle.orders.proofs.OrderLaws.{hold-is}

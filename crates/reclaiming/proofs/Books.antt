@@ -1,20 +1,19 @@
 -- The dispatcher's book against the entries: a job that has arrived is closed in it, or it is its task's latest and has work left.
 -- Assumes nothing.
-use Prim.Native.Nat.{ℕ, suc, _+_, _-_, _*_, _/_, _%_, _≤_, _<_}
+use Prim.Native.Nat.{ℕ, suc, _+_, _-_, _*_, _/_, _%_, _<_}
 use mathlib.Core.Path.{_≡_, refl, sym, subst, ap, _∙_}
-use mathlib.Core.Bool.{Bool, true, false}
+use mathlib.Core.Bool.{Bool, true, true≢false}
 use mathlib.Core.List.{List, [], _∷_}
 use mathlib.Core.Logic.{_⊎_, inl, inr, ⊎-elim, _≢_}
 use native.Mathlib.Nat.{lt-div-mul-add}
-use native.Mathlib.Omega.{arith}
-use lib.Dec.{T}
 use native.Mathlib.Decide.{decLe, ℕ-discrete}
+use native.Mathlib.Omega.{arith}
 use Rattle.arith.specs.Choice.{pick}
 use Rattle.arith.proofs.Tests.{passed, failed, tested}
 use Rattle.schedule.specs.PlainSchedule.{Timing, Job, latest, deadline}
 use Rattle.schedule.specs.Feasibility.{In}
-use Rattle.schedule.proofs.Drain.{Quiet}
-use Rattle.schedule.proofs.Periods.{multiple-last, quiet-last}
+use Rattle.schedule.proofs.Periods.{multiple-last}
+use Rattle.schedule.proofs.Drain.{Quiet, latest-kept}
 use Rattle.reclaiming.specs.Run.{Arrived}
 
 -- a job is its task's latest, with work left
@@ -63,15 +62,6 @@ module _ (τ : Timing) (t d : ℕ) (work work′ : ℕ → ℕ) (closed : List J
     ended : (j : Job) → j ≡ latest τ t x → finished ≡ true → In j closed′
     ended j e f = subst (λ (b : Bool). In j (pick b (latest τ t x ∷ closed) closed)) (sym f) (inl e)
 
-    quietly : (i : ℕ) → i < τ .count → (t + d) % τ .period i ≢ 0 → latest τ t i ≡ latest τ (t + d) i
-    quietly i h z =
-        let q : (t + d) / τ .period i ≡ t / τ .period i = quiet-last (τ .period i) (periods i h) t d up in
-        λ k. record { task = i; arrival = sym q k * τ .period i }
-      where
-        up : (k : ℕ) → 0 < k → k ≤ d → (t + k) % τ .period i ≢ 0
-        up k a b =
-            elim (ℕ-discrete k d) [ yes e ↦ subst (λ (u : ℕ). (t + u) % τ .period i ≢ 0) (sym e) z | no e ↦ quiet i k h a (omega arith) ]
-
     -- an old job that was open: it has just finished, or it stays
     older : (j : Job) → j .task < τ .count → OpenLatest τ t work j → In j closed′ ⊎ OpenLatest τ (t + d) work′ j
     older j h s =
@@ -80,18 +70,16 @@ module _ (τ : Timing) (t d : ℕ) (work work′ : ℕ → ℕ) (closed : List J
               let f : (j .task ≡ x) × (finished ≡ true) = never (j .task) h z s.1 in
               inl (ended j (s.0 ∙ ap (latest τ t) f.0) f.1)
           | no z ↦
+              let same : j ≡ latest τ (t + d) (j .task) = s.0 ∙ latest-kept τ (τ .count) t d (j .task) h (periods (j .task) h) quiet z in
               elim (tested finished) as (λ b _. finished ≡ b → In j closed′ ⊎ OpenLatest τ (t + d) work′ j) [
                 | passed ↦ λ f.
                     elim (ℕ-discrete (j .task) x) [
                       | yes e ↦ inl (ended j (s.0 ∙ ap (latest τ t) e) f)
-                      | no e ↦ inr (s.0 ∙ quietly (j .task) h z, kept (j .task) h z s.1 (λ g. e g.0))
+                      | no e ↦ inr (same, kept (j .task) h z s.1 (λ g. e g.0))
                     ]
-                | failed ↦ λ f. inr (s.0 ∙ quietly (j .task) h z, kept (j .task) h z s.1 (λ g. not-both f g.1))
+                | failed ↦ λ f. inr (same, kept (j .task) h z s.1 (λ g. true≢false (sym g.1 ∙ f)))
               ] refl
         ]
-      where
-        not-both : finished ≡ false → finished ≡ true → ⊥
-        not-both a b = subst (λ (c : Bool). T c) (sym b ∙ a) tt
 
     -- a job that arrives within the ticks arrives at their end
     newer : (j : Job) → Arrived τ (t + d) j → t < j .arrival → OpenLatest τ (t + d) work′ j

@@ -18,13 +18,17 @@ use Rattle.reclaiming.specs.Questions.{largestClock, orderSound, running
 abbrev pub nominalSpeed : List ℕ → List Task → ℕ
 nominalSpeed speeds ts = speedOf speeds (nominal speeds ts)
 
--- a sound state of a plan
-pub record Fine (speeds : List ℕ) (ts : List Task) (s : State) : Type 0 where
+-- a state's plan, clock and entries, as those of a sound one; its order is not looked at
+pub record FineEntries (speeds : List ℕ) (ts : List Task) (s : State) : Type 0 where
   pub plan : planIn s ≡ ts
   pub clock : s .clock ≤ largestClock
   pub work : (i : ℕ) → i < length ts → workOf s i ≤ getD ts i noTask .worst
   pub remaining : (i : ℕ) → i < length ts → remainingOf s i ≤ timing speeds ts .allotment i
   pub ahead : (i : ℕ) → i < length ts → need (nominalSpeed speeds ts) (workOf s i) ≤ remainingOf s i
+
+-- a sound state of a plan
+pub record Fine (speeds : List ℕ) (ts : List Task) (s : State) : Type 0 where
+  pub entries : FineEntries speeds ts s
   pub order : orderSound speeds (timing speeds ts) (nominal speeds ts) s (openJobs (timing speeds ts) s) ≡ true
 
 -- a pass that the questions 11 to 15 let through

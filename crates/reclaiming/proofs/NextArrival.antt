@@ -1,20 +1,19 @@
--- Laws of the lists, tests and least values over the tasks, and of the ticks to the next arrival.
+-- Laws of the ticks to the next arrival.
 -- Assumes nothing.
-use Prim.Native.Nat.{ℕ, suc, _+_, _-_, _*_, _/_, _%_, _≤_, _<_}
-use mathlib.Core.Path.{_≡_, sym, ap, subst, _∙_}
+use Prim.Native.Nat.{ℕ, suc, _+_, _-_, _%_, _≤_, _<_}
+use mathlib.Core.Path.{_≡_, sym, ap, _∙_}
 use mathlib.Core.Bool.{true, false, false≢true}
-use mathlib.Core.Logic.{_≢_}
 use native.Mathlib.Nat.{mod-add-div', mod-lt, mod-add-mod, mod-eq-of-lt, mod-self}
-use native.Mathlib.Decide.{decLe, ℕ-discrete}
+use native.Mathlib.Decide.{decLe}
 use native.Mathlib.Omega.{arith}
-use borrow.Author.Tests.{eqb-true, eq-eqb, ne-eqb, eqb-false}
-use Rattle.schedule.specs.PlainSchedule.{Timing, latest}
-use Rattle.schedule.proofs.Drain.{Quiet}
-use Rattle.schedule.proofs.Periods.{next-multiple, quiet-last}
-use Rattle.reclaiming.specs.Orders.{nextArrival}
+use borrow.Author.Tests.{eq-eqb, ne-eqb}
 use Rattle.arith.specs.Ranges.{someTo}
+use Rattle.arith.proofs.RangeLaws.{Attained, least-at, least-le, least-less, none-no, some-yes}
+use Rattle.schedule.specs.PlainSchedule.{Timing}
+use Rattle.schedule.proofs.Periods.{next-multiple}
+use Rattle.schedule.proofs.Drain.{Quiet}
+use Rattle.reclaiming.specs.Orders.{nextArrival}
 use Rattle.reclaiming.specs.Passes.{arrivesAt}
-use Rattle.arith.proofs.RangeLaws.{Attained, Some, least-at, least-le, least-less, no-none, none-no, some-yes, yes-some}
 
 -- one period: its next multiple after t comes p - t % p ticks later
 module _ (p : ℕ) (positive : 0 < p) (t : ℕ) where
@@ -62,11 +61,6 @@ module _ (τ : Timing) (some : 0 < τ .count) (periods : (i : ℕ) → i < τ .c
       (eq-eqb ((t + d) % τ .period (a .number)) 0
       (ap (λ (x : ℕ). (t + x) % τ .period (a .number)) e ∙ next-is (τ .period (a .number)) (periods (a .number) (a .below)) t))
 
-  pub arrives-next : (d : ℕ) → 0 < d → d ≤ nextArrival τ t → someTo (τ .count) (arrivesAt τ (t + d)) ≡ true → d ≡ nextArrival τ t
-  arrives-next d pos h e =
-      let s : Some (arrivesAt τ (t + d)) (τ .count) = yes-some (arrivesAt τ (t + d)) (τ .count) e in
-      omega (arith, next-soonest (s .number) d (s .below) pos (eqb-true ((t + d) % τ .period (s .number)) 0 (s .is)))
-
   pub before-next : (d : ℕ) → 0 < d → d < nextArrival τ t → someTo (τ .count) (arrivesAt τ (t + d)) ≡ false
   before-next d pos h =
       none-no (arrivesAt τ (t + d)) (τ .count)
@@ -89,17 +83,3 @@ module _ (τ : Timing) (some : 0 < τ .count) (periods : (i : ℕ) → i < τ .c
           let e : (t + d) % τ .period i ≡ t % τ .period i + d =
           mod-on (τ .period i) (periods i k) t d (omega (arith, least-le (τ .count) (λ j. τ .period j - t % τ .period j) i k)) in
           omega arith
-
-  -- and each task keeps its job
-  pub latest-kept : (d i : ℕ) → i < τ .count → Quiet τ (τ .count) t d → someTo (τ .count) (arrivesAt τ (t + d)) ≡ false → latest τ (t + d) i ≡ latest τ t i
-  latest-kept d i h quiet none =
-      let q : (t + d) / τ .period i ≡ t / τ .period i = quiet-last (τ .period i) (periods i h) t d up in
-      λ k. record { task = i; arrival = q k * τ .period i }
-    where
-      up : (k : ℕ) → 0 < k → k ≤ d → (t + k) % τ .period i ≢ 0
-      up k x y =
-          elim (ℕ-discrete k d) [
-            | yes e ↦ subst (λ (u : ℕ). (t + u) % τ .period i ≢ 0) (sym e)
-                (eqb-false ((t + d) % τ .period i) 0 (no-none (arrivesAt τ (t + d)) (τ .count) none i h))
-            | no e ↦ quiet i k h x (omega arith)
-          ]

@@ -99,7 +99,7 @@ start-most block room r e =
         let plan : FineList baseSpeeds (length ts) ts =
         record { count-low = omega (arith, f .count-low); count-high = omega (arith, f .count-high); tasks = f .tasks } in
         let fine : Fine baseSpeeds ts s = start-fine baseSpeeds ts plan baseRising in
-        subst (λ (us : List Task). replyNumber (orderWith s (holdOf baseSpeeds (timing baseSpeeds us) s)) < 2 ^ 64) (sym (fine .plan))
+        subst (λ (us : List Task). replyNumber (orderWith s (holdOf baseSpeeds (timing baseSpeeds us) s)) < 2 ^ 64) (sym (fine .entries .plan))
         (fine-most ts s plan fine)
 
 -- a sound block's state

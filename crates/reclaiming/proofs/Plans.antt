@@ -1,57 +1,43 @@
--- An accepted plan is one that the plain schedule's theorem is about, and an allotment is at most its period.
+-- What is known of an accepted plan: its levels have speeds above 0, its tasks are in range, it is one that the plain schedule's theorem is
+-- about, and an allotment is at most its period.
 -- Assumes nothing.
-use Prim.Native.Nat.{ℕ, zero, suc, _+_, _*_, _/_, _<_, _≤_}
-use mathlib.Core.Path.{_≡_, refl, sym, subst, ap, _∙_}
-use mathlib.Core.List.{List, [], _∷_}
-use native.Mathlib.Nat.{not-suc-le-zero, div-self, mod-eq-zero-of-dvd, mul-one}
+use Prim.Native.Nat.{ℕ, _*_, _/_, _<_, _≤_}
+use mathlib.Core.Path.{_≡_, subst, ap, _∙_}
+use mathlib.Core.List.{List}
+use native.Mathlib.Nat.{div-self, mod-eq-zero-of-dvd, mul-one}
+use native.Mathlib.Decide.{ℕ-discrete}
 use native.Mathlib.Omega.{arith}
-use native.Mathlib.Decide.{decLe}
 use borrow.Author.Tests.{leb-true}
 use lib.ListN.{length, getD}
-use Rattle.arith.specs.Sum.{sumTo, sumOf}
 use Rattle.arith.specs.Need.{need}
-use Rattle.arith.proofs.Needs.{need-zero-work}
+use Rattle.arith.proofs.Needs.{need-positive}
+use Rattle.arith.proofs.Sums.{sumOf-places, sumTo-term}
+use Rattle.arith.proofs.Searches.{first-passes}
 use Rattle.plan.specs.declared.Task.{Task}
-use Rattle.plan.specs.Levels.{Rising, hyperperiod, demandWithin, admits, nominal}
+use Rattle.plan.specs.Levels.{Rising, speedOf, hyperperiod, demandWithin, admits, nominal}
 use Rattle.plan.specs.Blocks.{noTask}
 use Rattle.plan.proofs.Facts.{FineList, InRange, range-at}
 use Rattle.plan.proofs.LevelLaws.{Positive, range-positive, hyperperiod-is-least, hyperperiod-positive}
-use Rattle.arith.proofs.Searches.{first-passes}
 use Rattle.schedule.specs.PlainSchedule.{Timing}
 use Rattle.schedule.specs.Feasibility.{Fitting}
 use Rattle.schedule.proofs.Demand.{demand-fits}
 use Rattle.reclaiming.specs.StateBlock.{timing}
 use Rattle.reclaiming.proofs.Fine.{nominalSpeed}
 
--- a sum over a list is a sum over its places
-sumTo-front : (n : ℕ) (f : ℕ → ℕ) → sumTo (suc n) f ≡ f 0 + sumTo n (λ i. f (suc i))
-sumTo-front zero f = omega arith
-sumTo-front (suc n) f = omega (arith, sumTo-front n f)
-
-pub sumOf-places {ℓ} : {A : Type ℓ} (f : A → ℕ) (l : List A) (d : A) → sumOf f l ≡ sumTo (length l) (λ i. f (getD l i d))
-sumOf-places f [] d = refl
-sumOf-places f (x ∷ xs) d =
-    ap (λ (n : ℕ). f x + n) (sumOf-places f xs d) ∙ sym (sumTo-front (length xs) (λ i. f (getD (x ∷ xs) i d)))
-
--- a term is at most the sum
-pub sumTo-term : (n : ℕ) (f : ℕ → ℕ) (i : ℕ) → i < n → f i ≤ sumTo n f
-sumTo-term zero f i h = absurd (not-suc-le-zero h)
-sumTo-term (suc n) f i h =
-    elim (decLe (suc i) n) [
-      | yes l ↦ omega (arith, sumTo-term n f i l)
-      | no l ↦ let e : n ≡ i = omega arith in
-          subst (λ (k : ℕ). f k ≤ sumTo n f + f n) e (omega arith)
-    ]
-
--- some work needs some time
-pub need-positive : (s w : ℕ) → 0 < s → 0 < w → 0 < need s w
-need-positive s w h p =
-    elim (decLe 1 (need s w)) [ yes l ↦ l | no l ↦ absurd (omega (arith, need-zero-work s w h (omega arith))) ]
-
 module _ (speeds : List ℕ) (ts : List Task) (fine : FineList speeds (length ts) ts) (rising : Rising speeds) where
-  -- the nominal speed is above 0
+  -- a level up to the nominal one has a speed above 0, and is no faster
+  pub level-positive : (l : ℕ) → l ≤ nominal speeds ts → 0 < speedOf speeds l
+  level-positive l h = rising .positive l (omega (arith, fine .tasks .admitted))
+
+  pub level-slower : (l : ℕ) → l ≤ nominal speeds ts → speedOf speeds l ≤ nominalSpeed speeds ts
+  level-slower l h =
+      elim (ℕ-discrete l (nominal speeds ts)) [
+        | yes e ↦ let z : speedOf speeds l ≡ nominalSpeed speeds ts = ap (speedOf speeds) e in omega arith
+        | no e ↦ omega (arith, rising .faster l (nominal speeds ts) (omega arith) (fine .tasks .admitted))
+      ]
+
   pub nominal-positive : 0 < nominalSpeed speeds ts
-  nominal-positive = rising .positive (nominal speeds ts) (fine .tasks .admitted)
+  nominal-positive = level-positive (nominal speeds ts) (omega arith)
 
   pub task-range : (i : ℕ) → i < length ts → InRange (getD ts i noTask)
   task-range i l = range-at ts i (fine .tasks .ranges) l

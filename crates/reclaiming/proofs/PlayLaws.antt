@@ -1,7 +1,7 @@
 -- Replies as numbers and back, and demand 3 of the numbers that a run leaves in lent blocks.
 -- Assumes nothing.
 use Prim.Native.Nat.{ℕ, zero, suc, _+_, _*_, _/_, _%_, _≤_, _<_}
-use mathlib.Core.Path.{_≡_, refl, sym, subst, ap, ap₂, _∙_}
+use mathlib.Core.Path.{_≡_, refl, sym, subst₂, ap, ap₂, _∙_}
 use mathlib.Core.Bool.{Bool, true, false}
 use mathlib.Core.List.{List, [], _∷_, _++_}
 use native.Mathlib.Omega.{arith}
@@ -10,33 +10,33 @@ use lib.Dec.{eqb, lit<, lit≤}
 use lib.Arith.{digits-mod}
 use lib.ListN.{length, take, drop}
 use Rattle.arith.specs.Choice.{pick}
-use Rattle.arith.proofs.Tests.{eq-yes, eq-not, testEq, passed, failed, tested}
+use Rattle.arith.specs.Asking.{Question, firstNo}
+use Rattle.arith.proofs.Tests.{passed, failed, tested, both-right}
+use Rattle.arith.proofs.QuestionLaws.{Yes, all-yes, yes-all}
 use Rattle.plan.specs.Levels.{baseSpeeds}
 use Rattle.plan.specs.Blocks.{tasksIn}
 use Rattle.plan.specs.Answers.{storedBy}
-use Rattle.arith.specs.Asking.{Question, firstNo}
-use Rattle.plan.proofs.LevelLaws.{baseRising}
 use Rattle.plan.proofs.Facts.{FineList}
+use Rattle.plan.proofs.LevelLaws.{baseRising}
 use Rattle.schedule.specs.PlainSchedule.{Timing, opened}
 use Rattle.schedule.specs.Feasibility.{All}
 use Rattle.reclaiming.specs.declared.Reply.{Reply}
 use Rattle.reclaiming.specs.declared.Reply.the-variants as reply
-use Rattle.reclaiming.specs.StateBlock.{State, encode, decode, planIn, timing}
+use Rattle.reclaiming.specs.StateBlock.{State, encode, decode, planIn, timing, laidOut}
 use Rattle.reclaiming.specs.Orders.{orderWith, holdOf}
 use Rattle.reclaiming.specs.Passes.{startState, passedState, passedHold}
 use Rattle.reclaiming.specs.Questions.{passing, starting, passQuestions, stateSound}
 use Rattle.reclaiming.specs.Calls.{repliedBy, refusalOf, startNumber, startReply, startBuffer, startOrder, passNumber, passReply, passBytes, passOrder}
 use Rattle.reclaiming.specs.Run.{Pass, Answered, trace, bytesAfter, startedBytes, openedBook, bookedAll, ranAll}
-use Rattle.reclaiming.specs.Promises.{OnTime}
+use Rattle.reclaiming.specs.Promises.{Started, OnTime}
 use Rattle.reclaiming.specs.Numbers.{replyNumber}
 use Rattle.reclaiming.specs.Play.{replyFrom, replyNumbers, answersFrom, leftBy, playedState, playedReplies, PlayedOnTime}
 use Rattle.reclaiming.proofs.Fine.{Fine, Accepted}
+use Rattle.reclaiming.proofs.Replies.{is-idle, is-run, viewOrder, order-accepted, not-refused}
 use Rattle.reclaiming.proofs.StateCodec.{Storable}
-use Rattle.reclaiming.proofs.Soundness.{all-yes, yes-all, sound-fine, accepted, fine-storable}
+use Rattle.reclaiming.proofs.Soundness.{sound-fine, accepted, fine-storable}
 use Rattle.reclaiming.proofs.PassSound.{start-fine, pass-fine}
-use Rattle.reclaiming.proofs.Demand.{demand-3, good, not-refused, room, untouched}
-use Rattle.arith.proofs.Tests.{both-right}
-use Rattle.reclaiming.specs.StateBlock.{laidOut}
+use Rattle.reclaiming.proofs.Demand.{demand-3, good, room, untouched}
 
 -- a reply whose parts each fit their place in the number
 abbrev pub Small : Reply → Type 0
@@ -48,6 +48,12 @@ Small (reply.Refused n) = n < 256
 low : (x high digit : ℕ) → x ≡ high * 256 + digit → digit < 256 → x % 256 ≡ digit
 low x high digit e h = ap (λ (y : ℕ). y % 256) e ∙ digits-mod high h
 
+-- what a number stands for, by its kind
+abbrev kinds : ℕ → Bool → Bool → Reply
+kinds x run idle =
+    pick run (reply.Run (x / 65536 % 256) (x / 16777216 % 256) (x / 4294967296))
+    (pick idle (reply.Idle (x / 4294967296)) (reply.Refused (x % 256)))
+
 pub from-number : (r : Reply) → Small r → replyFrom (replyNumber r) ≡ r
 from-number (reply.Run task level hold) small =
     let x : ℕ = 256 + 65536 * task + 16777216 * level + 4294967296 * hold in
@@ -55,21 +61,17 @@ from-number (reply.Run task level hold) small =
     let a : x / 65536 % 256 ≡ task = low (x / 65536) (level + 256 * hold) task (omega arith) (small .0) in
     let b : x / 16777216 % 256 ≡ level = low (x / 16777216) hold level (omega arith) (small .1) in
     let c : x / 4294967296 ≡ hold = omega arith in
-    ap (λ (t : Bool). pick t (reply.Run (x / 65536 % 256) (x / 16777216 % 256) (x / 4294967296)) (pick (eqb (x / 256 % 256) 2) (reply.Idle (x / 4294967296)) (reply.Refused (x % 256)))) (eq-eqb (x / 256 % 256) 1 kind)
+    ap (λ (t : Bool). kinds x t (eqb (x / 256 % 256) 2)) (eq-eqb (x / 256 % 256) 1 kind)
     ∙ ap₂ (λ (y z : ℕ). reply.Run y z (x / 4294967296)) a b
     ∙ ap (λ (y : ℕ). reply.Run task level y) c
 from-number (reply.Idle hold) small =
     let x : ℕ = 512 + 4294967296 * hold in
     let kind : x / 256 % 256 ≡ 2 = low (x / 256) (65536 * hold) 2 (omega arith) (omega arith) in
     let c : x / 4294967296 ≡ hold = omega arith in
-    ap₂ (λ (t u : Bool). pick t (reply.Run (x / 65536 % 256) (x / 16777216 % 256) (x / 4294967296)) (pick u (reply.Idle (x / 4294967296)) (reply.Refused (x % 256))))
-    (ne-eqb (x / 256 % 256) 1 (λ e. omega arith)) (eq-eqb (x / 256 % 256) 2 kind)
-    ∙ ap (λ (y : ℕ). reply.Idle y) c
+    ap₂ (kinds x) (ne-eqb (x / 256 % 256) 1 (λ e. omega arith)) (eq-eqb (x / 256 % 256) 2 kind) ∙ ap (λ (y : ℕ). reply.Idle y) c
 from-number (reply.Refused n) small =
     let c : n % 256 ≡ n = omega arith in
-    ap₂ (λ (t u : Bool). pick t (reply.Run (n / 65536 % 256) (n / 16777216 % 256) (n / 4294967296)) (pick u (reply.Idle (n / 4294967296)) (reply.Refused (n % 256))))
-    (ne-eqb (n / 256 % 256) 1 (λ e. omega arith)) (ne-eqb (n / 256 % 256) 2 (λ e. omega arith))
-    ∙ ap (λ (y : ℕ). reply.Refused y) c
+    ap₂ (kinds n) (ne-eqb (n / 256 % 256) 1 (λ e. omega arith)) (ne-eqb (n / 256 % 256) 2 (λ e. omega arith)) ∙ ap (λ (y : ℕ). reply.Refused y) c
 
 -- a refusal's number is one of the questions'
 no-below : (k : ℕ) (qs : List Question) → 0 < k → All (λ (q : Question). q .number < k) qs → firstNo qs < k
@@ -78,14 +80,7 @@ no-below k (q ∷ qs) p a =
     elim (tested (q .reply)) as (λ b _. pick b (firstNo qs) (q .number) < k) [ passed ↦ no-below k qs p (a .1) | failed ↦ a .0 ]
 
 order-small : (s : State) (hold : ℕ) → Storable s → Small (orderWith s hold)
-order-small s hold fits =
-    elim (testEq (s .task) 255) as (λ t _. Small (pick t (reply.Idle hold) (reply.Run (s .task) (s .level) hold)))
-    [ eq-yes e ↦ tt | eq-not e ↦ (fits .task, fits .level) ]
-
-order-accepted : (s : State) (hold : ℕ) → refusalOf (orderWith s hold) ≡ 0
-order-accepted s hold =
-    elim (testEq (s .task) 255) as (λ t _. refusalOf (pick t (reply.Idle hold) (reply.Run (s .task) (s .level) hold)) ≡ 0)
-    [ eq-yes e ↦ refl | eq-not e ↦ refl ]
+order-small s hold fits = elim (viewOrder s hold) as (λ r _. Small r) [ is-idle e ↦ tt | is-run e ↦ (fits .task, fits .level) ]
 
 few : length baseSpeeds ≤ 256
 few = lit≤ tt
@@ -94,42 +89,54 @@ replied-small : (n : ℕ) (order : Reply) → n < 256 → (n ≡ 0 → Small ord
 replied-small zero order small fits = fits refl
 replied-small (suc n) order small fits = small
 
--- every reply of a pass and of a start is such
-pub pass-small : (bytes : List ℕ) (d : ℕ) (finished : Bool) → Small (passReply baseSpeeds bytes d finished)
-pass-small bytes d finished =
-    replied-small (passNumber baseSpeeds bytes d finished) (passOrder baseSpeeds (decode bytes) d finished)
-    (no-below 256 (passing baseSpeeds bytes d finished) (lit< tt) (lit< tt, (lit< tt, (lit< tt, (lit< tt, (lit< tt, (lit< tt, tt)))))))
-    (λ e. order-small (passedState baseSpeeds (timing baseSpeeds (planIn s)) s d finished) (passedHold baseSpeeds (timing baseSpeeds (planIn s)) s d finished) (next e))
-  where
-    s : State
-    s = decode bytes
+-- every reply of a pass is such
+module _ (bytes : List ℕ) (d : ℕ) (finished : Bool) where
+  abbrev before : State
+  before = decode bytes
 
-    next : passNumber baseSpeeds bytes d finished ≡ 0 → Storable (passedState baseSpeeds (timing baseSpeeds (planIn (decode bytes))) (decode bytes) d finished)
-    next e =
-        let yes : All (λ (q : Question). q .reply ≡ true) (passing baseSpeeds bytes d finished) =
-        all-yes (passing baseSpeeds bytes d finished) (lit< tt, (lit< tt, (lit< tt, (lit< tt, (lit< tt, (lit< tt, tt)))))) e in
-        let fine : FineList baseSpeeds (length (planIn s)) (planIn s) × Fine baseSpeeds (planIn s) s =
-        sound-fine baseSpeeds s (both-right (laidOut bytes) (stateSound baseSpeeds s) (yes .0)) in
-        let ok : Accepted baseSpeeds (timing baseSpeeds (planIn s)) s d finished =
-        accepted baseSpeeds s d finished (yes-all (passQuestions baseSpeeds s d finished) (yes .1)) in
-        fine-storable baseSpeeds (planIn s) (passedState baseSpeeds (timing baseSpeeds (planIn s)) s d finished) (fine .0) baseRising few
-        (pass-fine baseSpeeds baseRising (planIn s) (fine .0) s (fine .1) d finished ok)
+  abbrev next : State
+  next = passedState baseSpeeds (timing baseSpeeds (planIn before)) before d finished
 
-pub start-small : (block buffer : List ℕ) → Small (startReply baseSpeeds block (length buffer))
-start-small block buffer =
-    replied-small (startNumber baseSpeeds block (length buffer)) (startOrder baseSpeeds (startState baseSpeeds (tasksIn block)))
-    (no-below 256 (starting baseSpeeds block (length buffer)) (lit< tt)
-    (lit< tt, (lit< tt, (lit< tt, (lit< tt, (lit< tt, (lit< tt, (lit< tt, (lit< tt, (lit< tt, tt))))))))))
-    (λ e. order-small (startState baseSpeeds (tasksIn block)) (holdOf baseSpeeds (timing baseSpeeds (planIn (startState baseSpeeds (tasksIn block)))) (startState baseSpeeds (tasksIn block)))
-    (fine-storable baseSpeeds (tasksIn block) (startState baseSpeeds (tasksIn block)) (plan e) baseRising few (start-fine baseSpeeds (tasksIn block) (plan e) baseRising)))
-  where
-    plan : startNumber baseSpeeds block (length buffer) ≡ 0 → FineList baseSpeeds (length (tasksIn block)) (tasksIn block)
-    plan e = good baseSpeeds baseRising few block buffer (started e)
-      where
-        started : startNumber baseSpeeds block (length buffer) ≡ 0 → refusalOf (startReply baseSpeeds block (length buffer)) ≡ 0
-        started e =
-            ap (λ (n : ℕ). refusalOf (repliedBy n (startOrder baseSpeeds (startState baseSpeeds (tasksIn block))))) e
-            ∙ order-accepted (startState baseSpeeds (tasksIn block)) (holdOf baseSpeeds (timing baseSpeeds (planIn (startState baseSpeeds (tasksIn block)))) (startState baseSpeeds (tasksIn block)))
+  next-storable : passNumber baseSpeeds bytes d finished ≡ 0 → Storable next
+  next-storable e =
+      let yes : Yes (passing baseSpeeds bytes d finished) = all-yes (passing baseSpeeds bytes d finished) refl e in
+      let fine : FineList baseSpeeds (length (planIn before)) (planIn before) × Fine baseSpeeds (planIn before) before =
+      sound-fine baseSpeeds before (both-right (laidOut bytes) (stateSound baseSpeeds before) (yes .0)) in
+      let ok : Accepted baseSpeeds (timing baseSpeeds (planIn before)) before d finished =
+      accepted baseSpeeds before d finished (yes-all (passQuestions baseSpeeds before d finished) (yes .1)) in
+      fine-storable baseSpeeds (planIn before) next (fine .0) baseRising few
+      (pass-fine baseSpeeds baseRising (planIn before) (fine .0) before (fine .1) d finished ok)
+
+  pass-small : Small (passReply baseSpeeds bytes d finished)
+  pass-small =
+      replied-small (passNumber baseSpeeds bytes d finished) (passOrder baseSpeeds before d finished)
+      (no-below 256 (passing baseSpeeds bytes d finished) (lit< tt) (lit< tt, (lit< tt, (lit< tt, (lit< tt, (lit< tt, (lit< tt, tt)))))))
+      (λ e. order-small next (passedHold baseSpeeds (timing baseSpeeds (planIn before)) before d finished) (next-storable e))
+
+-- and of a start
+module _ (block buffer : List ℕ) where
+  abbrev begun : State
+  begun = startState baseSpeeds (tasksIn block)
+
+  abbrev begun-hold : ℕ
+  begun-hold = holdOf baseSpeeds (timing baseSpeeds (planIn begun)) begun
+
+  -- a start is answered with an order exactly if no question is answered no
+  started-number : Started baseSpeeds block buffer → startNumber baseSpeeds block (length buffer) ≡ 0
+  started-number = not-refused (startNumber baseSpeeds block (length buffer)) (startOrder baseSpeeds begun)
+
+  number-started : startNumber baseSpeeds block (length buffer) ≡ 0 → Started baseSpeeds block buffer
+  number-started e = ap (λ (n : ℕ). refusalOf (repliedBy n (orderWith begun begun-hold))) e ∙ order-accepted begun begun-hold
+
+  start-small : Small (startReply baseSpeeds block (length buffer))
+  start-small =
+      replied-small (startNumber baseSpeeds block (length buffer)) (startOrder baseSpeeds begun)
+      (no-below 256 (starting baseSpeeds block (length buffer)) (lit< tt)
+      (lit< tt, (lit< tt, (lit< tt, (lit< tt, (lit< tt, (lit< tt, (lit< tt, (lit< tt, (lit< tt, tt))))))))))
+      (λ e. order-small begun begun-hold (storable (good baseSpeeds baseRising few block buffer (number-started e))))
+    where
+      storable : FineList baseSpeeds (length (tasksIn block)) (tasksIn block) → Storable begun
+      storable plan = fine-storable baseSpeeds (tasksIn block) begun plan baseRising few (start-fine baseSpeeds (tasksIn block) plan baseRising)
 
 -- so the replies that stand in a lent block are those of the run
 answers-same :
@@ -141,14 +148,21 @@ answers-same (p ∷ ps) bytes rest =
     (from-number (passReply baseSpeeds bytes (p .d) (p .finished)) (pass-small bytes (p .d) (p .finished)))
     (answers-same ps (passBytes baseSpeeds bytes (p .d) (p .finished)) rest)
 
+-- what playing leaves where the start is accepted
+module _ (block state : List ℕ) (passes : List Pass) where
+  abbrev bytes-left : List ℕ
+  bytes-left = bytesAfter baseSpeeds (startedBytes baseSpeeds block state) passes ++ drop 200 state
+
+  abbrev replies-left : List ℕ → List ℕ
+  replies-left found = replyNumbers (trace baseSpeeds (startedBytes baseSpeeds block state) passes) ++ drop (length passes) found
+
 -- demand 3 of the numbers that playing leaves
 pub played-on-time :
-    (block state replies : List ℕ) (passes : List Pass) →
-    PlayedOnTime baseSpeeds block (replyNumber (startReply baseSpeeds block (length state))) passes (playedReplies baseSpeeds block state passes replies)
-played-on-time block state replies passes ok =
-    subst (λ (r : Reply). OnTime τ (bookedAll τ (openedBook r) (answersFrom passes (playedReplies baseSpeeds block state passes replies))) (ranAll τ (opened τ) (answersFrom passes (playedReplies baseSpeeds block state passes replies)))) (sym first)
-    (subst (λ (l : List Answered). OnTime τ (bookedAll τ (openedBook (startReply baseSpeeds block (length state))) l) (ranAll τ (opened τ) l)) (sym answers)
-    (demand-3 baseSpeeds baseRising few block state passes accepted-start))
+    (block state found : List ℕ) (passes : List Pass) →
+    PlayedOnTime baseSpeeds block (replyNumber (startReply baseSpeeds block (length state))) passes (playedReplies baseSpeeds block state passes found)
+played-on-time block state found passes ok =
+    subst₂ (λ (r : Reply) (l : List Answered). OnTime τ (bookedAll τ (openedBook r) l) (ranAll τ (opened τ) l)) (sym first) (sym answers)
+    (demand-3 baseSpeeds baseRising few block state passes started)
   where
     τ : Timing
     τ = timing baseSpeeds (tasksIn block)
@@ -156,51 +170,38 @@ played-on-time block state replies passes ok =
     first : replyFrom (replyNumber (startReply baseSpeeds block (length state))) ≡ startReply baseSpeeds block (length state)
     first = from-number (startReply baseSpeeds block (length state)) (start-small block state)
 
-    accepted-start : refusalOf (startReply baseSpeeds block (length state)) ≡ 0
-    accepted-start = ap refusalOf (sym first) ∙ ok
+    started : Started baseSpeeds block state
+    started = ap refusalOf (sym first) ∙ ok
 
-    answers : answersFrom passes (playedReplies baseSpeeds block state passes replies) ≡ trace baseSpeeds (startedBytes baseSpeeds block state) passes
+    answers : answersFrom passes (playedReplies baseSpeeds block state passes found) ≡ trace baseSpeeds (startedBytes baseSpeeds block state) passes
     answers =
-        ap (λ (n : ℕ). answersFrom passes (leftBy n (replyNumbers (trace baseSpeeds (startedBytes baseSpeeds block state) passes) ++ drop (length passes) replies) replies))
-        (not-refused (startNumber baseSpeeds block (length state)) (startOrder baseSpeeds (startState baseSpeeds (tasksIn block))) accepted-start)
-        ∙ answers-same passes (startedBytes baseSpeeds block state) (drop (length passes) replies)
+        ap (λ (n : ℕ). answersFrom passes (leftBy n (replies-left block state passes found) found)) (started-number block state started)
+        ∙ answers-same passes (startedBytes baseSpeeds block state) (drop (length passes) found)
 
--- what playing leaves where the start is refused, and where it is accepted
+-- what it leaves where the start is refused, and where it is accepted
 module _ (block state : List ℕ) (passes : List Pass) (found : List ℕ) where
   pub left-refused :
       (refusalOf (startReply baseSpeeds block (length state)) ≡ 0 → ⊥) →
       (startBuffer baseSpeeds block state ≡ playedState baseSpeeds block state passes) × (found ≡ playedReplies baseSpeeds block state passes found)
   left-refused never = go (startNumber baseSpeeds block (length state)) refl
     where
-      order : Reply
-      order = startOrder baseSpeeds (startState baseSpeeds (tasksIn block))
-
       go :
           (n : ℕ) →
           startNumber baseSpeeds block (length state) ≡ n →
-          (storedBy (startNumber baseSpeeds block (length state)) (encode (startState baseSpeeds (tasksIn block))) state ≡ playedState baseSpeeds block state passes)
-          × (found ≡ playedReplies baseSpeeds block state passes found)
-      go zero e =
-          absurd
-          (never
-          (ap (λ (n : ℕ). refusalOf (repliedBy n order)) e
-          ∙ order-accepted (startState baseSpeeds (tasksIn block)) (holdOf baseSpeeds (timing baseSpeeds (planIn (startState baseSpeeds (tasksIn block)))) (startState baseSpeeds (tasksIn block)))))
+          (startBuffer baseSpeeds block state ≡ playedState baseSpeeds block state passes) × (found ≡ playedReplies baseSpeeds block state passes found)
+      go zero e = absurd (never (number-started block state e))
       go (suc n) e = (
-        ap (λ (k : ℕ). storedBy k (encode (startState baseSpeeds (tasksIn block))) state) e
-            ∙ sym (ap (λ (k : ℕ). leftBy k (bytesAfter baseSpeeds (startedBytes baseSpeeds block state) passes ++ drop 200 state) state) e),
-        sym (ap (λ (k : ℕ). leftBy k (replyNumbers (trace baseSpeeds (startedBytes baseSpeeds block state) passes) ++ drop (length passes) found) found) e),
+        ap (λ (k : ℕ). storedBy k (encode (begun block state)) state) e ∙ sym (ap (λ (k : ℕ). leftBy k (bytes-left block state passes) state) e),
+        sym (ap (λ (k : ℕ). leftBy k (replies-left block state passes found) found) e),
       )
 
   module _ (ok : refusalOf (startReply baseSpeeds block (length state)) ≡ 0) (l : List ℕ) (started : l ≡ startBuffer baseSpeeds block state) where
-    number-zero : startNumber baseSpeeds block (length state) ≡ 0
-    number-zero = not-refused (startNumber baseSpeeds block (length state)) (startOrder baseSpeeds (startState baseSpeeds (tasksIn block))) ok
-
     pub left-state : (m : List ℕ) → m ≡ bytesAfter baseSpeeds (take 200 l) passes → m ++ drop 200 l ≡ playedState baseSpeeds block state passes
     left-state m e =
         ap₂ (λ (x y : List ℕ). x ++ y)
         (e ∙ ap (λ (x : List ℕ). bytesAfter baseSpeeds (take 200 x) passes) started)
         (ap (drop 200) started ∙ untouched baseSpeeds baseRising few block state ok)
-        ∙ sym (ap (λ (k : ℕ). leftBy k (bytesAfter baseSpeeds (startedBytes baseSpeeds block state) passes ++ drop 200 state) state) number-zero)
+        ∙ sym (ap (λ (k : ℕ). leftBy k (bytes-left block state passes) state) (started-number block state ok))
 
     pub left-replies :
         (m : List ℕ) →
@@ -209,7 +210,7 @@ module _ (block state : List ℕ) (passes : List Pass) (found : List ℕ) where
     left-replies m e =
         e
         ∙ ap (λ (x : List ℕ). replyNumbers (trace baseSpeeds (take 200 x) passes) ++ drop (length passes) found) started
-        ∙ sym (ap (λ (k : ℕ). leftBy k (replyNumbers (trace baseSpeeds (startedBytes baseSpeeds block state) passes) ++ drop (length passes) found) found) number-zero)
+        ∙ sym (ap (λ (k : ℕ). leftBy k (replies-left block state passes found) found) (started-number block state ok))
 
     pub left-room : length l ≡ length state → 200 ≤ length l
     left-room same = omega (arith, room baseSpeeds baseRising few block state ok)
@@ -221,8 +222,7 @@ pub on-time-of :
     replies ≡ playedReplies baseSpeeds block state passes found →
     PlayedOnTime baseSpeeds block first passes replies
 on-time-of block state found passes first replies e r =
-    subst (λ (x : ℕ). PlayedOnTime baseSpeeds block x passes replies) (sym e)
-    (subst (λ (l : List ℕ). PlayedOnTime baseSpeeds block (replyNumber (startReply baseSpeeds block (length state))) passes l) (sym r) (played-on-time block state found passes))
+    subst₂ (λ (x : ℕ) (l : List ℕ). PlayedOnTime baseSpeeds block x passes l) (sym e) (sym r) (played-on-time block state found passes)
 
 -- what testing a reply tells of the one that it is
 module _ (x r : Reply) (b : Bool) (e : x ≡ r) (t : b ≡ eqb (refusalOf x) 0) where

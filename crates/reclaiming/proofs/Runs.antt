@@ -1,46 +1,46 @@
 -- What ties the state's bytes to the two books, kept by every pass, refused or not.
 -- Assumes nothing.
-use Prim.Native.Nat.{ℕ, zero, suc, _+_, _-_, _%_, _≤_, _<_}
+use Prim.Native.Nat.{ℕ, zero, suc, _+_, _%_, _≤_, _<_}
 use mathlib.Core.Path.{_≡_, refl, sym, subst, ap, ap₂, _∙_}
-use mathlib.Core.Bool.{Bool, true, false}
+use mathlib.Core.Bool.{Bool, true, true≢false}
 use mathlib.Core.List.{List, _∷_, _++_, append-nil}
-use native.Mathlib.Omega.{arith}
 use native.Mathlib.Decide.{ℕ-discrete}
-use lib.Dec.{T}
+use native.Mathlib.Omega.{arith}
 use lib.ListN.{length, getD, drop-of-length-le}
 use Rattle.arith.specs.Choice.{pick}
 use Rattle.arith.specs.Need.{need}
-use Rattle.arith.proofs.Needs.{need-zero-work}
-use Rattle.arith.proofs.Tests.{eq-yes, eq-not, testEq, passed, failed, tested, both-true}
-use Rattle.plan.specs.declared.Task.{Task}
-use Rattle.plan.specs.Levels.{Rising, hyperperiod, nominal}
 use Rattle.arith.specs.Asking.{firstNo}
+use Rattle.arith.proofs.Tests.{passed, failed, tested, both-true}
+use Rattle.arith.proofs.Needs.{need-positive}
+use Rattle.arith.proofs.QuestionLaws.{ask-yes}
+use Rattle.plan.specs.declared.Task.{Task}
+use Rattle.plan.specs.Levels.{Rising, hyperperiod}
 use Rattle.plan.specs.Blocks.{noTask}
 use Rattle.plan.specs.Answers.{storedBy}
 use Rattle.plan.proofs.Facts.{FineList, range-at}
-use Rattle.schedule.specs.PlainSchedule.{Timing, Job, Book, latest, deadline, canonicalAt, after, queueOf, opened}
+use Rattle.schedule.specs.PlainSchedule.{Timing, Job, Book, latest, canonicalAt, after, queueOf, opened}
 use Rattle.schedule.specs.Feasibility.{Fitting}
 use Rattle.schedule.proofs.Drain.{Quiet}
-use Rattle.schedule.proofs.Span.{canonical-span, after-add, renewed, nothing-old}
 use Rattle.schedule.proofs.QueueLaws.{queueOf-cong}
+use Rattle.schedule.proofs.Span.{canonical-span, after-add, renewed, nothing-old}
 use Rattle.reclaiming.specs.declared.Reply.{Reply}
-use Rattle.reclaiming.specs.declared.Reply.the-variants as reply
 use Rattle.reclaiming.specs.StateBlock.{State, encode, decode, laidOut, planIn, timing, workOf, remainingOf}
 use Rattle.reclaiming.specs.Orders.{holdOf, orderWith}
 use Rattle.reclaiming.specs.Passes.{passedState, passedHold, workedOf, drainedOf}
 use Rattle.reclaiming.specs.Questions.{sound, stateSound, passQuestions}
 use Rattle.reclaiming.specs.Calls.{repliedBy, passNumber, passReply, passBytes}
-use Rattle.reclaiming.specs.Run.{Pass, DispatcherBook, booked, ran}
+use Rattle.reclaiming.specs.Run.{Pass, DispatcherBook, moved, booked, ran}
 use Rattle.reclaiming.specs.Promises.{holdIn, orderAfter}
 use Rattle.reclaiming.proofs.Fine.{Fine, Accepted, nominalSpeed}
-use Rattle.reclaiming.proofs.PassedStates.{new-work, old-work, passed-remaining, passed-clock}
-use Rattle.reclaiming.proofs.Books.{Held, held-pass}
-use Rattle.reclaiming.proofs.Plans.{plan-fits}
+use Rattle.reclaiming.proofs.Replies.{is-idle, is-run, viewOrder, order-held, order-stands}
+use Rattle.reclaiming.proofs.Plans.{nominal-positive, plan-fits}
 use Rattle.reclaiming.proofs.StateCodec.{Storable, decode-encode, length-encode, laid-out}
 use Rattle.reclaiming.proofs.Soundness.{fine-sound, accepted, fine-storable}
 use Rattle.reclaiming.proofs.NextArrival.{next-quiet}
 use Rattle.reclaiming.proofs.Worked.{worked-other, worked-open, stays-ahead}
+use Rattle.reclaiming.proofs.PassedStates.{new-work, old-work, passed-remaining, passed-clock}
 use Rattle.reclaiming.proofs.PassSound.{pass-fine, pass-hold}
+use Rattle.reclaiming.proofs.Books.{Held, held-pass}
 
 -- the state behind the bytes, and what the books have of it
 pub record Tied (speeds : List ℕ) (ts : List Task) (s : State) (bytes : List ℕ) (actual : DispatcherBook) (plain : Book) (order : Reply) : Type 0 where
@@ -55,29 +55,19 @@ pub record Tied (speeds : List ℕ) (ts : List Task) (s : State) (bytes : List �
       ≡ record { clock = s .clock; pending = queueOf (timing speeds ts) (s .clock) (remainingOf s) (timing speeds ts .count) }
   pub hold : holdIn order ≡ holdOf speeds (timing speeds ts) s
 
+-- some state is tied to the bytes and the books
+pub record Kept (speeds : List ℕ) (ts : List Task) (bytes : List ℕ) (actual : DispatcherBook) (plain : Book) (order : Reply) : Type 0 where
+  pub state : State
+  pub tied : Tied speeds ts state bytes actual plain order
+
 -- an order, whatever it is, moves the books by its pass
-module _ (τ : Timing) (a : DispatcherBook) (b : Book) (p : Pass) (s : State) (hold : ℕ) where
-  pub order-recorded :
-      booked τ a p (orderWith s hold)
-      ≡ record {
-        clock = a .clock + p .d;
-        closed = pick (p .finished) (latest τ (a .clock) (a .task) ∷ a .closed) (a .closed);
-        task = s .task;
-      }
-  order-recorded =
-      elim (testEq (s .task) 255)
-      as (λ t _. booked τ a p (pick t (reply.Idle hold) (reply.Run (s .task) (s .level) hold)) ≡ record { clock = a .clock + p .d; closed = pick (p .finished) (latest τ (a .clock) (a .task) ∷ a .closed) (a .closed); task = s .task }) [
-        | eq-yes e ↦ λ i. record { clock = a .clock + p .d; closed = pick (p .finished) (latest τ (a .clock) (a .task) ∷ a .closed) (a .closed); task = sym e i }
-        | eq-not e ↦ refl
-      ]
+module _ (τ : Timing) (p : Pass) (s : State) (hold : ℕ) where
+  order-recorded : (a : DispatcherBook) → booked τ a p (orderWith s hold) ≡ moved τ a p (s .task)
+  order-recorded a =
+      elim (viewOrder s hold) as (λ r _. booked τ a p r ≡ moved τ a p (s .task)) [ is-idle e ↦ ap (moved τ a p) (sym e) | is-run e ↦ refl ]
 
-  pub order-ran : ran τ b p (orderWith s hold) ≡ after τ (p .d) b
-  order-ran =
-      elim (testEq (s .task) 255) as (λ t _. ran τ b p (pick t (reply.Idle hold) (reply.Run (s .task) (s .level) hold)) ≡ after τ (p .d) b) [ eq-yes e ↦ refl | eq-not e ↦ refl ]
-
-  pub order-hold : (last : Reply) → holdIn (orderAfter last (orderWith s hold)) ≡ hold
-  order-hold last =
-      elim (testEq (s .task) 255) as (λ t _. holdIn (orderAfter last (pick t (reply.Idle hold) (reply.Run (s .task) (s .level) hold))) ≡ hold) [ eq-yes e ↦ refl | eq-not e ↦ refl ]
+  order-ran : (b : Book) → ran τ b p (orderWith s hold) ≡ after τ (p .d) b
+  order-ran b = elim (viewOrder s hold) as (λ r _. ran τ b p r ≡ after τ (p .d) b) [ is-idle e ↦ refl | is-run e ↦ refl ]
 
 -- a plan that was accepted, over a table of speeds
 module _ (speeds : List ℕ) (rising : Rising speeds) (few : length speeds ≤ 256) (ts : List Task) (good : FineList speeds (length ts) ts) where
@@ -88,7 +78,7 @@ module _ (speeds : List ℕ) (rising : Rising speeds) (few : length speeds ≤ 2
   fits = plan-fits speeds ts good rising
 
   -- bytes that a sound state was stored as are sound, and read as that state
-  module _ (s : State) (bytes : List ℕ) (stored : bytes ≡ encode s) (fine : Fine speeds ts s) where
+  module _ {s : State} {bytes : List ℕ} (stored : bytes ≡ encode s) (fine : Fine speeds ts s) where
     storable : Storable s
     storable = fine-storable speeds ts s good rising few fine
 
@@ -104,32 +94,28 @@ module _ (speeds : List ℕ) (rising : Rising speeds) (few : length speeds ≤ 2
 
     -- so the questions are those of the state, and so is what follows
     module _ (d : ℕ) (finished : Bool) where
-      pub number-is : passNumber speeds bytes d finished ≡ firstNo (passQuestions speeds s d finished)
-      number-is =
-          ap (λ (b : Bool). pick b (firstNo (passQuestions speeds (decode bytes) d finished)) 10) stored-sound
-          ∙ ap (λ (x : State). firstNo (passQuestions speeds x d finished)) decoded
+      number-is : passNumber speeds bytes d finished ≡ firstNo (passQuestions speeds s d finished)
+      number-is = ask-yes 10 stored-sound (ap (λ (x : State). firstNo (passQuestions speeds x d finished)) decoded)
 
       state-is : passedState speeds (timing speeds (planIn (decode bytes))) (decode bytes) d finished ≡ passedState speeds τ s d finished
       state-is =
           ap (λ (x : State). passedState speeds (timing speeds (planIn x)) x d finished) decoded
-          ∙ ap (λ (l : List Task). passedState speeds (timing speeds l) s d finished) (fine .plan)
+          ∙ ap (λ (l : List Task). passedState speeds (timing speeds l) s d finished) (fine .entries .plan)
 
       hold-is : passedHold speeds (timing speeds (planIn (decode bytes))) (decode bytes) d finished ≡ passedHold speeds τ s d finished
       hold-is =
           ap (λ (x : State). passedHold speeds (timing speeds (planIn x)) x d finished) decoded
-          ∙ ap (λ (l : List Task). passedHold speeds (timing speeds l) s d finished) (fine .plan)
+          ∙ ap (λ (l : List Task). passedHold speeds (timing speeds l) s d finished) (fine .entries .plan)
 
       pub reply-is :
           passReply speeds bytes d finished
           ≡ repliedBy (firstNo (passQuestions speeds s d finished)) (orderWith (passedState speeds τ s d finished) (passedHold speeds τ s d finished))
-      reply-is =
-          ap₂ repliedBy number-is (ap₂ orderWith state-is hold-is)
+      reply-is = ap₂ repliedBy number-is (ap₂ orderWith state-is hold-is)
 
-      pub bytes-are :
+      bytes-are :
           passBytes speeds bytes d finished
           ≡ storedBy (firstNo (passQuestions speeds s d finished)) (encode (passedState speeds τ s d finished)) bytes
-      bytes-are =
-          ap₂ (λ (n : ℕ) (x : State). storedBy n (encode x) bytes) number-is state-is
+      bytes-are = ap₂ (λ (n : ℕ) (x : State). storedBy n (encode x) bytes) number-is state-is
 
   -- an accepted pass
   module _ (s : State) (fine : Fine speeds ts s) (d : ℕ) (finished : Bool) (ok : Accepted speeds τ s d finished) where
@@ -144,8 +130,7 @@ module _ (speeds : List ℕ) (rising : Rising speeds) (few : length speeds ≤ 2
     working i h w ne =
         elim (tested finished) as (λ b _. finished ≡ b → 0 < workedOf speeds s d finished i) [
           | passed ↦ λ f. subst (λ (x : ℕ). 0 < x) (sym (worked-other speeds s d finished i (λ e. ne (e, f)))) w
-          | failed ↦ λ f.
-              worked-open speeds rising ts good s fine d finished ok f i h w
+          | failed ↦ λ f. worked-open speeds rising ts good s fine d finished ok f i h w
         ] refl
 
     module _ (queue : canonicalAt τ (s .clock) ≡ record { clock = s .clock; pending = queueOf τ (s .clock) (remainingOf s) (τ .count) }) where
@@ -155,25 +140,23 @@ module _ (speeds : List ℕ) (rising : Rising speeds) (few : length speeds ≤ 2
           elim (ℕ-discrete i (s .task)) [
             | yes e ↦ elim (tested finished) as (λ b _. finished ≡ b → (i ≡ s .task) × (b ≡ true)) [
               | passed ↦ λ f. (e, refl)
-              | failed ↦ λ f. absurd (stuck (λ g. differs f g.1))
+              | failed ↦ λ f. absurd (stuck (λ g. true≢false (sym g.1 ∙ f)))
             ] refl
             | no e ↦ absurd (stuck (λ g. e g.0))
           ]
         where
-          differs : finished ≡ false → finished ≡ true → ⊥
-          differs a b = subst T (sym b ∙ a) tt
-
           stuck : ((i ≡ s .task) × (finished ≡ true) → ⊥) → ⊥
           stuck ne =
-              let some : 0 < workedOf speeds s d finished i = working i h w ne in
-              let most : need (nominalSpeed speeds ts) (workedOf speeds s d finished i) ≤ drainedOf τ s d i =
-              stays-ahead speeds rising ts good s fine d finished ok i h in
+              let speed : ℕ = nominalSpeed speeds ts in
+              let work : ℕ = workedOf speeds s d finished i in
+              let some : 0 < need speed work = need-positive speed work (nominal-positive speeds ts good rising) (working i h w ne) in
+              let most : need speed work ≤ drainedOf τ s d i = stays-ahead speeds rising ts good s fine d finished ok i h in
               let none : drainedOf τ s d i ≡ 0 = nothing-old τ (hyperperiod ts) fits (s .clock) d (remainingOf s) (ok .some) quiet queue i h z in
-              omega (arith, need-zero-work (nominalSpeed speeds ts) (workedOf speeds s d finished i) (rising .positive (nominal speeds ts) (good .tasks .admitted)) (omega arith))
+              omega arith
 
       worst-some : (i : ℕ) → i < τ .count → 0 < getD (planIn s) i noTask .worst
       worst-some i h =
-          subst (λ (l : List Task). 0 < getD l i noTask .worst) (sym (fine .plan)) (range-at ts i (good .tasks .ranges) h .worst-low)
+          subst (λ (l : List Task). 0 < getD l i noTask .worst) (sym (fine .entries .plan)) (range-at ts i (good .tasks .ranges) h .worst-low)
 
       next-held : (closed : List Job) → Held τ (s .clock) (workOf s) closed → Held τ (s .clock + d) (workOf next) (pick finished (latest τ (s .clock) (s .task) ∷ closed) closed)
       next-held closed held =
@@ -186,87 +169,89 @@ module _ (speeds : List ℕ) (rising : Rising speeds) (few : length speeds ≤ 2
       next-queue : canonicalAt τ (s .clock + d) ≡ record { clock = s .clock + d; pending = queueOf τ (s .clock + d) (remainingOf next) (τ .count) }
       next-queue =
           canonical-span τ (hyperperiod ts) fits (s .clock) d (remainingOf s) (ok .some) quiet queue
-          ∙ (λ k. record {
-            clock = s .clock + d;
-            pending = queueOf-cong τ (s .clock + d) (renewed τ (s .clock + d) (drainedOf τ s d)) (remainingOf next) (τ .count) (λ i h. sym (passed-remaining speeds τ s d finished i h)) k;
-          })
+          ∙ (λ k. record { clock = s .clock + d; pending = same k })
+        where
+          same :
+              queueOf τ (s .clock + d) (renewed τ (s .clock + d) (drainedOf τ s d)) (τ .count) ≡ queueOf τ (s .clock + d) (remainingOf next) (τ .count)
+          same =
+              queueOf-cong τ (s .clock + d) (renewed τ (s .clock + d) (drainedOf τ s d)) (remainingOf next) (τ .count)
+              (λ i h. sym (passed-remaining speeds τ s d finished i h))
+
+      abbrev hold : ℕ
+      hold = passedHold speeds τ s d finished
 
       abbrev order : Reply
-      order = orderWith next (passedHold speeds τ s d finished)
+      order = orderWith next hold
 
       abbrev pass : Pass
       pass = record { d = d; finished = finished }
 
       -- the tie holds after it
-      pub tied-next :
-          (a : DispatcherBook) (b : Book) (last : Reply) (bytes : List ℕ) →
+      tied-next :
+          {a : DispatcherBook} {b : Book} {last : Reply} {bytes : List ℕ} →
           Tied speeds ts s bytes a b last →
           Tied speeds ts next (storedBy 0 (encode next) bytes) (booked τ a pass order) (ran τ b pass order) (orderAfter last order)
-      tied-next a b last bytes t =
+      tied-next {a} {b} {last} {bytes} t =
           let fine-next : Fine speeds ts next = pass-fine speeds rising ts good s fine d finished ok in
           let new : Storable next = fine-storable speeds ts next good rising few fine-next in
           let clock : next .clock ≡ s .clock + d = passed-clock speeds τ s d finished in
-          let moved : booked τ a pass order ≡ record { clock = a .clock + d; closed = pick finished (latest τ (a .clock) (a .task) ∷ a .closed) (a .closed); task = next .task } =
-          order-recorded τ a b pass next (passedHold speeds τ s d finished) in
+          let recorded : booked τ a pass order ≡ moved τ a pass (next .task) = order-recorded τ pass next hold a in
           let closed : booked τ a pass order .closed ≡ pick finished (latest τ (s .clock) (s .task) ∷ a .closed) (a .closed) =
-          ap (λ (r : DispatcherBook). r .closed) moved
+          ap (λ (r : DispatcherBook). r .closed) recorded
           ∙ ap₂ (λ (x y : ℕ). pick finished (latest τ x y ∷ a .closed) (a .closed)) (t .clock) (t .task) in
           let size : length bytes ≤ length (encode next) =
-          omega (arith, stored-length s bytes (t .stored) fine, length-encode next (new .count)) in
+          omega (arith, stored-length (t .stored) fine, length-encode next (new .count)) in
           record {
             stored = ap (λ (l : List ℕ). encode next ++ l) (drop-of-length-le bytes size) ∙ append-nil (encode next);
             fine = fine-next;
-            clock = ap (λ (r : DispatcherBook). r .clock) moved ∙ ap (λ (x : ℕ). x + d) (t .clock) ∙ sym clock;
-            task = ap (λ (r : DispatcherBook). r .task) moved;
+            clock = ap (λ (r : DispatcherBook). r .clock) recorded ∙ ap (λ (x : ℕ). x + d) (t .clock) ∙ sym clock;
+            task = ap (λ (r : DispatcherBook). r .task) recorded;
             held =
                 subst (λ (c : ℕ). Held τ c (workOf next) (booked τ a pass order .closed)) (sym clock)
                 (subst (λ (l : List Job). Held τ (s .clock + d) (workOf next) l) (sym closed) (next-held (a .closed) (t .held)));
             plainly =
-                order-ran τ a b pass next (passedHold speeds τ s d finished)
+                order-ran τ pass next hold b
                 ∙ ap (after τ d) (t .plainly)
                 ∙ sym (after-add τ (s .clock) d (opened τ))
                 ∙ ap (canonicalAt τ) (sym clock);
             queue =
                 subst (λ (c : ℕ). canonicalAt τ c ≡ record { clock = c; pending = queueOf τ c (remainingOf next) (τ .count) }) (sym clock) next-queue;
-            hold =
-                order-hold τ a b pass next (passedHold speeds τ s d finished) last ∙ pass-hold speeds rising ts good s fine d finished ok;
+            hold = ap holdIn (order-stands next hold last) ∙ order-held next hold ∙ pass-hold speeds rising ts good s fine d finished ok;
           }
 
-  -- some state is tied to the bytes and the books
-  pub record Kept (bytes : List ℕ) (actual : DispatcherBook) (plain : Book) (order : Reply) : Type 0 where
-    pub state : State
-    pub tied : Tied speeds ts state bytes actual plain order
-
-  -- every pass keeps that, accepted or refused
+  -- every pass keeps a tie, accepted or refused
   pub kept-pass :
       (p : Pass) (bytes : List ℕ) (a : DispatcherBook) (b : Book) (last : Reply) →
-      Kept bytes a b last →
-      Kept (passBytes speeds bytes (p .d) (p .finished)) (booked τ a p (passReply speeds bytes (p .d) (p .finished)))
+      Kept speeds ts bytes a b last →
+      Kept speeds ts (passBytes speeds bytes (p .d) (p .finished)) (booked τ a p (passReply speeds bytes (p .d) (p .finished)))
       (ran τ b p (passReply speeds bytes (p .d) (p .finished))) (orderAfter last (passReply speeds bytes (p .d) (p .finished)))
   kept-pass p bytes a b last k =
-      let s : State = k .state in
-      let t : Tied speeds ts s bytes a b last = k .tied in
-      let d : ℕ = p .d in
-      let f : Bool = p .finished in
-      subst (λ (x : List ℕ). Kept x (booked τ a p (passReply speeds bytes d f)) (ran τ b p (passReply speeds bytes d f)) (orderAfter last (passReply speeds bytes d f)))
-      (sym (bytes-are s bytes (t .stored) (t .fine) d f))
-      (subst (λ (r : Reply). Kept (storedBy (firstNo (passQuestions speeds s d f)) (encode (passedState speeds τ s d f)) bytes) (booked τ a p r) (ran τ b p r) (orderAfter last r))
-      (sym (reply-is s bytes (t .stored) (t .fine) d f))
-      (go p bytes a b last k (firstNo (passQuestions speeds (k .state) (p .d) (p .finished))) refl))
+      subst (λ (x : List ℕ). Kept speeds ts x (booked τ a p given) (ran τ b p given) (orderAfter last given))
+      (sym (bytes-are (k .tied .stored) (k .tied .fine) (p .d) (p .finished)))
+      (subst (λ (r : Reply). Kept speeds ts (storedBy number (encode after-it) bytes) (booked τ a p r) (ran τ b p r) (orderAfter last r))
+      (sym (reply-is (k .tied .stored) (k .tied .fine) (p .d) (p .finished)))
+      (by-number number refl))
     where
-      go :
-          (p : Pass) (bytes : List ℕ) (a : DispatcherBook) (b : Book) (last : Reply) (k : Kept bytes a b last) (n : ℕ) →
-          firstNo (passQuestions speeds (k .state) (p .d) (p .finished)) ≡ n →
-          Kept (storedBy n (encode (passedState speeds τ (k .state) (p .d) (p .finished))) bytes)
-          (booked τ a p (repliedBy n (orderWith (passedState speeds τ (k .state) (p .d) (p .finished)) (passedHold speeds τ (k .state) (p .d) (p .finished)))))
-          (ran τ b p (repliedBy n (orderWith (passedState speeds τ (k .state) (p .d) (p .finished)) (passedHold speeds τ (k .state) (p .d) (p .finished)))))
-          (orderAfter last (repliedBy n (orderWith (passedState speeds τ (k .state) (p .d) (p .finished)) (passedHold speeds τ (k .state) (p .d) (p .finished)))))
-      go p bytes a b last k zero e =
+      given : Reply
+      given = passReply speeds bytes (p .d) (p .finished)
+
+      number : ℕ
+      number = firstNo (passQuestions speeds (k .state) (p .d) (p .finished))
+
+      after-it : State
+      after-it = passedState speeds τ (k .state) (p .d) (p .finished)
+
+      chosen : Reply
+      chosen = orderWith after-it (passedHold speeds τ (k .state) (p .d) (p .finished))
+
+      by-number :
+          (n : ℕ) →
+          number ≡ n →
+          Kept speeds ts (storedBy n (encode after-it) bytes) (booked τ a p (repliedBy n chosen)) (ran τ b p (repliedBy n chosen))
+          (orderAfter last (repliedBy n chosen))
+      by-number zero e =
           let ok : Accepted speeds τ (k .state) (p .d) (p .finished) =
-          subst (λ (l : List Task). Accepted speeds (timing speeds l) (k .state) (p .d) (p .finished)) (k .tied .fine .plan)
+          subst (λ (l : List Task). Accepted speeds (timing speeds l) (k .state) (p .d) (p .finished)) (k .tied .fine .entries .plan)
           (accepted speeds (k .state) (p .d) (p .finished) e) in
-          record {
-            state = passedState speeds τ (k .state) (p .d) (p .finished);
-            tied = tied-next (k .state) (k .tied .fine) (p .d) (p .finished) ok (k .tied .queue) a b last bytes (k .tied);
-          }
-      go p bytes a b last k (suc n) e = k
+          record { state = after-it; tied = tied-next (k .state) (k .tied .fine) (p .d) (p .finished) ok (k .tied .queue) (k .tied) }
+      by-number (suc n) e = k

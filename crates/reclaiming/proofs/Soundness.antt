@@ -4,32 +4,30 @@
 use Prim.Native.Nat.{ℕ, suc, _+_, _<_, _≤_}
 use mathlib.Core.Path.{_≡_, refl, sym, subst, ap, _∙_}
 use mathlib.Core.Bool.{Bool, true, false}
-use mathlib.Core.List.{List, [], _∷_}
-use mathlib.Core.Logic.{inl}
+use mathlib.Core.List.{List}
 use native.Mathlib.Omega.{arith}
 use borrow.Author.Tests.{leb-true, le-leb, eqb-true, eq-eqb}
 use lib.Dec.{leb, ltb, eqb}
 use lib.ListN.{length, getD, length-map, List·getD-map}
 use Rattle.arith.specs.Choice.{pick, both, every}
 use Rattle.arith.specs.Need.{need}
-use Rattle.arith.proofs.Tests.{both-left, both-right, both-true}
+use Rattle.arith.specs.Asking.{firstNo}
+use Rattle.arith.proofs.Tests.{both-left, both-right, both-true, only-if, if-so}
+use Rattle.arith.proofs.ListLaws.{every-at, at-every}
+use Rattle.arith.proofs.QuestionLaws.{Yes, all-yes, yes-all}
 use Rattle.plan.specs.declared.Task.{Task}
-use Rattle.plan.specs.Levels.{Rising, speedOf, nominal}
+use Rattle.plan.specs.Levels.{Rising, nominal}
 use Rattle.plan.specs.Blocks.{noTask}
 use Rattle.plan.specs.Questions.{judging}
-use Rattle.arith.specs.Asking.{Question, firstNo}
-use Rattle.arith.proofs.ListLaws.{every-at, at-every}
 use Rattle.plan.proofs.Facts.{FineList, InRange, fine-list, list-yes}
-use Rattle.schedule.specs.PlainSchedule.{Timing, Pending}
-use Rattle.schedule.specs.Feasibility.{All, In}
-use Rattle.schedule.proofs.QueueLaws.{Stands, queueOf-in}
 use Rattle.reclaiming.specs.declared.Entry.{Entry}
 use Rattle.reclaiming.specs.StateBlock.{State, noEntry, workOf, remainingOf, taskOf, planIn, timing}
-use Rattle.reclaiming.specs.Orders.{nextArrival, allowance, openJobs}
+use Rattle.reclaiming.specs.Orders.{nextArrival, openJobs}
 use Rattle.reclaiming.specs.Questions.{largestClock, entrySound, orderSound, stateSound, running, runningTime, passQuestions}
-use Rattle.reclaiming.proofs.Fine.{nominalSpeed, Fine, Accepted}
+use Rattle.reclaiming.proofs.Fine.{nominalSpeed, FineEntries, Fine, Accepted}
 use Rattle.reclaiming.proofs.Plans.{task-range, allotment-short}
 use Rattle.reclaiming.proofs.StateCodec.{StorableEntry, Storable}
+use Rattle.reclaiming.proofs.OrderFacts.{Ordered, idles, runs, order-facts}
 
 -- an entry of the plan in a state
 pub planIn-at : (s : State) (i : ℕ) → getD (planIn s) i noTask ≡ taskOf (getD (s .entries) i noEntry)
@@ -38,23 +36,9 @@ planIn-at s i = List·getD-map taskOf (s .entries) i noEntry
 pub length-planIn : (s : State) → length (planIn s) ≡ length (s .entries)
 length-planIn s = length-map (s .entries) taskOf
 
--- questions: the first no has number 0 exactly if there is none
-pub all-yes : (qs : List Question) → All (λ (q : Question). 0 < q .number) qs → firstNo qs ≡ 0 → All (λ (q : Question). q .reply ≡ true) qs
-all-yes [] p h = tt
-all-yes (q ∷ qs) p h = go (q .reply) refl h (all-yes qs (p .1))
-  where
-    go :
-        (b : Bool) →
-        q .reply ≡ b →
-        pick b (firstNo qs) (q .number) ≡ 0 →
-        (firstNo qs ≡ 0 → All (λ (r : Question). r .reply ≡ true) qs) →
-        All (λ (r : Question). r .reply ≡ true) (q ∷ qs)
-    go true e h rest = (e, rest h)
-    go false e h rest = absurd (omega (arith, p .0))
-
-pub yes-all : (qs : List Question) → All (λ (q : Question). q .reply ≡ true) qs → firstNo qs ≡ 0
-yes-all [] a = refl
-yes-all (q ∷ qs) a = subst (λ (b : Bool). pick b (firstNo qs) (q .number) ≡ 0) (sym (a .0)) (yes-all qs (a .1))
+-- a fine state has an entry for each task
+pub fine-length : {speeds : List ℕ} {ts : List Task} {s : State} → FineEntries speeds ts s → length (s .entries) ≡ length ts
+fine-length {s = s} f = sym (length-planIn s) ∙ ap length (f .plan)
 
 -- an entry
 pub record FineEntry (speed : ℕ) (e : Entry) : Type 0 where
@@ -98,11 +82,13 @@ sound-fine speeds s h =
       subst (λ (n : ℕ). FineList speeds n ts) (sym (length-planIn s))
           (fine-list speeds (length (s .entries)) ts (eqb-true (firstNo (judging speeds (length (s .entries)) ts)) 0 (both-left a (both b (both c d)) h))),
       record {
-        plan = refl;
-        clock = leb-true (s .clock) largestClock (both-left b (both c d) k);
-        work = λ i q. subst (λ (t : Task). workOf s i ≤ t .worst) (sym (planIn-at s i)) (entry i q .work);
-        remaining = λ i q. subst (λ (t : Task). remainingOf s i ≤ need (nominalSpeed speeds ts) (t .worst)) (sym (planIn-at s i)) (entry i q .remaining);
-        ahead = λ i q. entry i q .ahead;
+        entries = record {
+          plan = refl;
+          clock = leb-true (s .clock) largestClock (both-left b (both c d) k);
+          work = λ i q. subst (λ (t : Task). workOf s i ≤ t .worst) (sym (planIn-at s i)) (entry i q .work);
+          remaining = λ i q. subst (λ (t : Task). remainingOf s i ≤ need (nominalSpeed speeds ts) (t .worst)) (sym (planIn-at s i)) (entry i q .remaining);
+          ahead = λ i q. entry i q .ahead;
+        };
         order = both-right c d l;
       },
     )
@@ -114,7 +100,7 @@ pub fine-sound :
     Fine speeds ts s →
     stateSound speeds s ≡ true
 fine-sound speeds ts s l f =
-    subst (λ (us : List Task). FineList speeds (length us) us → Fine speeds us s → stateSound speeds s ≡ true) (f .plan) own l f
+    subst (λ (us : List Task). FineList speeds (length us) us → Fine speeds us s → stateSound speeds s ≡ true) (f .entries .plan) own l f
   where
     own : FineList speeds (length (planIn s)) (planIn s) → Fine speeds (planIn s) s → stateSound speeds s ≡ true
     own l f =
@@ -123,24 +109,16 @@ fine-sound speeds ts s l f =
         both-true
         (eq-eqb (firstNo (judging speeds (length (s .entries)) (planIn s))) 0
         (list-yes speeds (length (s .entries)) (planIn s) (subst (λ (n : ℕ). FineList speeds n (planIn s)) m l)))
-        (both-true (le-leb (s .clock) largestClock (f .clock))
+        (both-true (le-leb (s .clock) largestClock (f .entries .clock))
         (both-true
         (at-every (entrySound v) (s .entries) noEntry
         (λ i q. entry-sound v (getD (s .entries) i noEntry)
         (record {
-          work = subst (λ (t : Task). workOf s i ≤ t .worst) (planIn-at s i) (f .work i (omega arith));
-          remaining = subst (λ (t : Task). remainingOf s i ≤ need v (t .worst)) (planIn-at s i) (f .remaining i (omega arith));
-          ahead = f .ahead i (omega arith);
+          work = subst (λ (t : Task). workOf s i ≤ t .worst) (planIn-at s i) (f .entries .work i (omega arith));
+          remaining = subst (λ (t : Task). remainingOf s i ≤ need v (t .worst)) (planIn-at s i) (f .entries .remaining i (omega arith));
+          ahead = f .entries .ahead i (omega arith);
         })))
         (f .order)))
-
--- a test that counts only where another passes
-only-if : (a b : Bool) → (a ≡ true → b ≡ true) → pick a b true ≡ true
-only-if true b h = h refl
-only-if false b h = refl
-
-if-so : (a b : Bool) → pick a b true ≡ true → a ≡ true → b ≡ true
-if-so a b h e = subst (λ (t : Bool). pick t b true ≡ true) e h
 
 -- the time that a pass may take of the running job
 time-most : (finished : Bool) (d t : ℕ) → pick finished (leb d t) (ltb d t) ≡ true → d ≤ t
@@ -156,16 +134,14 @@ time-test false d t h k = le-leb (suc d) t (k refl)
 
 module _ (speeds : List ℕ) (s : State) (d : ℕ) (finished : Bool) where
   -- the time test of a running job
-  timely : Bool
+  abbrev timely : Bool
   timely = pick finished (leb d (runningTime speeds s)) (ltb d (runningTime speeds s))
 
   -- a pass that the questions let through is accepted
   pub accepted : firstNo (passQuestions speeds s d finished) ≡ 0 → Accepted speeds (timing speeds (planIn s)) s d finished
-  unfolding timely
   accepted h =
       let next : ℕ = nextArrival (timing speeds (planIn s)) (s .clock) in
-      let a : All (λ (q : Question). q .reply ≡ true) (passQuestions speeds s d finished) =
-      all-yes (passQuestions speeds s d finished) (omega arith) h in
+      let a : Yes (passQuestions speeds s d finished) = all-yes (passQuestions speeds s d finished) refl h in
       record {
         some = leb-true 1 d (a .0);
         within = leb-true d next (a .1 .0);
@@ -177,7 +153,6 @@ module _ (speeds : List ℕ) (s : State) (d : ℕ) (finished : Bool) where
 
   -- and the questions let an accepted pass through
   pub questions-yes : Accepted speeds (timing speeds (planIn s)) s d finished → firstNo (passQuestions speeds s d finished) ≡ 0
-  unfolding timely
   questions-yes f =
       let next : ℕ = nextArrival (timing speeds (planIn s)) (s .clock) in
       yes-all (passQuestions speeds s d finished) (
@@ -194,22 +169,6 @@ module _ (speeds : List ℕ) (s : State) (d : ℕ) (finished : Bool) where
         ),
       )
 
--- the order of a sound state: its task is 255 or that of an open job, and its level is at most the highest
-module _ (speeds : List ℕ) (τ : Timing) (highest : ℕ) (s : State) where
-  pub order-task : (q : List Pending) → orderSound speeds τ highest s q ≡ true → ((e : Pending) → In e q → e .job .task < 256) → s .task < 256
-  order-task [] h small = omega (arith, eqb-true (s .task) 255 (both-left (eqb (s .task) 255) (eqb (s .level) 0) h))
-  order-task (e ∷ q) h small =
-      let rest : Bool =
-      both (leb (s .level) highest) (leb (need (speedOf speeds (s .level)) (workOf s (s .task))) (allowance τ s (s .task))) in
-      omega (arith, eqb-true (s .task) (e .job .task) (both-left (eqb (s .task) (e .job .task)) rest h), small e (inl refl))
-
-  pub order-level : (q : List Pending) → orderSound speeds τ highest s q ≡ true → s .level ≤ highest
-  order-level [] h = omega (arith, eqb-true (s .level) 0 (both-right (eqb (s .task) 255) (eqb (s .level) 0) h))
-  order-level (e ∷ q) h =
-      let a : Bool = leb (s .level) highest in
-      let b : Bool = leb (need (speedOf speeds (s .level)) (workOf s (s .task))) (allowance τ s (s .task)) in
-      leb-true (s .level) highest (both-left a b (both-right (eqb (s .task) (e .job .task)) (both a b) h))
-
 -- a fine state fits its block
 pub fine-storable :
     (speeds : List ℕ) (ts : List Task) (s : State) →
@@ -219,27 +178,27 @@ pub fine-storable :
     Fine speeds ts s →
     Storable s
 fine-storable speeds ts s l rising few f =
-    let τ : Timing = timing speeds ts in
-    let q : List Pending = openJobs τ s in
-    let n : length (s .entries) ≡ length ts = sym (length-planIn s) ∙ ap length (f .plan) in
+    let o : Ordered speeds (timing speeds ts) (nominal speeds ts) s = order-facts speeds (timing speeds ts) (nominal speeds ts) s (f .order) in
+    let n : length (s .entries) ≡ length ts = fine-length (f .entries) in
     record {
-      clock = omega (arith, f .clock);
-      task = order-task speeds τ (nominal speeds ts) s q (f .order) small;
-      level = omega (arith, order-level speeds τ (nominal speeds ts) s q (f .order), l .tasks .admitted);
+      clock = omega (arith, f .entries .clock);
+      task = task o;
+      level = level o;
       count = omega (arith, l .count-high);
       entries = λ i k. entry i (omega arith);
     }
   where
-    -- an open job is of one of the tasks
-    small : (e : Pending) → In e (openJobs (timing speeds ts) s) → e .job .task < 256
-    small e m =
-        let w : Stands (timing speeds ts) (s .clock) (workOf s) (length ts) e =
-        queueOf-in (timing speeds ts) (s .clock) (workOf s) (length ts) e m in
-        omega (arith, ap (λ (p : Pending). p .job .task) (w .is), w .below, l .count-high)
+    task : Ordered speeds (timing speeds ts) (nominal speeds ts) s → s .task < 256
+    task (idles t h none) = omega arith
+    task (runs r) = omega (arith, r .below, l .count-high)
+
+    level : Ordered speeds (timing speeds ts) (nominal speeds ts) s → s .level < 256
+    level (idles t h none) = omega arith
+    level (runs r) = omega (arith, r .level, l .tasks .admitted)
 
     -- an entry's plan
     same : (i : ℕ) → getD ts i noTask ≡ taskOf (getD (s .entries) i noEntry)
-    same i = ap (λ (us : List Task). getD us i noTask) (sym (f .plan)) ∙ planIn-at s i
+    same i = ap (λ (us : List Task). getD us i noTask) (sym (f .entries .plan)) ∙ planIn-at s i
 
     entry : (i : ℕ) → i < length ts → StorableEntry (getD (s .entries) i noEntry)
     entry i k =
@@ -248,6 +207,6 @@ fine-storable speeds ts s l rising few f =
         record {
           period = omega (arith, r .period-high);
           worst = omega (arith, r .worst-high);
-          work = omega (arith, r .worst-high, f .work i k);
-          remaining = omega (arith, f .remaining i k, allotment-short speeds ts l rising i k);
+          work = omega (arith, r .worst-high, f .entries .work i k);
+          remaining = omega (arith, f .entries .remaining i k, allotment-short speeds ts l rising i k);
         }

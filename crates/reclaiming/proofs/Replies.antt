@@ -1,0 +1,43 @@
+-- Replies: an order that stands in a state, as the reply that it is, and replies that are no refusals.
+-- Assumes nothing.
+use Prim.Native.Nat.{ℕ, zero, suc}
+use mathlib.Core.Path.{_≡_, refl, sym}
+use Rattle.arith.specs.Choice.{pick}
+use Rattle.arith.proofs.Tests.{eq-yes, eq-not, testEq}
+use Rattle.reclaiming.specs.declared.Reply.{Reply}
+use Rattle.reclaiming.specs.declared.Reply.the-variants as reply
+use Rattle.reclaiming.specs.StateBlock.{State}
+use Rattle.reclaiming.specs.Orders.{orderWith}
+use Rattle.reclaiming.specs.Calls.{repliedBy, refusalOf}
+use Rattle.reclaiming.specs.Run.{namedBy}
+use Rattle.reclaiming.specs.Promises.{holdIn, orderAfter}
+
+-- it is to stay idle, or to run the state's task at its level
+pub data OrderView (s : State) (hold : ℕ) : Reply → Type 0 where
+  is-idle : s .task ≡ 255 → OrderView s hold (reply.Idle hold)
+  is-run : (s .task ≡ 255 → ⊥) → OrderView s hold (reply.Run (s .task) (s .level) hold)
+
+pub viewOrder : (s : State) (hold : ℕ) → OrderView s hold (orderWith s hold)
+viewOrder s hold =
+    elim (testEq (s .task) 255) as (λ t _. OrderView s hold (pick t (reply.Idle hold) (reply.Run (s .task) (s .level) hold)))
+    [ eq-yes e ↦ is-idle e | eq-not e ↦ is-run e ]
+
+-- what is read off it
+module _ (s : State) (hold : ℕ) where
+  pub order-accepted : refusalOf (orderWith s hold) ≡ 0
+  order-accepted = elim (viewOrder s hold) as (λ r _. refusalOf r ≡ 0) [ is-idle e ↦ refl | is-run e ↦ refl ]
+
+  pub order-named : (last : ℕ) → namedBy (orderWith s hold) last ≡ s .task
+  order-named last = elim (viewOrder s hold) as (λ r _. namedBy r last ≡ s .task) [ is-idle e ↦ sym e | is-run e ↦ refl ]
+
+  pub order-held : holdIn (orderWith s hold) ≡ hold
+  order-held = elim (viewOrder s hold) as (λ r _. holdIn r ≡ hold) [ is-idle e ↦ refl | is-run e ↦ refl ]
+
+  -- it takes the place of the last one
+  pub order-stands : (last : Reply) → orderAfter last (orderWith s hold) ≡ orderWith s hold
+  order-stands last = elim (viewOrder s hold) as (λ r _. orderAfter last r ≡ r) [ is-idle e ↦ refl | is-run e ↦ refl ]
+
+-- a reply that is no refusal had no question answered no
+pub not-refused : (n : ℕ) (order : Reply) → refusalOf (repliedBy n order) ≡ 0 → n ≡ 0
+not-refused zero order h = refl
+not-refused (suc n) order h = h
