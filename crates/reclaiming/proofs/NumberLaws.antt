@@ -2,38 +2,37 @@
 -- Assumes nothing.
 use Prim.Native.Nat.{ℕ, zero, suc, _-_, _*_, _%_, _^_, _<_, _≤_}
 use mathlib.Core.Bool.{Bool, true, false}
-use mathlib.Core.Path.{_≡_, refl, sym, subst, ap}
+use mathlib.Core.Path.{_≡_, refl, sym, subst}
 use mathlib.Core.List.{List, [], _∷_}
 use native.Mathlib.Omega.{arith}
 use borrow.Author.Tests.{leb-true}
-use lib.Dec.{leb, eqb}
-use lib.ListN.{length, drop}
+use lib.Dec.{leb}
+use lib.ListN.{length}
 use Rattle.arith.specs.Choice.{pick, every}
-use Rattle.arith.specs.Bits.{unpacked}
-use Rattle.arith.proofs.Tests.{passed, failed, tested, eq-yes, eq-not, testEq, both-left, both-right}
+use Rattle.arith.proofs.Tests.{both-left, both-right}
 use Rattle.plan.specs.declared.Task.{Task}
 use Rattle.plan.specs.declared.Written.{Written}
 use Rattle.plan.specs.Levels.{baseSpeeds}
-use Rattle.plan.specs.Blocks.{tasksIn, countIn}
+use Rattle.plan.specs.Blocks.{tasksIn}
 use Rattle.plan.specs.Questions.{reading, roomQuestion}
 use Rattle.arith.specs.Asking.{Question, firstNo}
 use Rattle.plan.specs.Answers.{writtenBy}
 use Rattle.plan.specs.Numbers.{writtenNumber}
-use Rattle.plan.proofs.Facts.{FineList, FineBlock, fine-block}
+use Rattle.plan.proofs.Facts.{FineList, fine-block, block-list}
 use Rattle.plan.proofs.LevelLaws.{baseRising}
-use Rattle.plan.proofs.BlockBits.{length-tasksFrom}
 use Rattle.arith.proofs.QuestionLaws.{yes-of}
-use Rattle.schedule.specs.PlainSchedule.{Timing, Pending, moreUrgent, enqueue, queueOf}
-use Rattle.schedule.proofs.QueueLaws.{latestPending}
+use Rattle.schedule.specs.PlainSchedule.{Timing, Pending}
+use Rattle.schedule.proofs.QueueLaws.{queueOf-length}
 use Rattle.reclaiming.specs.declared.Reply.{Reply}
-use Rattle.reclaiming.specs.declared.Reply.the-variants as reply
 use Rattle.reclaiming.specs.StateBlock.{State, planIn, timing, decode, laidOut, remainingOf}
 use Rattle.reclaiming.specs.Orders.{nextArrival, holdOf, orderWith}
 use Rattle.reclaiming.specs.Passes.{startState, passedState}
 use Rattle.reclaiming.specs.Questions.{sound, stateSound, passQuestions, passing, showing, starting}
-use Rattle.reclaiming.specs.Calls.{repliedBy, startNumber, startOrder, startReply, passNumber, passOrder, passReply, queueBytes, readyQueue, shownBytes, showNumber, showReply}
+use Rattle.reclaiming.specs.Calls.{repliedBy, startNumber, startOrder, startReply, passNumber, passOrder, passReply}
+use Rattle.reclaiming.specs.Calls.{queueBytes, readyQueue, shownBytes, showNumber, showReply}
 use Rattle.reclaiming.specs.Numbers.{replyNumber}
 use Rattle.reclaiming.proofs.Fine.{Fine}
+use Rattle.reclaiming.proofs.Replies.{is-idle, is-run, viewOrder}
 use Rattle.reclaiming.proofs.Plans.{task-range}
 use Rattle.reclaiming.proofs.StateCodec.{Storable}
 use Rattle.reclaiming.proofs.Soundness.{fine-storable, sound-fine, accepted, length-planIn}
@@ -63,8 +62,7 @@ first-yes false rest n h = absurd (omega arith)
 -- so do replies: an order's task and level fit a byte each, and its hold is at most a period
 order-most : (s : State) (hold : ℕ) → s .task < 256 → s .level < 256 → hold ≤ 65535 → replyNumber (orderWith s hold) < 2 ^ 64
 order-most s hold t l h =
-    elim (testEq (s .task) 255) as (λ b _. replyNumber (pick b (reply.Idle hold) (reply.Run (s .task) (s .level) hold)) < 2 ^ 64)
-    [ eq-yes e ↦ omega arith | eq-not e ↦ omega arith ]
+    elim (viewOrder s hold) as (λ r _. replyNumber r < 2 ^ 64) [ is-idle e ↦ omega arith | is-run e ↦ omega arith ]
 
 fine-most :
     (ts : List Task) (s : State) →
@@ -93,11 +91,8 @@ start-most block room r e =
     order z =
         let ts : List Task = tasksIn block in
         let s : State = startState baseSpeeds ts in
-        let f : FineBlock baseSpeeds block =
-        fine-block baseSpeeds block (yes-of (reading baseSpeeds block) (roomQuestion 200 room ∷ []) z) in
-        let n : length ts ≡ countIn block = length-tasksFrom (countIn block) (drop 9 (unpacked block)) in
         let plan : FineList baseSpeeds (length ts) ts =
-        record { count-low = omega (arith, f .count-low); count-high = omega (arith, f .count-high); tasks = f .tasks } in
+        block-list baseSpeeds block (fine-block baseSpeeds block (yes-of (reading baseSpeeds block) (roomQuestion 200 room ∷ []) z)) in
         let fine : Fine baseSpeeds ts s = start-fine baseSpeeds ts plan baseRising in
         subst (λ (us : List Task). replyNumber (orderWith s (holdOf baseSpeeds (timing baseSpeeds us) s)) < 2 ^ 64) (sym (fine .entries .plan))
         (fine-most ts s plan fine)
@@ -124,20 +119,7 @@ pass-most bytes d finished r e =
         subst (λ (hold : ℕ). replyNumber (orderWith next hold) < 2 ^ 64) (sym (pass-hold baseSpeeds baseRising ts (f .0) s (f .1) d finished ok))
         (fine-most ts next (f .0) (pass-fine baseSpeeds baseRising ts (f .0) s (f .1) d finished ok))
 
--- a queue has at most one entry for each task, of three bytes each
-enqueue-length : (τ : Timing) (e : Pending) (q : List Pending) → length (enqueue τ e q) ≡ suc (length q)
-enqueue-length τ e [] = refl
-enqueue-length τ e (f ∷ q) =
-    elim (tested (moreUrgent τ (f .job) (e .job))) as (λ b _. length (pick b (f ∷ enqueue τ e q) (e ∷ f ∷ q)) ≡ suc (suc (length q)))
-    [ passed ↦ ap suc (enqueue-length τ e q) | failed ↦ refl ]
-
-queueOf-length : (τ : Timing) (t : ℕ) (left : ℕ → ℕ) (n : ℕ) → length (queueOf τ t left n) ≤ n
-queueOf-length τ t left zero = omega arith
-queueOf-length τ t left (suc n) =
-    let q : List Pending = queueOf τ t left n in
-    elim (tested (eqb (left n) 0)) as (λ b _. length (pick b q (enqueue τ (latestPending τ t left n) q)) ≤ suc n)
-    [ passed ↦ omega (arith, queueOf-length τ t left n) | failed ↦ omega (arith, queueOf-length τ t left n, enqueue-length τ (latestPending τ t left n) q) ]
-
+-- a queue is shown as three bytes for each entry
 queueBytes-length : (q : List Pending) → length (queueBytes q) ≡ 3 * length q
 queueBytes-length [] = refl
 queueBytes-length (e ∷ q) = omega (arith, queueBytes-length q)
