@@ -70,18 +70,12 @@ sum-none : (n x : ℕ) (f : ℕ → ℕ) → n ≤ x → sumTo n (λ j. pick {A 
 sum-none zero x f h = refl
 sum-none (suc n) x f h =
     elim (testEq n x) as (λ b _. sumTo n (λ j. pick {A = ℕ} (eqb j x) (f j) 0) + pick {A = ℕ} b (f n) 0 ≡ 0) [
-      | eq-yes e ↦ absurd (apart e)
+      | eq-yes e ↦ absurd (omega arith)
       | eq-not e ↦ omega (arith, sum-none n x f (omega arith))
     ]
-  where
-    apart : n ≡ x → ⊥
-    apart e = omega arith
 
 pub sum-one : (n x : ℕ) (f : ℕ → ℕ) → x < n → sumTo n (λ j. pick {A = ℕ} (eqb j x) (f j) 0) ≡ f x
-sum-one zero x f h = absurd (none h)
-  where
-    none : x < 0 → ⊥
-    none k = omega arith
+sum-one zero x f h = absurd (omega arith)
 sum-one (suc n) x f h =
     elim (testEq n x) as (λ b _. sumTo n (λ j. pick {A = ℕ} (eqb j x) (f j) 0) + pick {A = ℕ} b (f n) 0 ≡ f x) [
       | eq-yes e ↦ omega (arith, sum-none n x f (omega arith), ap f e)

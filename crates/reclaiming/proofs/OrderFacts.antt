@@ -113,10 +113,7 @@ module _ (speeds : List ℕ) (τ : Timing) (highest : ℕ) (s : State) where
       go [] e (runs r) = absurd (entry-in τ (s .clock) (workOf s) (τ .count) [] e (s .task) (r .below) (r .work))
       go (f ∷ q) e (idles t l z) =
           absurd
-          (none (head-left τ (s .clock) (workOf s) (τ .count) f q e) (z (f .job .task) (head-below τ (s .clock) (workOf s) (τ .count) f q e)))
-        where
-          none : 0 < workOf s (f .job .task) → workOf s (f .job .task) ≡ 0 → ⊥
-          none h k = omega arith
+          (omega (arith, head-left τ (s .clock) (workOf s) (τ .count) f q e, z (f .job .task) (head-below τ (s .clock) (workOf s) (τ .count) f q e)))
       go (f ∷ q) e (runs r) =
           both-true (eq-eqb (s .task) (f .job .task) (head (ℕ-discrete (s .task) (f .job .task))))
           (both-true (le-leb (s .level) highest (r .level)) (le-leb (runningTime speeds s) (allowance τ s (s .task)) (r .meets)))

@@ -47,10 +47,7 @@ module _ (τ : Timing) (t : ℕ) (q : List Pending) where
   -- the new jobs are in it, and the old entries stay
   pub in-arrive : (n : ℕ) (e : Pending) → In e q ⊎ New τ t n e → In e (arrive τ t n q)
   in-arrive zero e (inl m) = m
-  in-arrive zero e (inr a) = absurd (none (a .below))
-    where
-      none : a .number < 0 → ⊥
-      none h = omega arith
+  in-arrive zero e (inr a) = absurd (omega (arith, a .below))
   in-arrive (suc i) e m =
       elim (testEq (t % τ .period i) 0) as (λ b _. In e (pick b (enqueue τ (newJob τ t i) (arrive τ t i q)) (arrive τ t i q))) [
         | eq-yes h ↦ in-enqueue τ (newJob τ t i) (arrive τ t i q) e (elim (split m) [ inl k ↦ inr (in-arrive i e k) | inr x ↦ inl (x .1) ])

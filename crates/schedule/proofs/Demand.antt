@@ -128,10 +128,7 @@ none-due : (τ : Timing) (d : ℕ) (e : Pending) (q : List Pending) → Leads τ
 none-due τ d e [] l h = refl
 none-due τ d e (f ∷ q) l h =
     elim (testLe (deadline τ (f .job)) d) as (λ b _. pick {A = ℕ} b (f .remaining) 0 + due τ d q ≡ 0)
-    [ le-yes w ↦ absurd (late (in-order (l .0)) w) | le-not w ↦ omega (arith, none-due τ d e q (l .1) h) ]
-  where
-    late : deadline τ (e .job) ≤ deadline τ (f .job) → deadline τ (f .job) ≤ d → ⊥
-    late x y = omega arith
+    [ le-yes w ↦ absurd (omega (arith, in-order (l .0))) | le-not w ↦ omega (arith, none-due τ d e q (l .1) h) ]
 
 -- a tick goes to demand that is due by d, if there is any
 pub due-serve : (τ : Timing) (d : ℕ) (q : List Pending) → Sorted τ q → Positive q →
@@ -160,7 +157,4 @@ none-late τ d [] a = λ z. tt
 none-late τ d (e ∷ q) a =
     elim (testLe (deadline τ (e .job)) d)
     as (λ b _. pick {A = ℕ} b (e .remaining) 0 + due τ d q ≡ 0 → (d < deadline τ (e .job)) × All (λ (f : Pending). d < deadline τ (f .job)) q)
-    [ le-yes w ↦ λ z. absurd (nothing (a .0) z) | le-not w ↦ λ z. (w, none-late τ d q (a .1) (omega arith)) ]
-  where
-    nothing : 0 < e .remaining → e .remaining + due τ d q ≡ 0 → ⊥
-    nothing h z = omega arith
+    [ le-yes w ↦ λ z. absurd (omega (arith, a .0)) | le-not w ↦ λ z. (w, none-late τ d q (a .1) (omega arith)) ]

@@ -29,10 +29,7 @@ pub drain-zero : (q : List Pending) → Positive q → drain 0 q ≡ q
 drain-zero [] a = refl
 drain-zero (e ∷ q) a =
     elim (testLe 1 (e .remaining)) as (λ b _. pick b (taken 0 e ∷ q) (drain (0 - e .remaining) q) ≡ e ∷ q)
-    [ le-yes h ↦ ap (λ (f : Pending). f ∷ q) (taken-path e 0 (e .remaining) (sub-zero (e .remaining))) | le-not h ↦ absurd (none (a .0) h) ]
-  where
-    none : 0 < e .remaining → e .remaining < 1 → ⊥
-    none h k = omega arith
+    [ le-yes h ↦ ap (λ (f : Pending). f ∷ q) (taken-path e 0 (e .remaining) (sub-zero (e .remaining))) | le-not h ↦ absurd (omega (arith, a .0)) ]
 
 -- one tick is the plain schedule's
 pub drain-one : (q : List Pending) → Positive q → drain 1 q ≡ serve q
@@ -41,19 +38,13 @@ drain-one (e ∷ q) a =
     elim (testLe (e .remaining) 1) as (λ b _. drain 1 (e ∷ q) ≡ pick b q (taken 1 e ∷ q)) [
       | le-yes h ↦
           elim (testLe 2 (e .remaining)) as (λ b _. pick b (taken 1 e ∷ q) (drain (1 - e .remaining) q) ≡ q) [
-            | le-yes k ↦ absurd (not-both h k)
+            | le-yes k ↦ absurd (omega arith)
             | le-not k ↦ let z : 1 - e .remaining ≡ 0 = omega (arith, a .0) in ap (λ (x : ℕ). drain x q) z ∙ drain-zero q (a .1)
           ]
       | le-not h ↦
           elim (testLe 2 (e .remaining)) as (λ b _. pick b (taken 1 e ∷ q) (drain (1 - e .remaining) q) ≡ taken 1 e ∷ q)
-          [ le-yes k ↦ refl | le-not k ↦ absurd (not-neither h k) ]
+          [ le-yes k ↦ refl | le-not k ↦ absurd (omega arith) ]
     ]
-  where
-    not-both : e .remaining ≤ 1 → 2 ≤ e .remaining → ⊥
-    not-both h k = omega arith
-
-    not-neither : 1 < e .remaining → e .remaining < 2 → ⊥
-    not-neither h k = omega arith
 
 -- ticks may be taken in two parts
 pub drain-add : (a b : ℕ) (q : List Pending) → drain (a + b) q ≡ drain b (drain a q)
@@ -66,32 +57,23 @@ drain-add a b (e ∷ q) =
             | le-yes k ↦
                 elim (testLe (suc b) (e .remaining - a))
                 as (λ s _. taken (a + b) e ∷ q ≡ pick s (taken b (taken a e) ∷ q) (drain (b - (e .remaining - a)) q))
-                [ le-yes w ↦ ap (λ (f : Pending). f ∷ q) (taken-path e (a + b) (e .remaining - a - b) (omega arith)) | le-not w ↦ absurd (apart-yes k w) ]
+                [ le-yes w ↦ ap (λ (f : Pending). f ∷ q) (taken-path e (a + b) (e .remaining - a - b) (omega arith)) | le-not w ↦ absurd (omega arith) ]
             | le-not k ↦
                 elim (testLe (suc b) (e .remaining - a))
                 as (λ s _. drain (a + b - e .remaining) q ≡ pick s (taken b (taken a e) ∷ q) (drain (b - (e .remaining - a)) q)) [
-                  | le-yes w ↦ absurd (apart-not k w)
+                  | le-yes w ↦ absurd (omega arith)
                   | le-not w ↦ let z : a + b - e .remaining ≡ b - (e .remaining - a) = omega arith in ap (λ (x : ℕ). drain x q) z
                 ]
           ]
       | le-not h ↦
           elim (testLe (suc (a + b)) (e .remaining))
           as (λ s _. pick s (taken (a + b) e ∷ q) (drain (a + b - e .remaining) q) ≡ drain b (drain (a - e .remaining) q)) [
-            | le-yes k ↦ absurd (shorter h k)
+            | le-yes k ↦ absurd (omega arith)
             | le-not k ↦
                 let z : a + b - e .remaining ≡ a - e .remaining + b = omega arith in
                 ap (λ (x : ℕ). drain x q) z ∙ drain-add (a - e .remaining) b q
           ]
     ]
-  where
-    apart-yes : a + b < e .remaining → e .remaining - a < suc b → ⊥
-    apart-yes k w = omega arith
-
-    apart-not : e .remaining < suc (a + b) → b < e .remaining - a → ⊥
-    apart-not k w = omega arith
-
-    shorter : e .remaining < suc a → a + b < e .remaining → ⊥
-    shorter h k = omega arith
 
 -- e has its job from an entry of q, and ticks left
 pub record Was (q : List Pending) (e : Pending) : Type 0 where

@@ -47,10 +47,7 @@ module _ (τ : Timing) (t : ℕ) (left : ℕ → ℕ) where
 
   -- a task's entry, as a member
   entry-in : (n i : ℕ) → i < n → 0 < left i → In (latestPending τ t left i) (queueOf τ t left n)
-  entry-in zero i h k = absurd (none h)
-    where
-      none : i < 0 → ⊥
-      none x = omega arith
+  entry-in zero i h k = absurd (omega arith)
   entry-in (suc n) i h k =
       elim (testEq (left n) 0)
       as (λ b _. In (latestPending τ t left i) (pick b (queueOf τ t left n) (enqueue τ (latestPending τ t left n) (queueOf τ t left n)))) [
@@ -185,10 +182,7 @@ stood-queueOf τ t n q s a = same-members τ q (queueOf τ t (λ i. leftIn i q) 
     entry : (i : ℕ) → 0 < leftIn i q → Found i q → In (latestPending τ t (λ j. leftIn j q) i) q
     entry i h (found e m x y) =
         subst (λ (p : Pending). In p q) (λ k. record { job = (stood e m .job ∙ ap (latest τ t) x) k; remaining = y k }) m
-    entry i h (missing x b) = absurd (none h x)
-      where
-        none : 0 < leftIn i q → leftIn i q ≡ 0 → ⊥
-        none u v = omega arith
+    entry i h (missing x b) = absurd (omega arith)
 
     back : (e : Pending) → In e (queueOf τ t (λ i. leftIn i q) n) → In e q
     back e m =

@@ -22,10 +22,7 @@ each : (P : ℕ → Type 0) → P 0 → P 1 → P 2 → (i : ℕ) → i < 3 → 
 each P a b c zero h = a
 each P a b c (suc zero) h = b
 each P a b c (suc (suc zero)) h = c
-each P a b c (suc (suc (suc i))) h = absurd (none h)
-  where
-    none : suc (suc (suc i)) < 3 → ⊥
-    none k = omega arith
+each P a b c (suc (suc (suc i))) h = absurd (omega arith)
 
 -- they fill a hyperperiod of 30 ticks exactly
 pub bench-fits : Fitting bench 30

@@ -57,12 +57,9 @@ module _ (τ : Timing) (t d n : ℕ) (left : ℕ → ℕ)
     where
       stays : Stands τ t left n e → Stands τ (t + d) (renewed τ (t + d) left) n e
       stays s = elim (ℕ-discrete ((t + d) % τ .period (s .number)) 0) [
-        | yes z ↦ absurd (empty (s .some) (closed (s .number) (s .below) z))
+        | yes z ↦ absurd (omega (arith, s .some, closed (s .number) (s .below) z))
         | no z ↦ record { number = s .number; below = s .below; some = rw (not-due-old (s .number) z) (s .some); is = s .is ∙ old (s .number) (s .below) z }
       ]
-        where
-          empty : 0 < left (s .number) → left (s .number) ≡ 0 → ⊥
-          empty x y = omega arith
   to e (inr a) =
       record {
         number = a .number;
@@ -158,15 +155,12 @@ canonical-start τ h f = λ k. record { clock = 0; pending = go (τ .count) (f .
               as (λ b _.
               enqueue τ (newJob τ 0 n) (arrive τ 0 n [])
               ≡ pick b (queueOf τ 0 (τ .allotment) n) (enqueue τ (latestPending τ 0 (τ .allotment) n) (queueOf τ 0 (τ .allotment) n))) [
-                | eq-yes y ↦ absurd (empty (a n (omega arith)) y)
+                | eq-yes y ↦ absurd (omega (arith, a n (omega arith)))
                 | eq-not y ↦
                     ap₂ (enqueue τ) (λ k. record { job = record { task = n; arrival = start k }; remaining = τ .allotment n }) (go n (λ i x. a i (omega arith)))
               ]
           | eq-not z ↦ absurd (z (zero-mod (τ .period n)))
         ]
       where
-        empty : 0 < τ .allotment n → τ .allotment n ≡ 0 → ⊥
-        empty x y = omega arith
-
         start : 0 ≡ 0 / τ .period n * τ .period n
         start = rw (zero-div, zero-mul)
