@@ -1,4 +1,4 @@
--- Laws of bits: a number by its bits, packing and unpacking undo each other, and bits are read out of the bytes that cover them.
+-- Laws of bits: a number by its bits; packing and unpacking undo each other; bits are read out of the bytes that cover them.
 -- Assumes nothing.
 use Prim.Native.Nat.{ℕ, zero, suc, _+_, _-_, _*_, _/_, _%_, _^_, _<_, _≤_}
 use mathlib.Core.Path.{_≡_, refl, sym, subst, ap, ap₂, _∙_}

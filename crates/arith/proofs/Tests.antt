@@ -1,4 +1,4 @@
--- A test inside a definition, and what it tells: a view for each kind of test, to be taken apart by `elim`.
+-- A test inside a definition, and what it tells: a view for each kind of test, to be taken apart by `elim`, and laws of two tests together.
 -- Assumes nothing.
 use Prim.Native.Nat.{ℕ, suc, _≤_, _<_}
 use mathlib.Core.Path.{_≡_, subst, sym, refl}
