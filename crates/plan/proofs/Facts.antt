@@ -64,6 +64,9 @@ fine-yes speeds ts f = (
 pub fine-tasks : (speeds : List ℕ) (ts : List Task) → firstNo (taskQuestions speeds ts) ≡ 0 → FineTasks speeds ts
 fine-tasks speeds ts h = tasks-fine speeds ts (all-yes (taskQuestions speeds ts) refl h)
 
+pub tasks-yes : (speeds : List ℕ) (ts : List Task) → FineTasks speeds ts → firstNo (taskQuestions speeds ts) ≡ 0
+tasks-yes speeds ts f = yes-all (taskQuestions speeds ts) (fine-yes speeds ts f)
+
 -- a list of tasks that judging, or writing, answers with no refusal
 pub record FineList (speeds : List ℕ) (count : ℕ) (ts : List Task) : Type 0 where
   pub count-low : 1 ≤ count
