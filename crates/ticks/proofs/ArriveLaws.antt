@@ -14,95 +14,126 @@ use Rattle.arith.specs.Choice.{pick}
 use Rattle.arith.specs.Need.{need}
 use Rattle.arith.specs.Digits.{digits}
 use Rattle.plan.specs.Levels.{baseSpeeds, speedOf}
+use Rattle.orders.specs.declared.Choice.{Choice}
 use Rattle.reclaiming.specs.StateBlock.{State, noEntry, workOf, remainingOf, encode}
 use Rattle.reclaiming.specs.Passes.{workedOf}
 use Rattle.state.specs.Code.{entryIn, changed, withJobs, keyOf, deadlineIn, dueAt}
 use Rattle.ticks.specs.Code.{arrivedState, renewedKeys}
+use Rattle.orders.proofs.NeedTests.{work-short}
 use Rattle.state.proofs.BlockLaws.{changed-there, changed-else, encode-worst, encode-work, jobs-count, jobs-worst, jobs-same, jobs-eq, store-work, store-remaining}
 use Rattle.arith.proofs.ArrayLaws.{values-more}
 
--- the state whose running job is worked off, by each way out
-module _ (b : List ℕ) (task level d : ℕ) (finished : Bool) where
-  -- what is asked of a state that the bytes hold
-  abbrev pub Worked : List ℕ → Type 0
-  Worked m =
+-- m is what d ticks of an order leave of a state in b
+abbrev pub Works : List ℕ → Choice → ℕ → Bool → List ℕ → Type 0
+Works b c d finished m =
+    (s : State) →
+    b ≡ encode s →
+    c .task ≡ s .task →
+    c .level ≡ s .level →
+    length (s .entries) ≤ 16 →
+    ((s .task ≡ 255 → ⊥) → (s .task < length (s .entries)) × (workOf s (s .task) ≤ 16777215)) →
+    m ≡ encode (withJobs s (workedOf baseSpeeds s d finished) (remainingOf s))
+
+-- what the order's task has left: nothing where it finished
+abbrev leftWork : State → ℕ → Bool → ℕ → ℕ
+leftWork s d finished i = pick finished 0 (workOf s i - d * speedOf baseSpeeds (s .level))
+
+-- no task is run
+pub worked-idle : (b : List ℕ) (c : Choice) (d : ℕ) (finished : Bool) → c .task ≡ 255 → Works b c d finished b
+worked-idle b c d finished h s e t l few runs =
+    e
+    ∙ ap encode
+    (sym (jobs-same s)
+    ∙ jobs-eq s (workOf s) (workedOf baseSpeeds s d finished) (remainingOf s) (remainingOf s)
+    (λ i k. ap (λ (z : Bool). pick z (leftWork s d finished i) (workOf s i)) (sym (ne-eqb i (s .task) (λ q. omega arith))))
+    (λ i k. refl))
+
+-- an order runs one of the tasks at one of the levels, for d ticks
+pub record Running (b : List ℕ) (c : Choice) (d : ℕ) (finished : Bool) : Type 0 where
+  pub size : length b ≡ 200
+  pub short : d ≤ 65535
+  pub some : c .task ≡ 255 → ⊥
+  pub task : c .task < 16
+  pub level : c .level < 8
+
+module _ {b : List ℕ} {c : Choice} {d : ℕ} {finished : Bool} (k : Running b c d finished) where
+  -- what is stored is what the definition says of the running task
+  worked-store :
       (s : State) →
       b ≡ encode s →
-      task ≡ s .task →
-      level ≡ s .level →
-      length (s .entries) ≤ 16 →
-      ((s .task ≡ 255 → ⊥) → (s .task < length (s .entries)) × (workOf s (s .task) ≤ 16777215)) →
+      c .task ≡ s .task →
+      s .task < length (s .entries) →
+      (x : ℕ) →
+      x ≡ leftWork s d finished (c .task) →
+      {m : List ℕ} →
+      m ≡ sets b (13 + 12 * c .task) (digits 256 3 x) →
       m ≡ encode (withJobs s (workedOf baseSpeeds s d finished) (remainingOf s))
+  worked-store s e t h x v w =
+      w
+      ∙ ap (λ (l : List ℕ). sets l (13 + 12 * c .task) (digits 256 3 x)) (e ∙ ap encode (sym (jobs-same s)))
+      ∙ store-work s (workOf s) (remainingOf s) (c .task) x (omega arith)
+      ∙ ap encode
+      (jobs-eq s (changed (workOf s) (c .task) x) (workedOf baseSpeeds s d finished) (remainingOf s) (remainingOf s)
+      (λ i l. elim (ℕ-discrete i (c .task)) [
+        | yes q ↦
+            changed-there (workOf s) (c .task) x i q
+            ∙ v
+            ∙ ap (leftWork s d finished) (sym q)
+            ∙ ap (λ (z : Bool). pick z (leftWork s d finished i) (workOf s i)) (sym (eq-eqb i (s .task) (q ∙ t)))
+        | no q ↦
+            changed-else (workOf s) (c .task) x i q
+            ∙ ap (λ (z : Bool). pick z (leftWork s d finished i) (workOf s i)) (sym (ne-eqb i (s .task) (λ z. q (z ∙ sym t))))
+      ])
+      (λ i l. refl))
 
-  pub worked-idle : task ≡ 255 → Worked b
-  worked-idle h s e t l few runs =
-      e
-      ∙ ap (λ (x : State). encode x)
-      (sym (jobs-same s)
-      ∙ jobs-eq s (workOf s) (workedOf baseSpeeds s d finished) (remainingOf s) (remainingOf s)
-      (λ i k. ap (λ (z : Bool). pick z (pick finished 0 (workOf s i - d * speedOf baseSpeeds (s .level))) (workOf s i)) (sym (ne-eqb i (s .task) (λ q. omega arith))))
-      (λ i k. refl))
+  -- its job finished
+  pub worked-done : finished ≡ true → {m : List ℕ} → m ≡ sets b (13 + 12 * c .task) (digits 256 3 0) → Works b c d finished m
+  worked-done f w s e t l few runs =
+      worked-store s e t (runs (λ q. k .some (t ∙ q)) .0) 0
+      (ap (λ (y : Bool). pick y 0 (workOf s (c .task) - d * speedOf baseSpeeds (s .level))) (sym f)) w
 
-  module _ (ne : task ≡ 255 → ⊥) (m : List ℕ) (x : ℕ) (w : m ≡ sets b (13 + 12 * task) (digits 256 3 x)) where
-    -- what is stored is what the definition says of the running task
-    worked-store :
-        (s : State) →
-        b ≡ encode s →
-        task ≡ s .task →
-        length (s .entries) ≤ 16 →
-        s .task < length (s .entries) →
-        x ≡ pick finished 0 (workOf s task - d * speedOf baseSpeeds (s .level)) →
-        m ≡ encode (withJobs s (workedOf baseSpeeds s d finished) (remainingOf s))
-    worked-store s e t few h v =
-        w
-        ∙ ap (λ (l : List ℕ). sets l (13 + 12 * task) (digits 256 3 x)) (e ∙ ap (λ (y : State). encode y) (sym (jobs-same s)))
-        ∙ store-work s (workOf s) (remainingOf s) task x (omega arith)
-        ∙ ap (λ (y : State). encode y)
-        (jobs-eq s (changed (workOf s) task x) (workedOf baseSpeeds s d finished) (remainingOf s) (remainingOf s)
-        (λ i k. elim (ℕ-discrete i task) [
-          | yes q ↦
-              changed-there (workOf s) task x i q
-              ∙ v
-              ∙ ap (λ (y : ℕ). pick finished 0 (workOf s y - d * speedOf baseSpeeds (s .level))) (sym q)
-              ∙ ap (λ (z : Bool). pick z (pick finished 0 (workOf s i - d * speedOf baseSpeeds (s .level))) (workOf s i)) (sym (eq-eqb i (s .task) (q ∙ t)))
-          | no q ↦
-              changed-else (workOf s) task x i q
-              ∙ ap (λ (z : Bool). pick z (pick finished 0 (workOf s i - d * speedOf baseSpeeds (s .level))) (workOf s i)) (sym (ne-eqb i (s .task) (λ z. q (z ∙ sym t))))
-        ])
-        (λ i k. refl))
+-- it did not: the level's speed and the work that was left are read
+pub record Working (b : List ℕ) (c : Choice) (d : ℕ) (finished : Bool) (speed work : ℕ) : Type 0 where
+  pub running : Running b c d finished
+  pub goes-on : finished ≡ false
+  pub speed-is : speed ≡ speedOf baseSpeeds (c .level)
+  pub work-is : work ≡ entryIn b (c .task) .work
 
-    pub worked-done : finished ≡ true → x ≡ 0 → Worked m
-    worked-done f z s e t l few runs =
-        worked-store s e t few (runs (λ q. ne (t ∙ q)) .0)
-        (z ∙ ap (λ (y : Bool). pick y 0 (workOf s task - d * speedOf baseSpeeds (s .level))) (sym f))
+module _ {b : List ℕ} {c : Choice} {d : ℕ} {finished : Bool} {speed work : ℕ} (k : Working b c d finished speed work) where
+  pub working-fits : d * speed ≤ 65535 * 100
+  working-fits = work-short (c .level) speed (k .running .level) (k .speed-is) d (k .running .short)
 
-    pub worked-fallen :
-        finished ≡ false → (speed work : ℕ) → speed ≡ speedOf baseSpeeds level → work ≡ entryIn b task .work → x ≡ work - d * speed → Worked m
-    worked-fallen f speed work p q z s e t l few runs =
-        let r : (s .task < length (s .entries)) × (workOf s (s .task) ≤ 16777215) = runs (λ y. ne (t ∙ y)) in
-        let v : work ≡ workOf s task =
-        q
-        ∙ ap (λ (y : List ℕ). entryIn y task .work) e
-        ∙ encode-work s task (omega arith) (subst (λ (y : ℕ). workOf s y ≤ 16777215) (sym t) (r .1)) in
-        worked-store s e t few (r .0)
-        (z
-        ∙ ap₂ (λ (y u : ℕ). y - d * u) v (p ∙ ap (λ (y : ℕ). speedOf baseSpeeds y) l)
-        ∙ ap (λ (y : Bool). pick y 0 (workOf s task - d * speedOf baseSpeeds (s .level))) (sym f))
+  pub worked-fallen : {x : ℕ} → x ≡ work - d * speed → {m : List ℕ} → m ≡ sets b (13 + 12 * c .task) (digits 256 3 x) → Works b c d finished m
+  worked-fallen {x} z w s e t l few runs =
+      let r : (s .task < length (s .entries)) × (workOf s (s .task) ≤ 16777215) = runs (λ y. k .running .some (t ∙ y)) in
+      let v : work ≡ workOf s (c .task) =
+      k .work-is
+      ∙ ap (λ (y : List ℕ). entryIn y (c .task) .work) e
+      ∙ encode-work s (c .task) (omega arith) (subst (λ (y : ℕ). workOf s y ≤ 16777215) (sym t) (r .1)) in
+      worked-store (k .running) s e t (r .0) x
+      (z
+      ∙ ap₂ (λ (y u : ℕ). y - d * u) v (k .speed-is ∙ ap (speedOf baseSpeeds) l)
+      ∙ ap (λ (y : Bool). pick y 0 (workOf s (c .task) - d * speedOf baseSpeeds (s .level))) (sym (k .goes-on)))
+      w
 
--- a new job, stored
-pub renew-stored :
-    (b o m : List ℕ) (i speed worst time : ℕ) →
-    worst ≡ entryIn b i .worst →
-    o ≡ sets b (13 + 12 * i) (digits 256 3 worst) →
-    time ≡ need speed worst →
-    m ≡ sets o (16 + 12 * i) (digits 256 2 time) →
-    m
-    ≡ sets (sets b (13 + 12 * i) (digits 256 3 (entryIn b i .worst))) (16 + 12 * i) (digits 256 2 (need speed (entryIn b i .worst)))
-renew-stored b o m i speed worst time e f g h =
-    h
+-- the bytes in which task i has a new job at a speed
+abbrev renewedBytes : List ℕ → ℕ → ℕ → List ℕ
+renewedBytes b i speed =
+    sets (sets b (13 + 12 * i) (digits 256 3 (entryIn b i .worst))) (16 + 12 * i) (digits 256 2 (need speed (entryIn b i .worst)))
+
+-- what is read and stored of it: the work, then the plain ticks
+pub record Renewed (b o m : List ℕ) (i speed worst time : ℕ) : Type 0 where
+  pub worst-is : worst ≡ entryIn b i .worst
+  pub work-in : o ≡ sets b (13 + 12 * i) (digits 256 3 worst)
+  pub time-is : time ≡ need speed worst
+  pub ticks-in : m ≡ sets o (16 + 12 * i) (digits 256 2 time)
+
+pub renew-stored : {b o m : List ℕ} {i speed worst time : ℕ} → Renewed b o m i speed worst time → m ≡ renewedBytes b i speed
+renew-stored {b} {i = i} {speed} k =
+    k .ticks-in
     ∙ ap₂ (λ (l : List ℕ) (x : ℕ). sets l (16 + 12 * i) (digits 256 2 x))
-    (f ∙ ap (λ (x : ℕ). sets b (13 + 12 * i) (digits 256 3 x)) e)
-    (g ∙ ap (λ (x : ℕ). need speed x) e)
+    (k .work-in ∙ ap (λ (x : ℕ). sets b (13 + 12 * i) (digits 256 3 x)) (k .worst-is))
+    (k .time-is ∙ ap (need speed) (k .worst-is))
 
 -- a function whose values below n are another's
 abbrev upTo : (ℕ → ℕ) → (ℕ → ℕ) → ℕ → ℕ → ℕ
@@ -142,6 +173,15 @@ module _ (new old : ℕ → ℕ) where
         | no q ↦ upTo-more n j q
       ]
 
+-- m is what the arrivals at a clock make of a state in b
+abbrev pub Arrives : List ℕ → ℕ → ℕ → ℕ → List ℕ → List ℕ → Type 0
+Arrives keys count clock speed b m =
+    (s : State) →
+    b ≡ encode s →
+    length (s .entries) ≡ count →
+    ((i : ℕ) → i < count → getD (s .entries) i noEntry .worst ≤ 16777215) →
+    m ≡ encode (arrivedState keys clock speed s)
+
 -- the work and the ticks left where tasks whose deadline is the clock have new jobs
 abbrev newWork : List ℕ → ℕ → State → ℕ → ℕ
 newWork keys clock s i = pick (dueAt keys clock i) (getD (s .entries) i noEntry .worst) (workOf s i)
@@ -149,156 +189,158 @@ newWork keys clock s i = pick (dueAt keys clock i) (getD (s .entries) i noEntry 
 abbrev newLeft : List ℕ → ℕ → ℕ → State → ℕ → ℕ
 newLeft keys clock speed s i = pick (dueAt keys clock i) (need speed (getD (s .entries) i noEntry .worst)) (remainingOf s i)
 
--- a state's bytes when the tasks below i have had their turn
-abbrev Turned : List ℕ → ℕ → ℕ → State → ℕ → List ℕ
-Turned keys clock speed s i =
-    encode (withJobs s (upTo (newWork keys clock s) (workOf s) i) (upTo (newLeft keys clock speed s) (remainingOf s) i))
+-- and where the tasks below i have had their turn
+abbrev workTo : List ℕ → ℕ → State → ℕ → ℕ → ℕ
+workTo keys clock s = upTo (newWork keys clock s) (workOf s)
 
+abbrev leftTo : List ℕ → ℕ → ℕ → State → ℕ → ℕ → ℕ
+leftTo keys clock speed s = upTo (newLeft keys clock speed s) (remainingOf s)
+
+-- the bytes on the way to that
 pub record Arriving (keys : List ℕ) (count clock speed : ℕ) (b m : List ℕ) (i : ℕ) : Type 0 where
   pub size : length m ≡ 200
+  pub few : count ≤ 16
   pub below : i ≤ count
   pub so-far :
       (s : State) →
       b ≡ encode s →
       length (s .entries) ≡ count →
       ((i : ℕ) → i < count → getD (s .entries) i noEntry .worst ≤ 16777215) →
-      m ≡ Turned keys clock speed s i
+      m ≡ encode (withJobs s (workTo keys clock s i) (leftTo keys clock speed s i))
 
-module _ (keys : List ℕ) (count clock speed : ℕ) (b : List ℕ) where
-  pub arrive-none : length b ≡ 200 → Arriving keys count clock speed b b 0
-  arrive-none h = record {
-    size = h;
-    below = omega arith;
-    so-far = λ s e n r.
-        e
-        ∙ ap (λ (x : State). encode x)
-        (sym (jobs-same s)
-        ∙ jobs-eq s (workOf s) (upTo (newWork keys clock s) (workOf s) 0) (remainingOf s) (upTo (newLeft keys clock speed s) (remainingOf s) 0)
-        (λ j k. sym (upTo-past (newWork keys clock s) (workOf s) 0 j (omega arith)))
-        (λ j k. sym (upTo-past (newLeft keys clock speed s) (remainingOf s) 0 j (omega arith))));
-  }
-
-  module _ (m : List ℕ) (i : ℕ) (few : count ≤ 16) (now : Arriving keys count clock speed b m i) where
-    pub arrive-all :
-        count ≤ i →
-        (s : State) →
-        b ≡ encode s →
-        length (s .entries) ≡ count →
-        ((i : ℕ) → i < count → getD (s .entries) i noEntry .worst ≤ 16777215) →
-        m ≡ encode (arrivedState keys clock speed s)
-    arrive-all h s e n r =
-        now .so-far s e n r
-        ∙ ap (λ (x : State). encode x)
-        (jobs-eq s
-        (upTo (newWork keys clock s) (workOf s) i) (newWork keys clock s)
-        (upTo (newLeft keys clock speed s) (remainingOf s) i) (newLeft keys clock speed s)
-        (λ j k. upTo-below (newWork keys clock s) (workOf s) i j (omega arith))
-        (λ j k. upTo-below (newLeft keys clock speed s) (remainingOf s) i j (omega arith)))
-
-    module _ (h : i < count) where
-      -- task i has no new job
-      pub arrive-old :
-          (deadlineIn (getD keys i 0) ≡ clock → ⊥) → (o : List ℕ) → o ≡ m → Arriving keys count clock speed b o (i + 1)
-      arrive-old q o g =
-          let f : dueAt keys clock i ≡ false = ne-eqb (deadlineIn (getD keys i 0)) clock q in
-          record {
-            size = ap (λ (l : List ℕ). length l) g ∙ now .size;
-            below = omega arith;
-            so-far = λ s e n r.
-                g
-                ∙ now .so-far s e n r
-                ∙ ap (λ (x : State). encode x)
-                (jobs-eq s
-                (upTo (newWork keys clock s) (workOf s) i) (upTo (newWork keys clock s) (workOf s) (i + 1))
-                (upTo (newLeft keys clock speed s) (remainingOf s) i) (upTo (newLeft keys clock speed s) (remainingOf s) (i + 1))
-                (λ j k. upTo-same (newWork keys clock s) (workOf s) i (ap (λ (t : Bool). pick t (getD (s .entries) i noEntry .worst) (workOf s i)) f) j)
-                (λ j k. upTo-same (newLeft keys clock speed s) (remainingOf s) i (ap (λ (t : Bool). pick t (need speed (getD (s .entries) i noEntry .worst)) (remainingOf s i)) f) j));
-          }
-
-      -- task i has a new job
-      pub arrive-new :
-          deadlineIn (getD keys i 0) ≡ clock →
-          (o : List ℕ) →
-          o
-          ≡ sets (sets m (13 + 12 * i) (digits 256 3 (entryIn m i .worst))) (16 + 12 * i) (digits 256 2 (need speed (entryIn m i .worst))) →
-          Arriving keys count clock speed b o (i + 1)
-      arrive-new q o g =
-          let f : dueAt keys clock i ≡ true = eq-eqb (deadlineIn (getD keys i 0)) clock q in
-          record {
-            size =
-                ap (λ (l : List ℕ). length l) g
-                ∙ length-sets (sets m (13 + 12 * i) (digits 256 3 (entryIn m i .worst))) (16 + 12 * i) (digits 256 2 (need speed (entryIn m i .worst)))
-                ∙ length-sets m (13 + 12 * i) (digits 256 3 (entryIn m i .worst))
-                ∙ now .size;
-            below = omega arith;
-            so-far = λ s e n r.
-                let work : ℕ → ℕ = upTo (newWork keys clock s) (workOf s) i in
-                let left : ℕ → ℕ = upTo (newLeft keys clock speed s) (remainingOf s) i in
-                let worst : ℕ = getD (s .entries) i noEntry .worst in
-                let z : length (withJobs s work left .entries) ≡ count = jobs-count s work left ∙ n in
-                let v : getD (withJobs s work left .entries) i noEntry .worst ≡ worst = jobs-worst s work left i (omega arith) in
-                let u : entryIn m i .worst ≡ worst =
-                ap (λ (l : List ℕ). entryIn l i .worst) (now .so-far s e n r)
-                ∙ encode-worst (withJobs s work left) i (omega arith) (omega (arith, r i h))
-                ∙ v in
-                g
-                ∙ ap₂ (λ (l : List ℕ) (x : ℕ). sets (sets l (13 + 12 * i) (digits 256 3 x)) (16 + 12 * i) (digits 256 2 (need speed x))) (now .so-far s e n r) u
-                ∙ ap (λ (l : List ℕ). sets l (16 + 12 * i) (digits 256 2 (need speed worst))) (store-work s work left i worst (omega arith))
-                ∙ store-remaining s (changed work i worst) left i (need speed worst) (omega arith)
-                ∙ ap (λ (x : State). encode x)
-                (jobs-eq s
-                (changed work i worst) (upTo (newWork keys clock s) (workOf s) (i + 1))
-                (changed left i (need speed worst)) (upTo (newLeft keys clock speed s) (remainingOf s) (i + 1))
-                (λ j k. upTo-changed (newWork keys clock s) (workOf s) i worst (ap (λ (t : Bool). pick t worst (workOf s i)) (sym f)) j)
-                (λ j k. upTo-changed (newLeft keys clock speed s) (remainingOf s) i (need speed worst) (ap (λ (t : Bool). pick t (need speed worst) (remainingOf s i)) (sym f)) j));
-          }
-
--- the keys of the tasks below n are made
-pub record Renewing (b keys r : List ℕ) (clock n : ℕ) : Type 0 where
-  pub few : n < 16
-  pub so-far : r ≡ renewedKeys b keys n clock
-
-module _ {b keys r : List ℕ} {clock n : ℕ} (k : Renewing b keys r clock n) where
-  -- the key of a task after its turn
-  abbrev keyAfter : ℕ → ℕ
-  keyAfter i = pick (dueAt keys clock i) (keyOf (clock + entryIn b i .period) (entryIn b i .period) i) (getD keys i 0)
-
-  -- task n's job stays
-  pub renewed-old : (deadlineIn (getD keys n 0) ≡ clock → ⊥) → (o : List ℕ) → o ≡ set r n (getD keys n 0) → o ≡ renewedKeys b keys (n + 1) clock
-  renewed-old q o g =
-      let e : getD keys n 0 ≡ keyAfter n =
-      ap (λ (t : Bool). pick t (keyOf (clock + entryIn b n .period) (entryIn b n .period) n) (getD keys n 0)) (sym (ne-eqb (deadlineIn (getD keys n 0)) clock q)) in
-      g ∙ values-more 16 0 keyAfter r n (getD keys n 0) (k .few) (k .so-far) e
-
-  -- task n has a new job
-  pub renewed-new :
-      deadlineIn (getD keys n 0) ≡ clock →
-      (x period key : ℕ) →
-      period ≡ entryIn b n .period →
-      key ≡ keyOf (clock + period) period n →
-      (o : List ℕ) →
-      o ≡ set (set r n x) n key →
-      o ≡ renewedKeys b keys (n + 1) clock
-  renewed-new q x period key p e o g =
-      let new : key ≡ keyAfter n =
+pub arrive-none : {keys : List ℕ} {count clock speed : ℕ} {b : List ℕ} → length b ≡ 200 → count ≤ 16 → Arriving keys count clock speed b b 0
+arrive-none {keys} {count} {clock} {speed} h few = record {
+  size = h;
+  few = few;
+  below = omega arith;
+  so-far = λ s e n r.
       e
-      ∙ ap (λ (y : ℕ). keyOf (clock + y) y n) p
-      ∙ ap (λ (t : Bool). pick t (keyOf (clock + entryIn b n .period) (entryIn b n .period) n) (getD keys n 0)) (sym (eq-eqb (deadlineIn (getD keys n 0)) clock q)) in
-      g ∙ set-set r n x key ∙ values-more 16 0 keyAfter r n key (k .few) (k .so-far) new
+      ∙ ap encode
+      (sym (jobs-same s)
+      ∙ jobs-eq s (workOf s) (workTo keys clock s 0) (remainingOf s) (leftTo keys clock speed s 0)
+      (λ j k. sym (upTo-past (newWork keys clock s) (workOf s) 0 j (omega arith)))
+      (λ j k. sym (upTo-past (newLeft keys clock speed s) (remainingOf s) 0 j (omega arith))));
+}
+
+module _ {keys : List ℕ} {count clock speed : ℕ} {b m : List ℕ} {i : ℕ} (now : Arriving keys count clock speed b m i) where
+  pub arrive-all : count ≤ i → Arrives keys count clock speed b m
+  arrive-all h s e n r =
+      now .so-far s e n r
+      ∙ ap encode
+      (jobs-eq s (workTo keys clock s i) (newWork keys clock s) (leftTo keys clock speed s i) (newLeft keys clock speed s)
+      (λ j k. upTo-below (newWork keys clock s) (workOf s) i j (omega arith))
+      (λ j k. upTo-below (newLeft keys clock speed s) (remainingOf s) i j (omega arith)))
+
+  module _ (h : i < count) where
+    -- task i has no new job
+    pub arrive-old : (deadlineIn (getD keys i 0) ≡ clock → ⊥) → {o : List ℕ} → o ≡ m → Arriving keys count clock speed b o (i + 1)
+    arrive-old q g =
+        let f : dueAt keys clock i ≡ false = ne-eqb (deadlineIn (getD keys i 0)) clock q in
+        record {
+          size = ap length g ∙ now .size;
+          few = now .few;
+          below = omega arith;
+          so-far = λ s e n r.
+              let worst : ℕ = getD (s .entries) i noEntry .worst in
+              g
+              ∙ now .so-far s e n r
+              ∙ ap encode
+              (jobs-eq s (workTo keys clock s i) (workTo keys clock s (i + 1)) (leftTo keys clock speed s i) (leftTo keys clock speed s (i + 1))
+              (λ j k. upTo-same (newWork keys clock s) (workOf s) i (ap (λ (t : Bool). pick t worst (workOf s i)) f) j)
+              (λ j k. upTo-same (newLeft keys clock speed s) (remainingOf s) i (ap (λ (t : Bool). pick t (need speed worst) (remainingOf s i)) f) j));
+        }
+
+    -- task i has a new job
+    pub arrive-new : deadlineIn (getD keys i 0) ≡ clock → {o : List ℕ} → o ≡ renewedBytes m i speed → Arriving keys count clock speed b o (i + 1)
+    arrive-new q g =
+        let f : dueAt keys clock i ≡ true = eq-eqb (deadlineIn (getD keys i 0)) clock q in
+        record {
+          size =
+              ap length g
+              ∙ length-sets (sets m (13 + 12 * i) (digits 256 3 (entryIn m i .worst))) (16 + 12 * i) (digits 256 2 (need speed (entryIn m i .worst)))
+              ∙ length-sets m (13 + 12 * i) (digits 256 3 (entryIn m i .worst))
+              ∙ now .size;
+          few = now .few;
+          below = omega arith;
+          so-far = λ s e n r.
+              let work : ℕ → ℕ = workTo keys clock s i in
+              let left : ℕ → ℕ = leftTo keys clock speed s i in
+              let worst : ℕ = getD (s .entries) i noEntry .worst in
+              let z : length (withJobs s work left .entries) ≡ count = jobs-count s work left ∙ n in
+              let v : getD (withJobs s work left .entries) i noEntry .worst ≡ worst = jobs-worst s work left i (omega arith) in
+              let u : entryIn m i .worst ≡ worst =
+              ap (λ (l : List ℕ). entryIn l i .worst) (now .so-far s e n r)
+              ∙ encode-worst (withJobs s work left) i (omega arith) (omega (arith, r i h))
+              ∙ v in
+              g
+              ∙ ap₂ (λ (l : List ℕ) (x : ℕ). sets (sets l (13 + 12 * i) (digits 256 3 x)) (16 + 12 * i) (digits 256 2 (need speed x))) (now .so-far s e n r) u
+              ∙ ap (λ (l : List ℕ). sets l (16 + 12 * i) (digits 256 2 (need speed worst))) (store-work s work left i worst (omega arith))
+              ∙ store-remaining s (changed work i worst) left i (need speed worst) (omega arith)
+              ∙ ap encode
+              (jobs-eq s (changed work i worst) (workTo keys clock s (i + 1)) (changed left i (need speed worst)) (leftTo keys clock speed s (i + 1))
+              (λ j k. upTo-changed (newWork keys clock s) (workOf s) i worst (ap (λ (t : Bool). pick t worst (workOf s i)) (sym f)) j)
+              (λ j k.
+              upTo-changed (newLeft keys clock speed s) (remainingOf s) i (need speed worst)
+              (ap (λ (t : Bool). pick t (need speed worst) (remainingOf s i)) (sym f)) j));
+        }
 
 -- where no deadline is the clock, nothing arrives
-arrived-none :
-    (keys : List ℕ) (clock speed : ℕ) (s : State) → ((i : ℕ) → i < length (s .entries) → dueAt keys clock i ≡ false) →
-    arrivedState keys clock speed s ≡ s
-arrived-none keys clock speed s none =
-    jobs-eq s (λ i. pick (dueAt keys clock i) (getD (s .entries) i noEntry .worst) (workOf s i)) (workOf s)
-    (λ i. pick (dueAt keys clock i) (need speed (getD (s .entries) i noEntry .worst)) (remainingOf s i)) (remainingOf s)
-    (λ i h. ap (λ (b : Bool). pick b (getD (s .entries) i noEntry .worst) (workOf s i)) (none i h))
-    (λ i h. ap (λ (b : Bool). pick b (need speed (getD (s .entries) i noEntry .worst)) (remainingOf s i)) (none i h))
-    ∙ jobs-same s
-
 pub arrives-not :
-    (b keys : List ℕ) (count clock speed : ℕ) → ((i : ℕ) → i < count → dueAt keys clock i ≡ false) → (s : State) → b ≡ encode s →
-    length (s .entries) ≡ count → b ≡ encode (arrivedState keys clock speed s)
-arrives-not b keys count clock speed none s e n =
-    e ∙ ap encode (sym (arrived-none keys clock speed s (λ i h. none i (omega arith))))
+    (keys : List ℕ) (count clock speed : ℕ) → ((i : ℕ) → i < count → dueAt keys clock i ≡ false) → (b : List ℕ) → Arrives keys count clock speed b b
+arrives-not keys count clock speed none b s e n r =
+    e
+    ∙ ap encode
+    (sym (jobs-same s)
+    ∙ jobs-eq s (workOf s) (newWork keys clock s) (remainingOf s) (newLeft keys clock speed s)
+    (λ i h. ap (λ (t : Bool). pick t (getD (s .entries) i noEntry .worst) (workOf s i)) (sym (none i (omega arith))))
+    (λ i h. ap (λ (t : Bool). pick t (need speed (getD (s .entries) i noEntry .worst)) (remainingOf s i)) (sym (none i (omega arith)))))
+
+-- the keys of the tasks below n are made
+pub record Renewing (b keys : List ℕ) (count clock : ℕ) (r : List ℕ) (n : ℕ) : Type 0 where
+  pub few : count ≤ 16
+  pub below : n ≤ count
+  pub so-far : r ≡ renewedKeys b keys n clock
+
+module _ {b keys : List ℕ} {count clock : ℕ} {r : List ℕ} {n : ℕ} (now : Renewing b keys count clock r n) where
+  -- the key of a task that has a new job, and that of any task after its turn
+  abbrev newKey : ℕ → ℕ
+  newKey i = keyOf (clock + entryIn b i .period) (entryIn b i .period) i
+
+  abbrev keyAfter : ℕ → ℕ
+  keyAfter i = pick (dueAt keys clock i) (newKey i) (getD keys i 0)
+
+  pub renewed-all : count ≤ n → r ≡ renewedKeys b keys count clock
+  renewed-all h =
+      let e : n ≡ count = omega arith in
+      now .so-far ∙ ap (λ (k : ℕ). renewedKeys b keys k clock) e
+
+  module _ (h : n < count) where
+    renewed-more : {o : List ℕ} (key : ℕ) → o ≡ set r n key → key ≡ keyAfter n → Renewing b keys count clock o (n + 1)
+    renewed-more key g e = record {
+      few = now .few;
+      below = omega arith;
+      so-far = g ∙ values-more 16 0 keyAfter r n key (omega arith) (now .so-far) e;
+    }
+
+    -- task n's job stays
+    pub renewed-old :
+        (deadlineIn (getD keys n 0) ≡ clock → ⊥) → {o : List ℕ} → o ≡ set r n (getD keys n 0) → Renewing b keys count clock o (n + 1)
+    renewed-old q g =
+        renewed-more (getD keys n 0) g
+        (ap (λ (t : Bool). pick t (newKey n) (getD keys n 0)) (sym (ne-eqb (deadlineIn (getD keys n 0)) clock q)))
+
+    -- task n has a new job
+    pub renewed-new :
+        deadlineIn (getD keys n 0) ≡ clock →
+        {period key : ℕ} →
+        period ≡ entryIn b n .period →
+        key ≡ keyOf (clock + period) period n →
+        (x : ℕ) →
+        {o : List ℕ} →
+        o ≡ set (set r n x) n key →
+        Renewing b keys count clock o (n + 1)
+    renewed-new q {key = key} p e x g =
+        renewed-more key (g ∙ set-set r n x key)
+        (e
+        ∙ ap (λ (y : ℕ). keyOf (clock + y) y n) p
+        ∙ ap (λ (t : Bool). pick t (newKey n) (getD keys n 0)) (sym (eq-eqb (deadlineIn (getD keys n 0)) clock q)))

@@ -20,20 +20,24 @@ use Rattle.reclaiming.specs.StateBlock.{State, workOf, remainingOf, encode}
 use Rattle.state.specs.Code.{entryIn, fieldIn, changed, withJobs, noKey, leastKey, drainedBy}
 use Rattle.state.proofs.BlockLaws.{changed-there, changed-else, field-remaining, encode-remaining, jobs-count, jobs-remaining, jobs-same, jobs-eq, store-remaining}
 
--- what is taken from an entry and stored back, where it has more than is asked for and where it has not
-module _ (b m : List ℕ) (i ticks left : ℕ) (e : left ≡ entryIn b i .remaining) where
-  abbrev pub Took : ℕ → Type 0
-  Took r =
-      (r ≡ min ticks (entryIn b i .remaining))
-      × (m ≡ sets b (16 + 12 * i) (digits 256 2 (entryIn b i .remaining - ticks)))
+-- the ticks that entry i has left, as they are read, and the ticks that are asked of it
+pub record Asked (b : List ℕ) (i ticks left : ℕ) : Type 0 where
+  pub is : left ≡ entryIn b i .remaining
 
-  pub took-some : ticks < left → m ≡ sets b (16 + 12 * i) (digits 256 2 (left - ticks)) → Took ticks
-  took-some h k = (omega arith, k ∙ ap (λ (x : ℕ). sets b (16 + 12 * i) (digits 256 2 (x - ticks))) e)
+-- what is taken of it, and the bytes with what it keeps
+abbrev Took : List ℕ → ℕ → ℕ → List ℕ → ℕ → Type 0
+Took b i ticks m r =
+    (r ≡ min ticks (entryIn b i .remaining)) × (m ≡ sets b (16 + 12 * i) (digits 256 2 (entryIn b i .remaining - ticks)))
 
-  pub took-all : left ≤ ticks → m ≡ sets b (16 + 12 * i) (digits 256 2 0) → Took left
-  took-all h k =
+-- it has more than is asked for, or it has not
+module _ {b : List ℕ} {i ticks left : ℕ} (k : Asked b i ticks left) where
+  pub took-some : ticks < left → {m : List ℕ} → m ≡ sets b (16 + 12 * i) (digits 256 2 (left - ticks)) → Took b i ticks m ticks
+  took-some h e = (omega arith, e ∙ ap (λ (x : ℕ). sets b (16 + 12 * i) (digits 256 2 (x - ticks))) (k .is))
+
+  pub took-all : left ≤ ticks → {m : List ℕ} → m ≡ sets b (16 + 12 * i) (digits 256 2 0) → Took b i ticks m left
+  took-all h e =
       let z : 0 ≡ entryIn b i .remaining - ticks = omega arith in
-      (omega arith, k ∙ ap (λ (x : ℕ). sets b (16 + 12 * i) (digits 256 2 x)) z)
+      (omega arith, e ∙ ap (λ (x : ℕ). sets b (16 + 12 * i) (digits 256 2 x)) z)
 
 -- a sum in which one term is smaller
 sumTo-less :
@@ -100,6 +104,15 @@ module _ (keys : List ℕ) (left : ℕ → ℕ) where
         ]
       ]
 
+-- m is what d ticks leave of a state in b
+abbrev pub Drains : List ℕ → ℕ → ℕ → List ℕ → List ℕ → Type 0
+Drains keys count d b m =
+    (s : State) →
+    b ≡ encode s →
+    length (s .entries) ≡ count →
+    ((i : ℕ) → i < count → remainingOf s i ≤ 65535) →
+    m ≡ encode (withJobs s (workOf s) (drainedBy keys (remainingOf s) count d))
+
 -- a state's bytes on the way, t ticks still to be taken of d: what they will leave is what d leave of the state
 pub record Drained (s : State) (keys : List ℕ) (count d : ℕ) (m : List ℕ) (t : ℕ) : Type 0 where
   pub left : ℕ → ℕ
@@ -107,8 +120,14 @@ pub record Drained (s : State) (keys : List ℕ) (count d : ℕ) (m : List ℕ) 
   pub less : (i : ℕ) → i < count → left i ≤ remainingOf s i
   pub same : (i : ℕ) → i < count → drainedBy keys left count t i ≡ drainedBy keys (remainingOf s) count d i
 
+-- keys from which the task is read, each below `noKey`
+abbrev Telling : List ℕ → ℕ → Type 0
+Telling keys count = (i : ℕ) → i < count → (getD keys i 0 % 16 ≡ i) × (getD keys i 0 < noKey)
+
+-- the bytes on the way, whatever state they began with
 pub record Draining (keys : List ℕ) (count d : ℕ) (b m : List ℕ) (t : ℕ) : Type 0 where
   pub size : length m ≡ 200
+  pub tell : Telling keys count
   pub so-far :
       (s : State) →
       b ≡ encode s →
@@ -116,16 +135,13 @@ pub record Draining (keys : List ℕ) (count d : ℕ) (b m : List ℕ) (t : ℕ)
       ((i : ℕ) → i < count → remainingOf s i ≤ 65535) →
       Drained s keys count d m t
 
--- keys from which the task is read, each below `noKey`
-abbrev pub Telling : List ℕ → ℕ → Type 0
-Telling keys count = (i : ℕ) → i < count → (getD keys i 0 % 16 ≡ i) × (getD keys i 0 < noKey)
-
-pub drain-none : (keys : List ℕ) (count d : ℕ) (b : List ℕ) → length b ≡ 200 → Draining keys count d b b d
-drain-none keys count d b h = record {
+pub drain-none : {keys : List ℕ} {count : ℕ} (d : ℕ) {b : List ℕ} → length b ≡ 200 → Telling keys count → Draining keys count d b b d
+drain-none d h tell = record {
   size = h;
+  tell = tell;
   so-far = λ s e n r. record {
     left = remainingOf s;
-    bytes = e ∙ ap (λ (x : State). encode x) (sym (jobs-same s));
+    bytes = e ∙ ap encode (sym (jobs-same s));
     less = λ i k. omega arith;
     same = λ i k. refl;
   };
@@ -141,24 +157,30 @@ turn-later l r u x t a b e f g = omega arith
 turn-none : (l r u v : ℕ) → r ≡ l → l ≡ 0 → r - u ≡ l - v
 turn-none l r u v e f = omega arith
 
--- one entry's turn: what the ticks leave is the same, before it and after
-module _ (keys : List ℕ) (count : ℕ) (tell : Telling keys count) (left : ℕ → ℕ) (f t x : ℕ)
-    (h : f < count)
-    (before : (i : ℕ) → i < count → getD keys i 0 < getD keys f 0 → left i ≡ 0)
-    (e : x ≡ min t (left f)) where
-  abbrev rest : ℕ → ℕ
-  rest = changed left f (left f - t)
+-- what is left when t ticks are asked of task f, and what the tasks more urgent than task i have
+abbrev rest : (ℕ → ℕ) → ℕ → ℕ → ℕ → ℕ
+rest left f t = changed left f (left f - t)
 
-  abbrev ahead : (ℕ → ℕ) → ℕ → ℕ → ℕ
-  ahead g i j = pick (ltb (getD keys j 0) (getD keys i 0)) (g j) 0
+module _ (keys : List ℕ) (g : ℕ → ℕ) (i : ℕ) where
+  abbrev ahead : ℕ → ℕ
+  ahead j = pick (ltb (getD keys j 0) (getD keys i 0)) (g j) 0
 
-  ahead-yes : (g : ℕ → ℕ) (i j : ℕ) → getD keys j 0 < getD keys i 0 → ahead g i j ≡ g j
-  ahead-yes g i j l = ap (λ (b : Bool). pick {A = ℕ} b (g j) 0) (lt-ltb (getD keys j 0) (getD keys i 0) l)
+  ahead-yes : (j : ℕ) → getD keys j 0 < getD keys i 0 → ahead j ≡ g j
+  ahead-yes j l = ap (λ (b : Bool). pick {A = ℕ} b (g j) 0) (lt-ltb (getD keys j 0) (getD keys i 0) l)
 
-  ahead-not : (g : ℕ → ℕ) (i j : ℕ) → getD keys i 0 ≤ getD keys j 0 → ahead g i j ≡ 0
-  ahead-not g i j l = ap (λ (b : Bool). pick {A = ℕ} b (g j) 0) (le-ltb (getD keys j 0) (getD keys i 0) l)
+  ahead-not : (j : ℕ) → getD keys i 0 ≤ getD keys j 0 → ahead j ≡ 0
+  ahead-not j l = ap (λ (b : Bool). pick {A = ℕ} b (g j) 0) (le-ltb (getD keys j 0) (getD keys i 0) l)
 
-  rest-less : (i : ℕ) → rest i ≤ left i
+-- task f has the turn: it is the most urgent that has something left, and x of t ticks are taken of it
+record First (keys : List ℕ) (count : ℕ) (left : ℕ → ℕ) (f t x : ℕ) : Type 0 where
+  tell : Telling keys count
+  below : f < count
+  ahead-empty : (i : ℕ) → i < count → getD keys i 0 < getD keys f 0 → left i ≡ 0
+  taken : x ≡ min t (left f)
+
+-- what the ticks leave is the same, before its turn and after
+module _ {keys : List ℕ} {count : ℕ} {left : ℕ → ℕ} {f t x : ℕ} (k : First keys count left f t x) where
+  rest-less : (i : ℕ) → rest left f t i ≤ left i
   rest-less i =
       elim (ℕ-discrete i f) [
         | yes q ↦ omega (arith, changed-there left f (left f - t) i q, ap left q)
@@ -166,55 +188,55 @@ module _ (keys : List ℕ) (count : ℕ) (tell : Telling keys count) (left : ℕ
       ]
 
   -- those more urgent than the first have nothing
-  none-ahead : (g : ℕ → ℕ) → ((i : ℕ) → g i ≤ left i) → sumTo count (ahead g f) ≡ 0
+  none-ahead : (g : ℕ → ℕ) → ((i : ℕ) → g i ≤ left i) → sumTo count (ahead keys g f) ≡ 0
   none-ahead g l =
-      sumTo-none count (ahead g f)
-      (λ j k. elim (decLe (getD keys f 0) (getD keys j 0)) [
-        | yes q ↦ ahead-not g f j q
-        | no q ↦ omega (arith, ahead-yes g f j (omega arith), before j k (omega arith), l j)
+      sumTo-none count (ahead keys g f)
+      (λ j h. elim (decLe (getD keys f 0) (getD keys j 0)) [
+        | yes q ↦ ahead-not keys g f j q
+        | no q ↦ omega (arith, ahead-yes keys g f j (omega arith), k .ahead-empty j h (omega arith), l j)
       ])
 
   -- for those less urgent, what is ahead falls by what is taken
-  less-ahead : (i : ℕ) → getD keys f 0 < getD keys i 0 → sumTo count (ahead rest i) + x ≡ sumTo count (ahead left i)
+  less-ahead : (i : ℕ) → getD keys f 0 < getD keys i 0 → sumTo count (ahead keys (rest left f t) i) + x ≡ sumTo count (ahead keys left i)
   less-ahead i l =
-      sumTo-less count (ahead left i) (ahead rest i) f x h
-      (omega (arith, ahead-yes rest i f l, ahead-yes left i f l, changed-there left f (left f - t) f refl))
-      (λ j k q. ap (λ (y : ℕ). pick {A = ℕ} (ltb (getD keys j 0) (getD keys i 0)) y 0) (changed-else left f (left f - t) j q))
+      sumTo-less count (ahead keys left i) (ahead keys (rest left f t) i) f x (k .below)
+      (omega (arith, ahead-yes keys (rest left f t) i f l, ahead-yes keys left i f l, changed-there left f (left f - t) f refl, k .taken))
+      (λ j h q. ap (λ (y : ℕ). pick {A = ℕ} (ltb (getD keys j 0) (getD keys i 0)) y 0) (changed-else left f (left f - t) j q))
 
   turn-ticks : t - x + x ≡ t
   turn-ticks = omega arith
 
-  turn-left : rest f + x ≡ left f
-  turn-left = omega (arith, changed-there left f (left f - t) f refl)
+  turn-left : rest left f t f + x ≡ left f
+  turn-left = omega (arith, changed-there left f (left f - t) f refl, k .taken)
 
-  drained-step : (i : ℕ) → i < count → drainedBy keys rest count (t - x) i ≡ drainedBy keys left count t i
-  drained-step i k =
+  drained-step : (i : ℕ) → i < count → drainedBy keys (rest left f t) count (t - x) i ≡ drainedBy keys left count t i
+  drained-step i h =
       elim (ℕ-discrete i f) [
         | yes q ↦
-            subst (λ (z : ℕ). drainedBy keys rest count (t - x) z ≡ drainedBy keys left count t z) (sym q)
-            (turn-mine (left f) (rest f) (t - x) x t (sumTo count (ahead rest f)) (sumTo count (ahead left f))
+            subst (λ (z : ℕ). drainedBy keys (rest left f t) count (t - x) z ≡ drainedBy keys left count t z) (sym q)
+            (turn-mine (left f) (rest left f t f) (t - x) x t (sumTo count (ahead keys (rest left f t) f)) (sumTo count (ahead keys left f))
             turn-ticks
             turn-left
-            (none-ahead rest rest-less)
+            (none-ahead (rest left f t) rest-less)
             (none-ahead left (λ j. omega arith)))
         | no q ↦
             elim (decLe (getD keys i 0) (getD keys f 0)) [
               | yes l ↦
-                  let ne : getD keys i 0 ≡ getD keys f 0 → ⊥ = (λ z. q (sym (tell i k .0) ∙ ap (λ (y : ℕ). y % 16) z ∙ tell f h .0)) in
-                  turn-none (left i) (rest i) (t - x - sumTo count (ahead rest i)) (t - sumTo count (ahead left i))
+                  let ne : getD keys i 0 ≡ getD keys f 0 → ⊥ =
+                  (λ z. q (sym (k .tell i h .0) ∙ ap (λ (y : ℕ). y % 16) z ∙ k .tell f (k .below) .0)) in
+                  turn-none (left i) (rest left f t i) (t - x - sumTo count (ahead keys (rest left f t) i)) (t - sumTo count (ahead keys left i))
                   (changed-else left f (left f - t) i q)
-                  (before i k (omega arith))
+                  (k .ahead-empty i h (omega arith))
               | no l ↦
-                  turn-later (left i) (rest i) (t - x) x t (sumTo count (ahead rest i)) (sumTo count (ahead left i))
+                  turn-later (left i) (rest left f t i) (t - x) x t (sumTo count (ahead keys (rest left f t) i)) (sumTo count (ahead keys left i))
                   turn-ticks
                   (changed-else left f (left f - t) i q)
                   (less-ahead i (omega arith))
             ]
       ]
 
-module _ (keys : List ℕ) (count d : ℕ) (b m : List ℕ) (t : ℕ) (few : count ≤ 16) (tell : Telling keys count)
-    (now : Draining keys count d b m t) where
-  -- what the first task of a state's bytes has
+-- the two ends: no ticks are left, or no task has any left
+module _ {keys : List ℕ} {count d : ℕ} {b m : List ℕ} {t : ℕ} (now : Draining keys count d b m t) where
   module _ (s : State) (e : b ≡ encode s) (n : length (s .entries) ≡ count) (r : (i : ℕ) → i < count → remainingOf s i ≤ 65535) where
     abbrev on : Drained s keys count d m t
     on = now .so-far s e n r
@@ -227,80 +249,92 @@ module _ (keys : List ℕ) (count d : ℕ) (b m : List ℕ) (t : ℕ) (few : cou
         ∙ encode-remaining (withJobs s (workOf s) (on .left)) i (omega arith) (omega (arith, on .less i h, r i h))
         ∙ v
 
-  -- no ticks left
-  pub drain-all :
-      t ≤ 0 →
-      (s : State) →
-      b ≡ encode s →
-      length (s .entries) ≡ count →
-      ((i : ℕ) → i < count → remainingOf s i ≤ 65535) →
-      m ≡ encode (withJobs s (workOf s) (drainedBy keys (remainingOf s) count d))
-  drain-all h s e n r =
-      on s e n r .bytes
-      ∙ ap (λ (x : State). encode x)
-      (jobs-eq s (workOf s) (workOf s) (on s e n r .left) (drainedBy keys (remainingOf s) count d)
-      (λ i k. refl)
-      (λ i k. omega (arith, on s e n r .same i (omega arith))))
-
-  module _ (first : ℕ) (a : first ≡ leastKey keys (fieldIn m 16 2) count) where
-    -- no entry left
-    pub drain-out :
-        first ≡ noKey →
-        (s : State) →
-        b ≡ encode s →
-        length (s .entries) ≡ count →
-        ((i : ℕ) → i < count → remainingOf s i ≤ 65535) →
+    -- the end has come where each task keeps what it has
+    drain-end :
+        ((i : ℕ) → i < count → drainedBy keys (on .left) count t i ≡ on .left i) →
         m ≡ encode (withJobs s (workOf s) (drainedBy keys (remainingOf s) count d))
-    drain-out h s e n r =
-        on s e n r .bytes
-        ∙ ap (λ (x : State). encode x)
-        (jobs-eq s (workOf s) (workOf s) (on s e n r .left) (drainedBy keys (remainingOf s) count d)
+    drain-end keeps =
+        on .bytes
+        ∙ ap encode
+        (jobs-eq s (workOf s) (workOf s) (on .left) (drainedBy keys (remainingOf s) count d)
         (λ i k. refl)
-        (λ i k. omega (arith, on s e n r .same i (omega arith), sym (left-is s e n r i (omega arith)), sym (field-remaining m i), least-before keys (fieldIn m 16 2) count i (omega arith) (omega (arith, tell i (omega arith) .1)))))
+        (λ i k. omega (arith, keeps i (omega arith), on .same i (omega arith))))
 
-    module _ (ne : first ≡ noKey → ⊥) (f : ℕ) (p : f ≡ first % 16) where
-      found : Found keys (fieldIn m 16 2) count first
-      found =
-          subst (λ (k : ℕ). Found keys (fieldIn m 16 2) count k) (sym a)
-          (least-found keys (fieldIn m 16 2) count (omega (arith, least-most keys (fieldIn m 16 2) count)))
+  pub drain-all : t ≤ 0 → Drains keys count d b m
+  drain-all h s e n r = drain-end s e n r (λ i k. omega arith)
 
-      task-is : found .place ≡ f
-      task-is = sym (tell (found .place) (found .below) .0) ∙ ap (λ (k : ℕ). k % 16) (found .is) ∙ sym p
+  pub drain-out : {first : ℕ} → first ≡ leastKey keys (fieldIn m 16 2) count → first ≡ noKey → Drains keys count d b m
+  drain-out {first} a h s e n r =
+      drain-end s e n r
+      (λ i k.
+      let none : fieldIn m 16 2 i ≡ 0 = least-before keys (fieldIn m 16 2) count i k (omega (arith, now .tell i k .1)) in
+      let left : on s e n r .left i ≡ 0 = sym (left-is s e n r i k) ∙ sym (field-remaining m i) ∙ none in
+      omega arith)
 
-      first-below : f < count
-      first-below = omega (arith, task-is, found .below)
+-- x ticks are taken of the most urgent task that has some left, task f
+pub record Turn (keys : List ℕ) (count d : ℕ) (b m : List ℕ) (t first f x : ℕ) : Type 0 where
+  pub now : Draining keys count d b m t
+  pub least : first ≡ leastKey keys (fieldIn m 16 2) count
+  pub some : first ≡ noKey → ⊥
+  pub task : f ≡ first % 16
+  pub taken : x ≡ min t (entryIn m f .remaining)
 
-      first-some : 0 < entryIn m f .remaining
-      first-some = subst (λ (k : ℕ). 0 < k) (field-remaining m f) (subst (λ (k : ℕ). 0 < fieldIn m 16 2 k) task-is (found .some))
+module _ {keys : List ℕ} {count d : ℕ} {b m : List ℕ} {t first f x : ℕ} (k : Turn keys count d b m t first f x) where
+  found : Found keys (fieldIn m 16 2) count first
+  found =
+      subst (Found keys (fieldIn m 16 2) count) (sym (k .least))
+      (least-found keys (fieldIn m 16 2) count (omega (arith, k .least, k .some, least-most keys (fieldIn m 16 2) count)))
 
-      first-key : getD keys f 0 ≡ first
-      first-key = subst (λ (k : ℕ). getD keys k 0 ≡ first) task-is (found .is)
+  task-is : found .place ≡ f
+  task-is = sym (k .now .tell (found .place) (found .below) .0) ∙ ap (λ (n : ℕ). n % 16) (found .is) ∙ sym (k .task)
 
-      module _ (x : ℕ) (q : x ≡ min t (entryIn m f .remaining)) where
-        -- some ticks are taken
-        pub drain-less : 0 < t → t - x < t
-        drain-less h = omega (arith, first-some)
+  first-below : f < count
+  first-below = omega (arith, task-is, found .below)
 
-        pub drain-within : x ≤ t
-        drain-within = omega arith
+  first-some : 0 < entryIn m f .remaining
+  first-some = subst (λ (n : ℕ). 0 < n) (field-remaining m f) (subst (λ (n : ℕ). 0 < fieldIn m 16 2 n) task-is (found .some))
 
-        pub drain-more :
-            (o : List ℕ) → o ≡ sets m (16 + 12 * f) (digits 256 2 (entryIn m f .remaining - t)) → Draining keys count d b o (t - x)
-        drain-more o g = record {
-          size = ap (λ (l : List ℕ). length l) g ∙ length-sets m (16 + 12 * f) (digits 256 2 (entryIn m f .remaining - t)) ∙ now .size;
-          so-far = λ s e n r.
-              let left : ℕ → ℕ = on s e n r .left in
-              let z : entryIn m f .remaining ≡ left f = left-is s e n r f first-below in
-              let before : (i : ℕ) → i < count → getD keys i 0 < getD keys f 0 → left i ≡ 0 =
-              (λ i k l. sym (left-is s e n r i k) ∙ sym (field-remaining m i) ∙ least-before keys (fieldIn m 16 2) count i k (omega (arith, first-key))) in
-              let v : x ≡ min t (left f) = q ∙ ap (λ (y : ℕ). min t y) z in
-              record {
-                left = changed left f (left f - t);
-                bytes =
-                    g
-                    ∙ ap₂ (λ (l : List ℕ) (y : ℕ). sets l (16 + 12 * f) (digits 256 2 (y - t))) (on s e n r .bytes) z
-                    ∙ store-remaining s (workOf s) left f (left f - t) (omega (arith, first-below));
-                less = λ i k. omega (arith, rest-less keys count tell left f t x first-below before v i, on s e n r .less i k);
-                same = λ i k. drained-step keys count tell left f t x first-below before v i k ∙ on s e n r .same i k;
-              };
-        }
+  first-key : getD keys f 0 ≡ first
+  first-key = subst (λ (n : ℕ). getD keys n 0 ≡ first) task-is (found .is)
+
+  pub turn-less : 0 < t → t - x < t
+  turn-less h = omega (arith, first-some, k .taken)
+
+  pub turn-within : x ≤ t
+  turn-within = omega (arith, k .taken)
+
+  module _ (s : State) (e : b ≡ encode s) (n : length (s .entries) ≡ count) (r : (i : ℕ) → i < count → remainingOf s i ≤ 65535) where
+    abbrev left : ℕ → ℕ
+    left = k .now .so-far s e n r .left
+
+    read-is : (i : ℕ) → i < count → entryIn m i .remaining ≡ left i
+    read-is = left-is (k .now) s e n r
+
+    first-turn : First keys count left f t x
+    first-turn = record {
+      tell = k .now .tell;
+      below = first-below;
+      ahead-empty = λ i h l.
+          sym (read-is i h)
+          ∙ sym (field-remaining m i)
+          ∙ least-before keys (fieldIn m 16 2) count i h (omega (arith, first-key, k .least));
+      taken = k .taken ∙ ap (min t) (read-is f first-below);
+    }
+
+    turn-on : {o : List ℕ} → o ≡ sets m (16 + 12 * f) (digits 256 2 (entryIn m f .remaining - t)) → Drained s keys count d o (t - x)
+    turn-on g = record {
+      left = rest left f t;
+      bytes =
+          g
+          ∙ ap₂ (λ (l : List ℕ) (y : ℕ). sets l (16 + 12 * f) (digits 256 2 (y - t))) (k .now .so-far s e n r .bytes) (read-is f first-below)
+          ∙ store-remaining s (workOf s) left f (left f - t) (omega (arith, first-below));
+      less = λ i h. omega (arith, rest-less first-turn i, k .now .so-far s e n r .less i h);
+      same = λ i h. drained-step first-turn i h ∙ k .now .so-far s e n r .same i h;
+    }
+
+  pub turn-again : {o : List ℕ} → o ≡ sets m (16 + 12 * f) (digits 256 2 (entryIn m f .remaining - t)) → Draining keys count d b o (t - x)
+  turn-again g = record {
+    size = ap length g ∙ length-sets m (16 + 12 * f) (digits 256 2 (entryIn m f .remaining - t)) ∙ k .now .size;
+    tell = k .now .tell;
+    so-far = λ s e n r. turn-on s e n r g;
+  }

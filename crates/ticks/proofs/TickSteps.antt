@@ -12,7 +12,7 @@ use lib.Seq.{sets}
 use Rattle.arith.specs.Choice.{pick}
 use Rattle.arith.specs.Need.{need}
 use Rattle.arith.specs.Digits.{digits}
-use Rattle.plan.specs.Levels.{baseSpeeds, speedOf, nominal}
+use Rattle.plan.specs.Levels.{baseSpeeds, speedOf}
 use Rattle.plan.specs.Blocks.{noTask}
 use Rattle.schedule.specs.PlainSchedule.{Timing}
 use Rattle.reclaiming.specs.declared.Entry.{Entry}
@@ -21,10 +21,12 @@ use Rattle.reclaiming.specs.StateBlock.{State, noEntry, taskOf, workOf, remaini
 use Rattle.reclaiming.specs.Orders.{nextArrival}
 use Rattle.reclaiming.specs.Passes.{newEntry, drainedOf, workedOf, arrivesAt, entryAfter, movedState}
 use Rattle.arith.specs.Ranges.{listTo}
-use Rattle.reclaiming.specs.Questions.{sound, stateSound}
+use Rattle.reclaiming.specs.Questions.{stateSound}
 use Rattle.state.specs.Code.{timingIn, withJobs, withClock, noKey, Keyed, dueAt, drainedBy}
 use Rattle.orders.specs.Code.{choiceOf, Runnable}
 use Rattle.ticks.specs.Code.{Stepping, arrivedState}
+use Rattle.ticks.proofs.DrainLaws.{Drains}
+use Rattle.ticks.proofs.ArriveLaws.{Works, Arrives}
 use Rattle.reclaiming.proofs.Fine.{nominalSpeed}
 use Rattle.reclaiming.proofs.Soundness.{planIn-at, length-planIn}
 use Rattle.arith.proofs.RangeLaws.{listTo-same}
@@ -35,20 +37,20 @@ use Rattle.orders.proofs.SoundFacts.{entries-few, nominal-above, nominal-small,
 
 -- the steps of a state through d ticks: ticks are taken from its queue, work is done, the clock moves, jobs arrive
 module _ (s : State) (keys : List ℕ) (count d : ℕ) (finished : Bool) where
-  abbrev pub drained : State
+  abbrev drained : State
   drained = withJobs s (workOf s) (drainedBy keys (remainingOf s) count d)
 
-  abbrev pub worked : State
+  abbrev worked : State
   worked = withJobs drained (workedOf baseSpeeds drained d finished) (remainingOf drained)
 
-  abbrev pub timed : State
+  abbrev timed : State
   timed = withClock worked (s .clock + d)
 
   module _ (all : length (s .entries) ≡ count) where
-    pub drained-count : length (drained .entries) ≡ count
+    drained-count : length (drained .entries) ≡ count
     drained-count = jobs-count s (workOf s) (drainedBy keys (remainingOf s) count d) ∙ all
 
-    pub timed-count : length (timed .entries) ≡ count
+    timed-count : length (timed .entries) ≡ count
     timed-count = jobs-count drained (workedOf baseSpeeds drained d finished) (remainingOf drained) ∙ drained-count
 
     module _ (i : ℕ) (h : i < length (s .entries)) where
@@ -66,21 +68,19 @@ module _ (s : State) (keys : List ℕ) (count d : ℕ) (finished : Bool) where
 
       timed-entry : getD (timed .entries) i noEntry ≡ aged (drainedBy keys (remainingOf s) count d i)
       timed-entry =
-          let e : getD (drained .entries) i noEntry
-          ≡ record { period = getD (s .entries) i noEntry .period; worst = getD (s .entries) i noEntry .worst; work = workOf s i; remaining = drainedBy keys (remainingOf s) count d i } =
-          jobs-entry s (workOf s) (drainedBy keys (remainingOf s) count d) i h in
           jobs-entry drained (workedOf baseSpeeds drained d finished) (remainingOf drained) i drained-within
           ∙ ap (λ (x : Entry). record {
             period = x .period;
             worst = x .worst;
             work = pick (eqb i (s .task)) (pick finished 0 (x .work - d * speedOf baseSpeeds (s .level))) (x .work);
             remaining = x .remaining;
-          }) e
+          })
+          (jobs-entry s (workOf s) (drainedBy keys (remainingOf s) count d) i h)
 
-      pub timed-worst : getD (timed .entries) i noEntry .worst ≡ getD (s .entries) i noEntry .worst
+      timed-worst : getD (timed .entries) i noEntry .worst ≡ getD (s .entries) i noEntry .worst
       timed-worst = ap (λ (e : Entry). e .worst) timed-entry
 
-      pub drained-work : workOf drained i ≡ workOf s i
+      drained-work : workOf drained i ≡ workOf s i
       drained-work = jobs-work s (workOf s) (drainedBy keys (remainingOf s) count d) i h
 
 -- and in the end it is the moved state
@@ -142,7 +142,7 @@ module _ (s : State) (keys : List ℕ) (keyed : Keyed (timing baseSpeeds (planIn
         (timed-entry s keys count d finished all i h ∙ ap (aged s keys count d finished all i h) drained-same)
         ∙ renewed-is (arrivesAt τ (s .clock + d) i)
 
-  pub arrived-moved : arrivedState keys (s .clock + d) speed before ≡ movedState baseSpeeds τ s d finished
+  arrived-moved : arrivedState keys (s .clock + d) speed before ≡ movedState baseSpeeds τ s d finished
   arrived-moved =
       let n : length (before .entries) ≡ τ .count = timed-count s keys count d finished all ∙ sym all ∙ sym (length-planIn s) in
       let e : listTo (length (before .entries)) (λ i. renewedIf (dueAt keys (s .clock + d) i) (getD (before .entries) i noEntry))
@@ -225,17 +225,10 @@ moving-none {bytes} {keys} {highest} {d} k next a f i h =
 -- the block after each step: ticks are taken, work is done, the clock is stored, jobs arrive
 pub record Stepped (bytes keys : List ℕ) (highest d : ℕ) (c : Choice) (count clock speed : ℕ) (finished : Bool) (b1 b2 b3 b4 : List ℕ) : Type 0 where
   pub prepared : Prepared bytes keys highest d c count clock speed
-  pub drains :
-      (s : State) → bytes ≡ encode s → length (s .entries) ≡ count → ((i : ℕ) → i < count → remainingOf s i ≤ 65535) →
-      b1 ≡ encode (withJobs s (workOf s) (drainedBy keys (remainingOf s) count d))
-  pub works :
-      (s : State) → b1 ≡ encode s → c .task ≡ s .task → c .level ≡ s .level → length (s .entries) ≤ 16 →
-      ((s .task ≡ 255 → ⊥) → (s .task < length (s .entries)) × (workOf s (s .task) ≤ 16777215)) →
-      b2 ≡ encode (withJobs s (workedOf baseSpeeds s d finished) (remainingOf s))
+  pub drains : Drains keys count d bytes b1
+  pub works : Works b1 c d finished b2
   pub clocks : b3 ≡ sets b2 0 (digits 256 4 clock)
-  pub arrives :
-      (s : State) → b3 ≡ encode s → length (s .entries) ≡ count → ((i : ℕ) → i < count → getD (s .entries) i noEntry .worst ≤ 16777215) →
-      b4 ≡ encode (arrivedState keys clock speed s)
+  pub arrives : Arrives keys count clock speed b3 b4
 
 module _ {bytes keys : List ℕ} {highest d : ℕ} {c : Choice} {count clock speed : ℕ} {finished : Bool} {b1 b2 b3 b4 : List ℕ}
     (k : Stepped bytes keys highest d c count clock speed finished b1 b2 b3 b4) where

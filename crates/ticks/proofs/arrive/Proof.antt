@@ -16,13 +16,13 @@ abbrev μ-loop : tie.MeasureT-loop
 μ-loop block₀ keys count clock speed i₀ block i = count - i
 
 loop-holds : tie.Need-loop-holds Inv-loop μ-loop
-loop-holds c = arrive-none (c .before .args .keys .now) (c .before .args .count) (c .before .args .clock) (c .before .args .speed) (c .before .args .block .now) (c .before .pre .0 .1)
+loop-holds c = arrive-none (c .before .pre .0 .1) (c .before .pre .0 .0)
 
 mul-deadline-in : tie.Need-mul-deadline-in Inv-loop μ-loop
-mul-deadline-in c = omega (arith, c .before .before .before .pre .0 .0)
+mul-deadline-in c = omega arith
 
 element-copy-out-deadline-in : tie.Need-element-copy-out-deadline-in Inv-loop μ-loop
-element-copy-out-deadline-in c = omega (arith, c .before .before .before .pre .0 .0)
+element-copy-out-deadline-in c = omega arith
 
 deadline-in-requires : tie.Need-deadline-in-requires Inv-loop μ-loop
 deadline-in-requires c κs = c .before .before .before .before .pre .1 (c .before .before .loop .i) (c .before .loop-test .taken)
@@ -31,23 +31,24 @@ renew-requires : tie.Need-renew-requires Inv-loop μ-loop
 renew-requires c κs = search needs
 
 add-i : tie.Need-add-i Inv-loop μ-loop
-add-i c = omega (arith, c .before .before .before .before .before .before .pre .0 .0)
+add-i c = omega arith
 
 loop-less : tie.Need-loop-less Inv-loop μ-loop
 loop-less c = omega arith
 
 loop-again : tie.Need-loop-again Inv-loop μ-loop
 loop-again c =
+    let e : tie.In-loop Inv-loop μ-loop = c .before .before .before in
     ⊎-elim
-    (λ w. arrive-new (c .before .before .before .before .before .before .args .keys .now) (c .before .before .before .before .before .before .args .count) (c .before .before .before .before .before .before .args .clock) (c .before .before .before .before .before .before .args .speed) (c .before .before .before .before .before .before .args .block .now) (c .before .before .before .before .loop .block) (c .before .before .before .before .loop .i) (c .before .before .before .before .before .before .pre .0 .0) (c .before .before .before .before .loop .inv) (c .before .before .before .loop-test .taken) (sym (c .before .deadline-in .ensures) ∙ w .0 .taken) (c .if1 .block) (w .5 ∙ w .2 .ensures))
-    (λ w. arrive-old (c .before .before .before .before .before .before .args .keys .now) (c .before .before .before .before .before .before .args .count) (c .before .before .before .before .before .before .args .clock) (c .before .before .before .before .before .before .args .speed) (c .before .before .before .before .before .before .args .block .now) (c .before .before .before .before .loop .block) (c .before .before .before .before .loop .i) (c .before .before .before .before .before .before .pre .0 .0) (c .before .before .before .before .loop .inv) (c .before .before .before .loop-test .taken) (λ z. w .0 .left (c .before .deadline-in .ensures ∙ z)) (c .if1 .block) (w .1))
+    (λ w. arrive-new (e .before .loop .inv) (e .loop-test .taken) (sym (c .before .deadline-in .ensures) ∙ w .0 .taken) (w .5 ∙ w .2 .ensures))
+    (λ w. arrive-old (e .before .loop .inv) (e .loop-test .taken) (λ z. w .0 .left (c .before .deadline-in .ensures ∙ z)) (w .1))
     (c .if1 .came)
 
 same-length : tie.Need-same-length Inv-loop μ-loop
 same-length c = search needs
 
 returns : tie.Need-returns Inv-loop μ-loop
-returns c = arrive-all (c .before .before .before .args .keys .now) (c .before .before .before .args .count) (c .before .before .before .args .clock) (c .before .before .before .args .speed) (c .before .before .before .args .block .now) (c .before .loop .block) (c .before .loop .i) (c .before .before .before .pre .0 .0) (c .before .loop .inv) (c .loop-test .left)
+returns c = arrive-all (c .before .loop .inv) (c .loop-test .left)
 
 pub arrive-spec : {M : Type 1} → statement M
 arrive-spec =

@@ -16,8 +16,8 @@ returns c = search needs
 
 returns-2 : tie.Need-returns-2
 returns-2 c =
-    λ s e n w.
-    arrives-not (c .before .before .args .block .now) (c .before .before .args .keys .now) (c .before .before .args .count) (c .before .before .args .clock) (c .before .before .args .speed) (c .before .before .pre .1 .1 (c .if1 .left)) s e n
+    let s : tie.Start = c .before .before in
+    arrives-not (s .args .keys .now) (s .args .count) (s .args .clock) (s .args .speed) (s .pre .1 .1 (c .if1 .left)) (s .args .block .now)
 
 pub arrive-if-spec : {M : Type 1} → statement M
 arrive-if-spec = tie.close (tie.spec arrive-requires same-length returns returns-2)

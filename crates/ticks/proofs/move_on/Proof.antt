@@ -25,11 +25,17 @@ counted c = c .before .before .before .before .before
 abbrev start : tie.After-speed-of → tie.Start
 start c = begun (counted c)
 
+abbrev taken : tie.After-work-off → tie.After-drain
+taken c = c .before .before .before .before
+
 abbrev sped : tie.After-work-off → tie.After-speed-of
-sped c = c .before .before .before .before .before .before
+sped c = taken c .before .before
+
+abbrev clocked : tie.After-arrive-if → tie.After-put-number
+clocked c = c .before .before .before .before
 
 abbrev worked : tie.After-arrive-if → tie.After-work-off
-worked c = c .before .before .before .before .before .before .before .before
+worked c = clocked c .before .before .before .before
 
 moving : (c : tie.After-count-at) → Moving (block (begun c)) (keys (begun c)) (begun c .args .highest) (begun c .args .d) (begun c .args .c) (c .count-at .result)
 moving c = record { step = begun c .pre .0 .0; order = begun c .pre .0 .1; same = c .count-at .ensures }
@@ -60,35 +66,25 @@ speed-of-requires : tie.Need-speed-of-requires
 speed-of-requires c κs = highest-small (moving (c .before .before .before .before))
 
 drain-requires : tie.Need-drain-requires
-drain-requires c κs = (
-  (moving-few (moving (counted (c .before))), moving (counted (c .before)) .step .good .holds .size),
-  moving-keys (moving (counted (c .before))),
-)
+drain-requires c κs =
+    let k = moving (counted (c .before)) in
+    ((moving-few k, k .step .good .holds .size), moving-keys k)
 
 work-off-requires : tie.Need-work-off-requires
-work-off-requires c κs = (
-  search needs,
-  moving-short (moving (counted (c .before .before .before .before .before))),
-  order-form (moving (counted (c .before .before .before .before .before))),
-)
+work-off-requires c κs =
+    let k = moving (counted (c .before .before .before .before .before)) in
+    (search needs, moving-short k, order-form k)
 
 put-number-requires : tie.Need-put-number-requires
 put-number-requires c κs = search needs
 
 arrive-if-requires : tie.Need-arrive-if-requires
-arrive-if-requires c κs = (
-  (
-    moving-few (moving (counted (sped (c .before .before .before .before .before .before .before)))),
-    search needs,
-    speed-above (moving (counted (sped (c .before .before .before .before .before .before .before)))) _
-        (sped (c .before .before .before .before .before .before .before) .speed-of .ensures),
-  ),
-  (
-    λ i h. moving-keys (moving (counted (sped (c .before .before .before .before .before .before .before)))) i h .1,
-    moving-none (prepared (sped (c .before .before .before .before .before .before .before))) _
-        (start (sped (c .before .before .before .before .before .before .before)) .pre .1),
-  ),
-)
+arrive-if-requires c κs =
+    let p : tie.After-speed-of = sped (c .before .before .before .before .before .before .before) in
+    let k = moving (counted p) in (
+      (moving-few k, search needs, speed-above k _ (p .speed-of .ensures)),
+      (λ i h. moving-keys k i h .1, moving-none (prepared p) _ (start p .pre .1)),
+    )
 
 same-length : tie.Need-same-length
 same-length c = search needs
@@ -96,15 +92,16 @@ same-length c = search needs
 -- the block after each call
 stepped :
     (c : tie.After-arrive-if) →
-    Stepped (block (start (sped (worked c)))) (keys (start (sped (worked c)))) (start (sped (worked c)) .args .highest) (start (sped (worked c)) .args .d)
-    (start (sped (worked c)) .args .c) (counted (sped (worked c)) .count-at .result) (sped (worked c) .before .after .result .ticks)
-    (sped (worked c) .speed-of .result) (start (sped (worked c)) .args .finished)
-    (worked c .before .before .before .before .drain .last .0) (worked c .work-off .last .0) (c .before .before .before .before .put-number .last .0) (c .arrive-if .last .0)
+    let w : tie.After-work-off = worked c in
+    let p : tie.After-speed-of = sped w in
+    Stepped (block (start p)) (keys (start p)) (start p .args .highest) (start p .args .d) (start p .args .c)
+    (counted p .count-at .result) (p .before .after .result .ticks) (p .speed-of .result) (start p .args .finished)
+    (taken w .drain .last .0) (w .work-off .last .0) (clocked c .put-number .last .0) (c .arrive-if .last .0)
 stepped c = record {
   prepared = prepared (sped (worked c));
-  drains = worked c .before .before .before .before .drain .ensures;
+  drains = taken (worked c) .drain .ensures;
   works = worked c .work-off .ensures;
-  clocks = c .before .before .before .before .put-number .ensures;
+  clocks = clocked c .put-number .ensures;
   arrives = c .arrive-if .ensures;
 }
 

@@ -1,35 +1,34 @@
 -- `renewed` meets its contract. The keys of the tasks below i are made.
 -- Assumes nothing.
-use Prim.Native.Nat.{ℕ, _-_, _≤_}
-use mathlib.Core.Path.{_≡_, refl, sym, ap, _∙_}
+use Prim.Native.Nat.{_-_}
+use mathlib.Core.Path.{refl, sym, _∙_}
 use mathlib.Core.Logic.{⊎-elim}
-use Rattle.ticks.specs.Code.{renewedKeys}
 use native.Mathlib.Omega.{arith}
 use borrow.Author.Needs.{needs}
-use Rattle.ticks.proofs.ArriveLaws.{Renewing, renewed-old, renewed-new}
+use Rattle.ticks.proofs.ArriveLaws.{Renewing, renewed-old, renewed-new, renewed-all}
 use Rattle.ticks.proofs.renewed.Statement.{statement}
 use Rattle.ticks.proofs.renewed.Tie as tie
 
 abbrev Inv-loop : tie.InvT-loop
-Inv-loop block keys count clock r₀ i₀ r i = (i ≤ count) × (r ≡ renewedKeys block keys i clock)
+Inv-loop block keys count clock r₀ i₀ r i = Renewing block keys count clock r i
 
 abbrev μ-loop : tie.MeasureT-loop
 μ-loop block keys count clock r₀ i₀ r i = count - i
 
 loop-holds : tie.Need-loop-holds Inv-loop μ-loop
-loop-holds c = (omega arith, refl)
+loop-holds c = record { few = c .before .pre .0 .0; below = omega arith; so-far = refl }
 
 mul-key : tie.Need-mul-key Inv-loop μ-loop
-mul-key c = omega (arith, c .before .before .before .pre .0 .0)
+mul-key c = omega arith
 
 element-copy-out-key : tie.Need-element-copy-out-key Inv-loop μ-loop
-element-copy-out-key c = omega (arith, c .before .before .before .pre .0 .0)
+element-copy-out-key c = omega arith
 
 mul-r : tie.Need-mul-r Inv-loop μ-loop
-mul-r c = omega (arith, c .before .before .before .before .pre .0 .0)
+mul-r c = omega arith
 
 array-write-r : tie.Need-array-write-r Inv-loop μ-loop
-array-write-r c = omega (arith, c .before .before .before .before .pre .0 .0)
+array-write-r c = omega arith
 
 deadline-in-requires : tie.Need-deadline-in-requires Inv-loop μ-loop
 deadline-in-requires c κs = c .before .before .before .before .pre .1 (c .before .before .loop .i) (c .before .loop-test .taken)
@@ -44,35 +43,29 @@ key-of-requires : tie.Need-key-of-requires Inv-loop μ-loop
 key-of-requires c κs = search needs
 
 mul-r-2 : tie.Need-mul-r-2 Inv-loop μ-loop
-mul-r-2 c = omega (arith, c .before .before .before .before .before .before .before .before .pre .0 .0)
+mul-r-2 c = omega arith
 
 array-write-r-2 : tie.Need-array-write-r-2 Inv-loop μ-loop
-array-write-r-2 c = omega (arith, c .before .before .before .before .before .before .before .before .pre .0 .0)
+array-write-r-2 c = omega arith
 
 add-i : tie.Need-add-i Inv-loop μ-loop
-add-i c = omega (arith, c .before .before .before .before .before .before .pre .0 .0)
+add-i c = omega arith
 
 loop-less : tie.Need-loop-less Inv-loop μ-loop
 loop-less c = omega arith
 
--- what a turn begins with
-turn : (c : tie.In-loop Inv-loop μ-loop) → Renewing (c .before .before .before .args .block .now) (c .before .before .before .args .keys .now) (c .before .loop .r) (c .before .before .before .args .clock) (c .before .loop .i)
-turn c = record { few = omega (arith, c .loop-test .taken, c .before .before .before .pre .0 .0); so-far = c .before .loop .inv .1 }
-
 loop-again : tie.Need-loop-again Inv-loop μ-loop
-loop-again c = (
-  omega arith,
-  ⊎-elim
-      (λ w. renewed-new (turn (c .before .before .before)) (sym (c .before .deadline-in .ensures) ∙ w .0 .taken) _ (w .1 .result) (w .2 .result) (w .1 .ensures .0) (w .2 .ensures) (c .if1 .r) (w .3))
-      (λ w. renewed-old (turn (c .before .before .before)) (λ z. w .0 .left (c .before .deadline-in .ensures ∙ z)) (c .if1 .r) (w .1))
-      (c .if1 .came),
-)
+loop-again c =
+    let e : tie.In-loop Inv-loop μ-loop = c .before .before .before in
+    ⊎-elim
+    (λ w.
+    renewed-new (e .before .loop .inv) (e .loop-test .taken) (sym (c .before .deadline-in .ensures) ∙ w .0 .taken)
+    (w .1 .ensures .0) (w .2 .ensures) _ (w .3))
+    (λ w. renewed-old (e .before .loop .inv) (e .loop-test .taken) (λ z. w .0 .left (c .before .deadline-in .ensures ∙ z)) (w .1))
+    (c .if1 .came)
 
 returns : tie.Need-returns Inv-loop μ-loop
-returns c =
-    let e : c .before .loop .i ≡ c .before .before .before .args .count = omega arith in
-    c .before .loop .inv .1
-    ∙ ap (λ (n : ℕ). renewedKeys (c .before .before .before .args .block .now) (c .before .before .before .args .keys .now) n (c .before .before .before .args .clock)) e
+returns c = renewed-all (c .before .loop .inv) (c .loop-test .left)
 
 pub renewed-spec : {M : Type 1} → statement M
 renewed-spec =

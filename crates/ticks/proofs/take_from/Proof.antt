@@ -1,9 +1,15 @@
 -- `take_from` meets its contract.
 -- Assumes nothing.
-use Rattle.ticks.proofs.DrainLaws.{took-some, took-all}
+use Rattle.ticks.proofs.DrainLaws.{Asked, took-some, took-all}
 use borrow.Author.Needs.{needs}
 use Rattle.ticks.proofs.take_from.Statement.{statement}
 use Rattle.ticks.proofs.take_from.Tie as tie
+
+abbrev start : tie.After-remaining-at → tie.Start
+start c = c .before .before .before
+
+asked : (c : tie.After-remaining-at) → Asked (start c .args .block .now) (start c .args .i) (start c .args .ticks) (c .remaining-at .result)
+asked c = record { is = c .remaining-at .ensures .0 }
 
 remaining-at-requires : tie.Need-remaining-at-requires
 remaining-at-requires c κs = search needs
@@ -18,7 +24,9 @@ same-length : tie.Need-same-length
 same-length c = search needs
 
 returns : tie.Need-returns
-returns c = took-some (c .before .before .before .before .before .before .before .before .args .block .now) (c .before .before .put-remaining .last .0) (c .before .before .before .before .before .before .before .before .args .i) (c .before .before .before .before .before .before .before .before .args .ticks) (c .before .before .before .before .before .remaining-at .result) (c .before .before .before .before .before .remaining-at .ensures .0) (c .before .before .before .before .if1 .taken) (c .before .before .put-remaining .ensures)
+returns c =
+    let p : tie.After-put-remaining = c .before .before in
+    took-some (asked (p .before .before .before)) (p .before .before .if1 .taken) (p .put-remaining .ensures)
 
 put-remaining-requires-2 : tie.Need-put-remaining-requires-2
 put-remaining-requires-2 c κs = search needs
@@ -27,7 +35,9 @@ same-length-2 : tie.Need-same-length-2
 same-length-2 c = search needs
 
 returns-2 : tie.Need-returns-2
-returns-2 c = took-all (c .before .before .before .before .before .before .before .before .args .block .now) (c .before .before .put-remaining2 .last .0) (c .before .before .before .before .before .before .before .before .args .i) (c .before .before .before .before .before .before .before .before .args .ticks) (c .before .before .before .before .before .remaining-at .result) (c .before .before .before .before .before .remaining-at .ensures .0) (c .before .before .before .before .if1 .left) (c .before .before .put-remaining2 .ensures)
+returns-2 c =
+    let p : tie.After-put-remaining2 = c .before .before in
+    took-all (asked (p .before .before .before)) (p .before .before .if1 .left) (p .put-remaining2 .ensures)
 
 pub take-from-spec : {M : Type 1} → statement M
 take-from-spec =
