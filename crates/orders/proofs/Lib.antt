@@ -1,4 +1,5 @@
 pub mod NeedTests
 pub mod SoundFacts
+pub mod HeadLaws
 pub mod SoundLaws
 pub mod OrderLaws

@@ -40,7 +40,7 @@ module _ (s : State) (ok : stateSound baseSpeeds s ≡ true) where
   pub entries-few : length (s .entries) ≤ 16
   entries-few = omega (arith, sound-plan .count-high, length-planIn s)
 
-  pub entries-some : 1 ≤ length (s .entries)
+  entries-some : 1 ≤ length (s .entries)
   entries-some = omega (arith, sound-plan .count-low, length-planIn s)
 
   pub nominal-small : nominal baseSpeeds (planIn s) < 8

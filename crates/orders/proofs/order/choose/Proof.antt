@@ -5,12 +5,18 @@ use Rattle.orders.proofs.OrderLaws.{Timed, choose-next, choose-when}
 use Rattle.orders.proofs.order.choose.Statement.{statement}
 use Rattle.orders.proofs.order.choose.Tie as tie
 
-timed : (c : tie.After-clock-at) → Timed (c .before .before .before .before .before .args .block .now) (c .before .before .before .before .before .args .keys .now) (c .before .before .count-at .result) (c .clock-at .result)
+abbrev counted : tie.After-clock-at → tie.After-count-at
+counted c = c .before .before
+
+abbrev start : tie.After-clock-at → tie.Start
+start c = counted c .before .before .before
+
+timed : (c : tie.After-clock-at) → Timed (start c .args .block .now) (start c .args .keys .now) (counted c .count-at .result) (c .clock-at .result)
 timed c = record {
-  holds = c .before .before .before .before .before .pre .0 .0;
-  some = c .before .before .before .before .before .pre .0 .1;
-  keyed = c .before .before .before .before .before .pre .1;
-  same = c .before .before .count-at .ensures;
+  holds = start c .pre .0 .0;
+  some = start c .pre .0 .1;
+  keyed = start c .pre .1;
+  same = counted c .count-at .ensures;
   clock-is = c .clock-at .ensures;
 }
 
@@ -24,10 +30,11 @@ next-arrival-requires : tie.Need-next-arrival-requires
 next-arrival-requires c κs = choose-next (timed c)
 
 choose-until-requires : tie.Need-choose-until-requires
-choose-until-requires c κs = (
-  (c .before .before .before .before .before .before .before .pre .0 .0, c .before .before .before .before .before .before .before .pre .0 .2, c .before .before .before .before .before .before .before .pre .0 .3),
-  (c .before .before .before .before .before .before .before .pre .1, choose-when (timed (c .before .before)) (c .before .next-arrival .result) (c .before .next-arrival .ensures)),
-)
+choose-until-requires c κs =
+    let t : tie.After-clock-at = c .before .before in (
+      (timed t .holds, start t .pre .0 .2, start t .pre .0 .3),
+      (timed t .keyed, choose-when (timed t) (c .before .next-arrival .result) (c .before .next-arrival .ensures)),
+    )
 
 same-length : tie.Need-same-length
 same-length c = search needs

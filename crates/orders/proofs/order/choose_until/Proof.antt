@@ -5,10 +5,13 @@ use Rattle.orders.proofs.OrderLaws.{Chosen, choose-stored, choose-reply
 use Rattle.orders.proofs.order.choose_until.Statement.{statement}
 use Rattle.orders.proofs.order.choose_until.Tie as tie
 
-known : (c : tie.After-chosen) → Chosen (c .before .before .before .before .args .block .now) (c .before .before .before .before .args .next) (c .chosen .result)
+abbrev start : tie.After-chosen → tie.Start
+start c = c .before .before .before .before
+
+known : (c : tie.After-chosen) → Chosen (start c .args .block .now) (start c .args .next) (c .chosen .result)
 known c = record {
-  back = c .before .before .before .before .pre .0 .1;
-  arrival = c .before .before .before .before .pre .1 .1;
+  back = start c .pre .0 .1;
+  arrival = start c .pre .1 .1;
   choice = c .chosen .ensures .0;
   small = c .chosen .ensures .1;
 }
@@ -32,10 +35,10 @@ same-length : tie.Need-same-length
 same-length c = search needs
 
 returns : tie.Need-returns
-returns c = (
-  choose-reply (known (c .before .before .before .before .before .before)) (c .before .hold-of .result) (c .order-of .result) (c .before .hold-of .ensures) (c .order-of .ensures),
-  choose-stored (known (c .before .before .before .before .before .before)) (c .before .before .before .before .put-order .last .0) (c .before .before .before .before .put-order .ensures),
-)
+returns c =
+    let p : tie.After-put-order = c .before .before .before .before in
+    let k = known (p .before .before) in
+    (choose-reply k (c .before .hold-of .ensures) (c .order-of .ensures), choose-stored k (p .put-order .ensures))
 
 pub choose-until-spec : {M : Type 1} → statement M
 choose-until-spec =

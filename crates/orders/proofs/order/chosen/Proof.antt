@@ -5,7 +5,8 @@ use mathlib.Core.List.{List}
 use native.Mathlib.Omega.{arith}
 use Prim.Native.Nat.{ℕ}
 use borrow.Author.Needs.{needs}
-use Rattle.orders.proofs.OrderLaws.{Looked, Picked, chosen-none, chosen-task, chosen-level, chosen-small, chosen-some}
+use Rattle.orders.proofs.HeadLaws.{Looked, told-task}
+use Rattle.orders.proofs.OrderLaws.{Picked, chosen-none, chosen-level, chosen-small, chosen-some}
 use Rattle.orders.proofs.order.chosen.Statement.{statement}
 use Rattle.orders.proofs.order.chosen.Tie as tie
 
@@ -15,28 +16,38 @@ block c = c .args .block .now
 abbrev keys : tie.Start → List ℕ
 keys c = c .args .keys .now
 
-looked : (c : tie.After-most-urgent) → Looked (block (c .before .before)) (keys (c .before .before)) (c .before .before .args .count) (c .most-urgent .result)
+abbrev begun : tie.After-most-urgent → tie.Start
+begun c = c .before .before
+
+abbrev asked : tie.After-level-for → tie.After-most-urgent
+asked c = c .before .before .before .before .before
+
+abbrev start : tie.After-level-for → tie.Start
+start c = begun (asked c)
+
+looked : (c : tie.After-most-urgent) → Looked (block (begun c)) (keys (begun c)) (begun c .args .count) (c .most-urgent .result)
 looked c = record {
-  holds = c .before .before .pre .0 .0;
-  doable = c .before .before .pre .0 .2;
-  keyed = c .before .before .pre .1;
-  same = c .before .before .pre .0 .1;
+  holds = begun c .pre .0 .0;
+  keyed = begun c .pre .1;
+  same = begun c .pre .0 .1;
   found = c .most-urgent .ensures;
 }
 
-abbrev start : tie.After-level-for → tie.Start
-start c = c .before .before .before .before .before .before .before
-
 picked :
     (c : tie.After-level-for) →
-    Picked (block (start c)) (keys (start c)) (start c .args .count) (c .before .before .before .before .before .most-urgent .result)
+    Picked (block (start c)) (keys (start c)) (start c .args .count) (asked c .most-urgent .result)
     (c .before .before .before .task-in .result) (c .before .before .work-at .result) (c .before .allowance-of .result) (c .level-for .result)
 picked c = record {
-  looked = looked (c .before .before .before .before .before);
-  some = c .before .before .before .before .if1 .left;
-  task = c .before .before .before .task-in .ensures .0;
-  work-is = c .before .before .work-at .ensures .0;
-  allowed-is = c .before .allowance-of .ensures .0;
+  read = record {
+    told = record {
+      looked = looked (asked c);
+      some = c .before .before .before .before .if1 .left;
+      task = c .before .before .before .task-in .ensures .0;
+    };
+    work-in = c .before .before .work-at .ensures .0;
+    allowed-in = c .before .allowance-of .ensures .0;
+  };
+  doable = start c .pre .0 .2;
   level-is = c .level-for .ensures .0;
 }
 
@@ -59,12 +70,12 @@ level-for-requires : tie.Need-level-for-requires
 level-for-requires c κs = search needs
 
 running-order-requires : tie.Need-running-order-requires
-running-order-requires c κs = (chosen-task (picked c), chosen-level (picked c))
+running-order-requires c κs = (told-task (picked c .read .told), chosen-level (picked c))
 
 returns-2 : tie.Need-returns-2
 returns-2 c = (
   c .running-order .ensures ∙ chosen-some (picked (c .before)),
-  chosen-small (picked (c .before)) (c .running-order .result) (c .running-order .ensures),
+  chosen-small (picked (c .before)) (c .running-order .ensures),
 )
 
 pub chosen-spec : {M : Type 1} → statement M

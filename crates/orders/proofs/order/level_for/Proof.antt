@@ -4,8 +4,8 @@ use Prim.Native.Nat.{_≤_, _-_, _+_, _/_}
 use native.Mathlib.Omega.{arith}
 use Rattle.plan.specs.Levels.{baseSpeeds}
 use Rattle.reclaiming.specs.Orders.{lowestLevel}
+use Rattle.orders.proofs.NeedTests.{Tried, tried-fits}
 use Rattle.orders.proofs.OrderLaws.{level-most, level-high, level-low}
-use Rattle.orders.proofs.NeedTests.{allowed-fits}
 use Rattle.orders.proofs.order.level_for.Statement.{statement}
 use Rattle.orders.proofs.order.level_for.Tie as tie
 
@@ -14,6 +14,15 @@ Inv-loop work allowed low₀ high₀ low high = (low ≤ lowestLevel baseSpeeds 
 
 abbrev μ-loop : tie.MeasureT-loop
 μ-loop work allowed low₀ high₀ low high = high - low
+
+-- the level that a turn tries
+abbrev turn : tie.After-speed-of Inv-loop μ-loop → tie.At-loop Inv-loop μ-loop
+turn c = c .before .before
+
+tried :
+    (c : tie.After-speed-of Inv-loop μ-loop) →
+    Tried (turn c .before .args .work) (turn c .before .args .allowed) ((turn c .loop .low + turn c .loop .high) / 2) (c .speed-of .result)
+tried c = record { low = omega arith; speed-is = c .speed-of .ensures }
 
 loop-holds : tie.Need-loop-holds Inv-loop μ-loop
 loop-holds c = (omega arith, level-most (c .args .work) (c .args .allowed), omega arith)
@@ -25,21 +34,13 @@ speed-of-requires : tie.Need-speed-of-requires Inv-loop μ-loop
 speed-of-requires c κs = omega arith
 
 mul-if1 : tie.Need-mul-if1 Inv-loop μ-loop
-mul-if1 c =
-    omega (
-      arith,
-      allowed-fits ((c .before .before .loop .low + c .before .before .loop .high) / 2) (c .speed-of .result) (omega arith) (c .speed-of .ensures) (c .before .before .before .args .allowed) (c .before .before .before .pre),
-    )
+mul-if1 c = omega (arith, tried-fits (tried c) (turn c .before .pre))
 
 loop-less : tie.Need-loop-less Inv-loop μ-loop
 loop-less c = omega arith
 
 loop-again : tie.Need-loop-again Inv-loop μ-loop
-loop-again c = (
-  c .before .before .before .loop .inv .0,
-  level-high (c .before .before .before .before .args .work) (c .before .before .before .before .args .allowed) ((c .before .before .before .loop .low + c .before .before .before .loop .high) / 2) (c .before .speed-of .result) (omega arith) (c .before .speed-of .ensures) (c .if1 .taken),
-  omega arith,
-)
+loop-again c = (turn (c .before) .loop .inv .0, level-high (tried (c .before)) (c .if1 .taken), omega arith)
 
 add-low : tie.Need-add-low Inv-loop μ-loop
 add-low c = omega arith
@@ -48,11 +49,7 @@ loop-less-2 : tie.Need-loop-less-2 Inv-loop μ-loop
 loop-less-2 c = omega arith
 
 loop-again-2 : tie.Need-loop-again-2 Inv-loop μ-loop
-loop-again-2 c = (
-  level-low (c .before .before .before .before .args .work) (c .before .before .before .before .args .allowed) ((c .before .before .before .loop .low + c .before .before .before .loop .high) / 2) (c .before .speed-of .result) (omega arith) (c .before .speed-of .ensures) (c .if1 .left),
-  c .before .before .before .loop .inv .1,
-  omega arith,
-)
+loop-again-2 c = (level-low (tried (c .before)) (c .if1 .left), turn (c .before) .loop .inv .1, omega arith)
 
 returns : tie.Need-returns Inv-loop μ-loop
 returns c = (omega arith, omega arith)

@@ -19,7 +19,10 @@ same-length : tie.Need-same-length
 same-length c = search needs
 
 returns : tie.Need-returns
-returns c = c .before .before .put-number2 .ensures ∙ ap (λ (l : List ℕ). sets l 5 (digits 256 1 (c .before .before .before .before .before .before .before .before .before .args .c .level))) (c .before .before .before .before .before .before .put-number .ensures)
+returns c =
+    let p : tie.After-put-number = c .before .before .before .before .before .before in
+    c .before .before .put-number2 .ensures
+    ∙ ap (λ (l : List ℕ). sets l 5 (digits 256 1 (p .before .before .before .args .c .level))) (p .put-number .ensures)
 
 pub put-order-spec : {M : Type 1} → statement M
 put-order-spec = tie.close (tie.spec put-number-requires put-number-requires-2 same-length returns)

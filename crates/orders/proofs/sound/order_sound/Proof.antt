@@ -1,12 +1,69 @@
 -- `order_sound` meets its contract, by each way out.
 -- Assumes nothing.
+use Prim.Native.Nat.{ℕ}
+use mathlib.Core.Path.{_∙_}
+use mathlib.Core.List.{List}
 use native.Mathlib.Omega.{arith}
 use borrow.Author.Needs.{needs}
 use lib.ListN.{getD}
-use Rattle.orders.proofs.NeedTests.{allowed-fits}
-use Rattle.orders.proofs.SoundLaws.{not-idle, idle-level, other-task, level-high, level-meets}
+use Rattle.orders.proofs.NeedTests.{tried-fits}
+use Rattle.orders.proofs.HeadLaws.{Looked, Told, told-task}
+use Rattle.orders.proofs.SoundLaws.{Weighed, not-idle, idle-level, other-task, level-high, level-tried, level-meets}
 use Rattle.orders.proofs.sound.order_sound.Statement.{statement}
 use Rattle.orders.proofs.sound.order_sound.Tie as tie
+
+-- what the block holds at the start, and the places that others are reached from
+abbrev block : tie.Start → List ℕ
+block c = c .args .block .now
+
+abbrev keys : tie.Start → List ℕ
+keys c = c .args .keys .now
+
+abbrev start : tie.After-most-urgent → tie.Start
+start c = c .before .before .before .before
+
+abbrev asked : tie.After-task-in → tie.After-most-urgent
+asked c = c .before .before
+
+abbrev begun : tie.Else3 → tie.Start
+begun c = start (asked (c .before))
+
+-- a key was looked for, it tells a task, and that is the order's
+looked : (c : tie.After-most-urgent) → Looked (block (start c)) (keys (start c)) (start c .args .count) (c .most-urgent .result)
+looked c = record {
+  holds = start c .pre .0 .0;
+  keyed = start c .pre .1;
+  same = start c .pre .0 .1;
+  found = c .most-urgent .ensures;
+}
+
+told :
+    (c : tie.After-task-in) →
+    let a : tie.After-most-urgent = asked c in
+    Told (block (start a)) (keys (start a)) (start a .args .count) (a .most-urgent .result) (c .task-in .result)
+told c = record { looked = looked (asked c); some = c .before .if1 .left; task = c .task-in .ensures .0 }
+
+runs :
+    (c : tie.Else3) →
+    Told (block (begun c)) (keys (begun c)) (begun c .args .count) (asked (c .before) .most-urgent .result) (getD (block (begun c)) 4 0)
+runs c =
+    let k = told (c .before) in
+    record { looked = k .looked; some = k .some; task = c .if3 .left ∙ k .task }
+
+abbrev fast : tie.After-allowance-of → tie.Else4
+fast c = c .before .before .before
+
+weighed :
+    (c : tie.After-allowance-of) →
+    let o : tie.Else3 = fast c .before in
+    Weighed (block (begun o)) (keys (begun o)) (begun o .args .count) (asked (o .before) .most-urgent .result) (begun o .args .highest)
+    (c .before .before .work-at .result) (c .before .speed-of .result) (c .allowance-of .result)
+weighed c = record {
+  read = record { told = runs (fast c .before); work-in = c .before .before .work-at .ensures .0; allowed-in = c .allowance-of .ensures .0 };
+  top = begun (fast c .before) .pre .0 .2;
+  low = fast c .if4 .left;
+  speed-is = c .before .speed-of .ensures;
+}
 
 shared-slice-read-task : tie.Need-shared-slice-read-task
 shared-slice-read-task c = omega (arith, c .before .before .pre .0 .0 .size)
@@ -21,40 +78,47 @@ cast-level : tie.Need-cast-level
 cast-level c = omega (arith, c .shared-slice-known3 .given 5)
 
 most-urgent-requires : tie.Need-most-urgent-requires
-most-urgent-requires c κs = (omega (arith, c .before .before .before .pre .0 .0 .few, c .before .before .before .pre .0 .1), c .before .before .before .pre .0 .0 .size, omega arith, omega arith)
+most-urgent-requires c κs =
+    let s : tie.Start = c .before .before .before in
+    (omega (arith, s .pre .0 .0 .few, s .pre .0 .1), s .pre .0 .0 .size, omega arith, omega arith)
 
 returns : tie.Need-returns
-returns c = not-idle (c .before .before .before .before .before .before .args .block .now) (c .before .before .before .before .before .before .args .keys .now) (c .before .before .before .before .before .before .args .count) (c .before .before .before .before .before .before .args .highest) (c .before .before .most-urgent .result) (c .before .before .before .before .before .before .pre .0 .1) (c .before .before .before .before .before .before .pre .1) (c .before .before .most-urgent .ensures) (c .before .if1 .taken) (c .if2 .taken)
+returns c =
+    let a : tie.After-most-urgent = c .before .before in
+    not-idle (looked a) (start a .args .highest) (c .before .if1 .taken) (c .if2 .taken)
 
 returns-2 : tie.Need-returns-2
-returns-2 c = idle-level (c .before .before .before .before .before .before .args .block .now) (c .before .before .before .before .before .before .args .keys .now) (c .before .before .before .before .before .before .args .count) (c .before .before .before .before .before .before .args .highest) (c .before .before .most-urgent .result) (c .before .before .before .before .before .before .pre .0 .1) (c .before .before .before .before .before .before .pre .1) (c .before .before .most-urgent .ensures) (c .before .if1 .taken) (c .if2 .left)
+returns-2 c =
+    let a : tie.After-most-urgent = c .before .before in
+    idle-level (looked a) (start a .args .highest) (c .before .if1 .taken) (c .if2 .left)
 
 task-in-requires : tie.Need-task-in-requires
 task-in-requires c κs = search needs
 
 returns-3 : tie.Need-returns-3
-returns-3 c = other-task (c .before .before .before .before .before .before .before .args .block .now) (c .before .before .before .before .before .before .before .args .keys .now) (c .before .before .before .before .before .before .before .args .count) (c .before .before .before .before .before .before .before .args .highest) (c .before .before .before .most-urgent .result) (c .before .before .before .before .before .before .before .pre .0 .1) (c .before .before .before .before .before .before .before .pre .1) (c .before .before .before .most-urgent .ensures) (c .before .before .if1 .left) (c .before .task-in .result) (c .before .task-in .ensures .0) (c .if3 .taken)
+returns-3 c = other-task (told (c .before)) (start (asked (c .before)) .args .highest) (c .if3 .taken)
 
 returns-4 : tie.Need-returns-4
-returns-4 c = level-high (c .before .before .before .before .before .before .before .before .args .block .now) (c .before .before .before .before .before .before .before .before .args .keys .now) (c .before .before .before .before .before .before .before .before .args .count) (c .before .before .before .before .before .before .before .before .args .highest) (c .before .before .before .before .most-urgent .result) (c .before .before .before .before .before .before .before .before .pre .0 .1) (c .before .before .before .before .before .before .before .before .pre .1) (c .before .before .before .before .most-urgent .ensures) (c .before .before .before .if1 .left) (c .before .before .task-in .result) (c .before .before .task-in .ensures .0) (c .before .if3 .left) (c .if4 .taken)
+returns-4 c = level-high (runs (c .before)) (begun (c .before) .args .highest) (c .if4 .taken)
 
 work-at-requires : tie.Need-work-at-requires
-work-at-requires c κs = (omega (arith, c .before .before .task-in .ensures .1, c .before .if3 .left), c .before .before .before .before .before .before .before .before .pre .0 .0 .size)
+work-at-requires c κs =
+    let k = runs (c .before) in
+    (told-task k, k .looked .holds .size)
 
 speed-of-requires : tie.Need-speed-of-requires
-speed-of-requires c κs = omega (arith, c .before .if4 .left, c .before .before .before .before .before .before .before .before .before .pre .0 .2)
+speed-of-requires c κs = omega (arith, c .before .if4 .left, begun (c .before .before) .pre .0 .2)
 
 allowance-of-requires : tie.Need-allowance-of-requires
-allowance-of-requires c κs = (omega (arith, c .before .before .before .before .before .before .before .before .before .before .pre .0 .0 .few, c .before .before .before .before .before .before .before .before .before .before .pre .0 .1), c .before .before .before .before .before .before .before .before .before .before .pre .0 .0 .size)
+allowance-of-requires c κs =
+    let k = runs (c .before .before .before) in
+    (omega (arith, k .looked .holds .few, k .looked .same), k .looked .holds .size)
 
 mul-result : tie.Need-mul-result
-mul-result c =
-    omega (arith, allowed-fits (getD (c .before .before .before .before .before .before .before .before .before .before .before .args .block .now) 5 0) (c .before .speed-of .result) (omega (arith, c .before .before .before .if4 .left, c .before .before .before .before .before .before .before .before .before .before .before .pre .0 .2)) (c .before .speed-of .ensures) (c .allowance-of .result) (c .allowance-of .ensures .1))
+mul-result c = omega (arith, tried-fits (level-tried (weighed c)) (c .allowance-of .ensures .1))
 
 returns-5 : tie.Need-returns-5
-returns-5 c =
-    level-meets (c .before .before .before .before .before .before .before .before .before .before .before .args .block .now) (c .before .before .before .before .before .before .before .before .before .before .before .args .keys .now) (c .before .before .before .before .before .before .before .before .before .before .before .args .count) (c .before .before .before .before .before .before .before .before .before .before .before .args .highest) (c .before .before .before .before .before .before .before .most-urgent .result) (c .before .before .before .before .before .before .before .before .before .before .before .pre .0 .1) (c .before .before .before .before .before .before .before .before .before .before .before .pre .1) (c .before .before .before .before .before .before .before .most-urgent .ensures) (c .before .before .before .before .before .before .if1 .left) (c .before .before .before .before .before .task-in .result) (c .before .before .before .before .before .task-in .ensures .0) (c .before .before .before .before .if3 .left) (c .before .before .before .before .before .before .before .before .before .before .before .pre .0 .2) (c .before .before .before .if4 .left)
-    (c .before .before .work-at .result) (c .before .speed-of .result) (c .allowance-of .result) (c .before .before .work-at .ensures .0) (c .before .speed-of .ensures) (c .allowance-of .ensures .0)
+returns-5 c = level-meets (weighed c)
 
 pub order-sound-spec : {M : Type 1} → statement M
 order-sound-spec =

@@ -1,26 +1,53 @@
 -- `test_admitted` meets its contract, by each way out.
 -- Assumes nothing.
+use mathlib.Core.Path.{sym, _∙_}
 use native.Mathlib.Omega.{arith}
 use borrow.Author.Needs.{needs}
 use borrow.Author.Tests.{not-true, not-false}
-use Rattle.orders.proofs.SoundLaws.{Admitted, nominal-below, level-low, admitted-speed, admitted-periods, admitted-keyed, admitted-entries, admitted-order, admitted-sound}
+use Rattle.orders.proofs.SoundLaws.{Admitted, Entered, nominal-below, level-low, admitted-speed, admitted-periods, admitted-keyed}
+use Rattle.orders.proofs.SoundLaws.{admitted-entries, admitted-order, admitted-sound}
 use Rattle.orders.proofs.sound.test_admitted.Statement.{statement}
 use Rattle.orders.proofs.sound.test_admitted.Tie as tie
 
-known : (c : tie.After-speed-of) → Admitted (c .before .before .args .block .now) (c .before .before .args .count) (c .before .before .args .clock) (c .before .before .args .level) (c .speed-of .result)
+-- the places that others are reached from
+abbrev start : tie.After-speed-of → tie.Start
+start c = c .before .before
+
+abbrev sped : tie.Else1 → tie.After-speed-of
+sped c = c .before .before
+
+abbrev keyed : tie.After-order-sound → tie.After-keys-of
+keyed c = c .before .before
+
+-- the plan is admitted, and past the first test its entries are sound
+known :
+    (c : tie.After-speed-of) →
+    let s : tie.Start = start c in
+    Admitted (s .args .block .now) (s .args .count) (s .args .clock) (s .args .level) (c .speed-of .result)
 known c = record {
-  holds = c .before .before .pre .0 .0;
-  same = c .before .before .pre .0 .1;
-  some = c .before .before .pre .0 .2;
-  clock-is = c .before .before .pre .1 .0 .0;
-  in-range = c .before .before .pre .1 .0 .1;
-  yes-all = c .before .before .pre .1 .1 .0;
-  level-is = c .before .before .pre .1 .1 .1;
+  holds = start c .pre .0 .0;
+  same = start c .pre .0 .1;
+  some = start c .pre .0 .2;
+  clock-is = start c .pre .1 .0 .0;
+  in-range = start c .pre .1 .0 .1;
+  yes-all = start c .pre .1 .1 .0;
+  level-is = start c .pre .1 .1 .1;
   speed-is = c .speed-of .ensures;
 }
 
+entered :
+    (c : tie.Else1) →
+    let s : tie.Start = start (sped c) in
+    Entered (s .args .block .now) (s .args .count) (s .args .clock) (s .args .level) (sped c .speed-of .result)
+entered c = record {
+  admitted = known (sped c);
+  entries = sym (c .before .entries-sound .ensures) ∙ not-false _ (c .if1 .left);
+}
+
 speed-of-requires : tie.Need-speed-of-requires
-speed-of-requires c κs = nominal-below (c .before .args .block .now) (c .before .pre .1 .1 .0) (c .before .args .level) (c .before .pre .1 .1 .1)
+speed-of-requires c κs =
+    let s : tie.Start = c .before in
+    nominal-below (s .args .block .now) (s .pre .1 .1 .0) (s .args .level) (s .pre .1 .1 .1)
 
 entries-sound-requires : tie.Need-entries-sound-requires
 entries-sound-requires c κs = (known c .holds, known c .same, admitted-speed (known c) .0, admitted-speed (known c) .1)
@@ -30,43 +57,31 @@ not-sound-requires c κs = search needs
 
 returns : tie.Need-returns
 returns c =
-    admitted-entries (known (c .before .before .before)) (c .before .before .entries-sound .result) (c .before .before .entries-sound .ensures)
-    (not-true _ (c .before .if1 .taken)) (c .not-sound .result) (c .not-sound .ensures)
+    let t : tie.After-entries-sound = c .before .before in
+    admitted-entries (known (t .before)) (t .entries-sound .ensures) (not-true _ (c .before .if1 .taken)) (c .not-sound .ensures)
 
 keys-of-requires : tie.Need-keys-of-requires
-keys-of-requires c κs = (
-  (
-    omega (arith, known (c .before .before) .holds .few, known (c .before .before) .same),
-    known (c .before .before) .holds .size,
-    known (c .before .before) .in-range,
-  ),
-  admitted-periods (known (c .before .before)),
-)
+keys-of-requires c κs =
+    let k = known (sped c) in
+    ((omega (arith, k .holds .few, k .same), k .holds .size, k .in-range), admitted-periods k)
 
 order-sound-requires : tie.Need-order-sound-requires
-order-sound-requires c κs = (
-  (known (c .before .before .before .before) .holds, known (c .before .before .before .before) .same, level-low (known (c .before .before .before .before))),
-  admitted-keyed (known (c .before .before .before .before)) (c .before .keys-of .result) (c .before .keys-of .ensures),
-)
+order-sound-requires c κs =
+    let k = known (sped (c .before .before)) in
+    ((k .holds, k .same, level-low k), admitted-keyed k (c .before .keys-of .ensures))
 
 not-sound-requires-2 : tie.Need-not-sound-requires-2
 not-sound-requires-2 c κs = search needs
 
 returns-2 : tie.Need-returns-2
 returns-2 c =
-    admitted-order (known (c .before .before .before .before .before .before .before))
-    (c .before .before .before .before .before .before .entries-sound .result) (c .before .before .before .before .before .before .entries-sound .ensures)
-    (not-false _ (c .before .before .before .before .before .if1 .left))
-    (c .before .before .order-sound .result) (c .before .before .order-sound .ensures) (not-true _ (c .before .if2 .taken))
-    (c .not-sound2 .result) (c .not-sound2 .ensures)
+    let o : tie.After-order-sound = c .before .before in
+    admitted-order (entered (keyed o .before)) (o .order-sound .ensures) (not-true _ (c .before .if2 .taken)) (c .not-sound2 .ensures)
 
 returns-3 : tie.Need-returns-3
 returns-3 c =
-    admitted-sound (known (c .before .before .before .before .before .before))
-    (c .before .before .before .before .before .entries-sound .result) (c .before .before .before .before .before .entries-sound .ensures)
-    (not-false _ (c .before .before .before .before .if1 .left))
-    (c .before .order-sound .result) (c .before .order-sound .ensures) (not-false _ (c .if2 .left))
-    (c .before .before .before .keys-of .result) (c .before .before .before .keys-of .ensures)
+    let o : tie.After-order-sound = c .before in
+    admitted-sound (entered (keyed o .before)) (o .order-sound .ensures) (not-false _ (c .if2 .left)) (keyed o .keys-of .ensures)
 
 pub test-admitted-spec : {M : Type 1} → statement M
 test-admitted-spec =

@@ -10,11 +10,21 @@ use Rattle.orders.proofs.SoundLaws.{Judged, plan-few, clock-refused, pl
 use Rattle.orders.proofs.sound.test_state.Statement.{statement}
 use Rattle.orders.proofs.sound.test_state.Tie as tie
 
-clock : (c : tie.After-new) → c .new .result .ticks ≡ decode (c .before .before .before .args .block .now) .clock
-clock c = c .new .ensures ∙ c .before .clock-at .ensures
+-- the places that others are reached from
+abbrev begun : tie.After-new → tie.Start
+begun c = c .before .before .before
+
+abbrev clocked : tie.Else1 → tie.After-new
+clocked c = c .before .before
 
 abbrev start : tie.After-verdict-of → tie.Start
-start c = c .before .before .before .before .before .before .before
+start c = begun (clocked (c .before .before))
+
+clock : (c : tie.After-new) → c .new .result .ticks ≡ decode (begun c .args .block .now) .clock
+clock c = c .new .ensures ∙ c .before .clock-at .ensures
+
+in-range : (c : tie.Else1) → clocked c .new .result .ticks ≤ largestClock
+in-range c = leb-true (clocked c .new .result .ticks) largestClock (sym (c .before .in-range .ensures) ∙ not-false _ (c .if1 .left))
 
 judged : (c : tie.After-verdict-of) → Judged (start c .args .block .now) (start c .args .count) (c .before .plan-of .result) (c .verdict-of .result)
 judged c = record {
@@ -39,14 +49,14 @@ not-sound-requires c κs = search needs
 
 returns : tie.Need-returns
 returns c =
-    clock-refused (c .before .before .before .before .before .before .args .block .now) (c .before .before .before .new .result .ticks) (clock (c .before .before .before))
-    (sym (c .before .before .in-range .ensures) ∙ not-true _ (c .before .if1 .taken)) (c .not-sound .result) (c .not-sound .ensures)
+    clock-refused (begun (c .before .before .before) .args .block .now) (clock (c .before .before .before))
+    (sym (c .before .before .in-range .ensures) ∙ not-true _ (c .before .if1 .taken)) (c .not-sound .ensures)
 
 plan-of-requires : tie.Need-plan-of-requires
 plan-of-requires c κs = search needs
 
 verdict-of-requires : tie.Need-verdict-of-requires
-verdict-of-requires c κs = plan-few (c .before .before .before .before .before .before .pre .0) (c .plan-of .result) (c .plan-of .ensures)
+verdict-of-requires c κs = plan-few (begun (clocked (c .before)) .pre .0) (c .plan-of .ensures)
 
 enum-told : tie.Need-enum-told
 enum-told c = search needs
@@ -57,20 +67,16 @@ not-sound-requires-2 c κs = search needs
 enum-known-v : tie.Need-enum-known-v
 enum-known-v c = search needs
 
-in-range : (c : tie.Else1) → c .before .before .new .result .ticks ≤ largestClock
-in-range c = leb-true (c .before .before .new .result .ticks) largestClock (sym (c .before .in-range .ensures) ∙ not-false _ (c .if1 .left))
-
 test-admitted-requires : tie.Need-test-admitted-requires
-test-admitted-requires c κs = (
-  (judged (c .before .before .before) .holds, judged (c .before .before .before) .same, judged (c .before .before .before) .some),
-  (
-    (clock (c .before .before .before .before .before .before .before), in-range (c .before .before .before .before .before)),
-    plan-admitted (judged (c .before .before .before)) _ _ (c .before .v .given .1),
-  ),
-)
+test-admitted-requires c κs =
+    let v : tie.After-verdict-of = c .before .before .before in
+    let k = judged v in (
+      (k .holds, k .same, k .some),
+      ((clock (clocked (v .before .before)), in-range (v .before .before)), plan-admitted k (c .before .v .given .1)),
+    )
 
 returns-2 : tie.Need-returns-2
-returns-2 c = plan-refused (judged (c .before .before .before)) _ (c .before .enum-told .given .1) (c .not-sound2 .result) (c .not-sound2 .ensures)
+returns-2 c = plan-refused (judged (c .before .before .before)) (c .before .enum-told .given .1) (c .not-sound2 .ensures)
 
 returns-3 : tie.Need-returns-3
 returns-3 c = search needs
