@@ -33,6 +33,12 @@ looked c = record {
   found = c .most-urgent .ensures;
 }
 
+most-urgent-requires : tie.Need-most-urgent-requires
+most-urgent-requires c κs = search needs
+
+returns : tie.Need-returns
+returns c = (chosen-none (looked (c .before)) (c .if1 .taken), (omega arith, omega arith))
+
 picked :
     (c : tie.After-level-for) →
     Picked (block (start c)) (keys (start c)) (start c .args .count) (asked c .most-urgent .result)
@@ -50,12 +56,6 @@ picked c = record {
   doable = start c .pre .0 .2;
   level-is = c .level-for .ensures .0;
 }
-
-most-urgent-requires : tie.Need-most-urgent-requires
-most-urgent-requires c κs = search needs
-
-returns : tie.Need-returns
-returns c = (chosen-none (looked (c .before)) (c .if1 .taken), (omega arith, omega arith))
 
 task-in-requires : tie.Need-task-in-requires
 task-in-requires c κs = search needs

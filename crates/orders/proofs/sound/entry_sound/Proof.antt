@@ -50,7 +50,7 @@ add-if2 : tie.Need-add-if2
 add-if2 c = search needs
 
 returns-2 : tie.Need-returns-2
-returns-2 c = remaining-high (measured (c .before)) (c .if2 .taken)
+returns-2 c = remaining-high (measured (c .before)) (omega (arith, c .if2 .taken))
 
 returns-3 : tie.Need-returns-3
 returns-3 c = remaining-last (measured (c .before)) (c .if2 .left)
