@@ -2,7 +2,8 @@
 
 use crate::calls::{Calls, BY_HAND, NONE, PROVED};
 use crate::inputs::{Input, QUEUE_BYTES, STATE_BYTES};
-use std::hint::black_box;
+use std::arch::asm;
+use std::ptr::addr_of_mut;
 use std::time::Instant;
 
 pub const CALLS: [Call; 3] = [Call::Start, Call::Pass, Call::Show];
@@ -26,6 +27,13 @@ impl Call {
     pub fn named(name: &str) -> Option<Call> {
         CALLS.into_iter().find(|call| call.name() == name)
     }
+}
+
+/// The same value, but the compiler can't know that. Later Rusts have it in `std::hint`.
+fn black_box<T>(mut value: T) -> T {
+    // SAFETY: there is no instruction in it.
+    unsafe { asm!("/* {} */", in(reg) addr_of_mut!(value), options(nostack, preserves_flags)) };
+    value
 }
 
 /// One call on every input, each on a fresh copy of its state.

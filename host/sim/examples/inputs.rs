@@ -47,7 +47,7 @@ fn run(pairs: &[(u64, u64)], early_from: u64, part: u32, until: u64) -> Vec<u8> 
     while clock < until {
         let (d, finished) = match order {
             Order::Idle { hold } => (hold, false),
-            Order::Run { hold, .. } if clock >= early_from => (hold.div_ceil(part), true),
+            Order::Run { hold, .. } if clock >= early_from => ((hold + part - 1) / part, true),
             Order::Run { hold, .. } => (hold, worst_case_is_used(&state, hold)),
         };
         order = pass(&mut state, d, finished).expect("the pass follows the order");

@@ -45,8 +45,11 @@ impl ActualBook {
 
     /// Enters a pass and the reply to it.
     pub fn pass(&mut self, d: u32, finished: bool, reply: Result<Order, u32>) {
-        // "A refused pass changes neither book."
-        let Ok(order) = reply else { return };
+        let order = match reply {
+            Ok(order) => order,
+            // "A refused pass changes neither book."
+            Err(_) => return,
+        };
         // "An accepted pass that says finished closes that task's latest job; then the clock
         // rises by d."
         if finished {
@@ -68,8 +71,11 @@ impl ActualBook {
     /// The latest job is found by its arrival, not by its place in the list: it may be closed and
     /// forgotten already, and then an older open one mustn't be closed in its stead.
     fn close_latest_job_of_running_task(&mut self) {
-        // With an idle order there is no running task, so nothing to close.
-        let Some(task) = self.running else { return };
+        let task = match self.running {
+            Some(task) => task,
+            // With an idle order there is no running task, so nothing to close.
+            None => return,
+        };
         let period = self.plan[task].period;
         let latest = self.clock / period * period;
         for job in &mut self.jobs {

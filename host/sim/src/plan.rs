@@ -25,10 +25,15 @@ pub const LARGEST_PERIOD: u64 = 65_535;
 pub const LARGEST_WORST: u64 = 1_048_575;
 pub const LARGEST_HYPERPERIOD: u64 = 1_000_000;
 
+/// A quotient rounded up.
+pub fn div_ceil(number: u64, by: u64) -> u64 {
+    number / by + u64::from(number % by > 0)
+}
+
 /// "The time needed for work at a level is the work divided by the speed, rounded up to whole
 /// ticks."
 pub fn time_needed(work: u64, level: usize) -> u64 {
-    work.div_ceil(SPEEDS[level])
+    div_ceil(work, SPEEDS[level])
 }
 
 /// The least common multiple, or nothing if it is over the limit. The multiples of the larger
@@ -109,7 +114,7 @@ pub fn judge_list(tasks: &[Task]) -> Result<Judged, u32> {
 /// How many bytes the plan block of so many tasks has: 4 bits of edition, 5 of count, 36 for each
 /// task, then zero bits to a whole byte.
 pub fn block_bytes(count: u64) -> usize {
-    (4 + 5 + 36 * count as usize).div_ceil(8)
+    div_ceil(4 + 5 + 36 * count, 8) as usize
 }
 
 /// Reading a plan: questions 1 to 8.

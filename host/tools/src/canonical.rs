@@ -1,7 +1,7 @@
 //! The canonical ("plain") schedule as stretches of ticks, from the simulator's schedule.
 
 use crate::run::Span;
-use sim::plan::{Judged, Task};
+use sim::plan::{div_ceil, Judged, Task};
 use sim::schedule::Schedule;
 
 /// A job getting ticks of the canonical schedule without a break.
@@ -20,7 +20,7 @@ pub fn turns_within(tasks: &[Task], judged: Judged, window: Span) -> Vec<Turn> {
     let round = judged.hyperperiod;
     let pattern = turns_from_start(tasks, judged.nominal, round.min(window.to));
     let mut turns = Vec::new();
-    for shift in (window.from / round..window.to.div_ceil(round)).map(|nth| nth * round) {
+    for shift in (window.from / round..div_ceil(window.to, round)).map(|nth| nth * round) {
         for turn in &pattern {
             let span = Span {
                 from: turn.span.from + shift,

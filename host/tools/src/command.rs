@@ -16,14 +16,17 @@ pub enum Stop {
 
 /// All bytes of the file; of standard input if there is no file, or if it is `-`.
 pub fn read_input(file: Option<&OsStr>) -> Result<Vec<u8>, Stop> {
-    let Some(path) = file.filter(|path| *path != "-") else {
-        let mut bytes = Vec::new();
-        return match io::stdin().lock().read_to_end(&mut bytes) {
-            Ok(_) => Ok(bytes),
-            Err(error) => Err(Stop::Failure(format!("standard input: {error}"))),
-        };
+    let (name, read) = match file.filter(|path| *path != "-") {
+        Some(path) => (path.to_string_lossy(), fs::read(path)),
+        None => ("standard input".into(), read_standard_input()),
     };
-    fs::read(path).map_err(|error| Stop::Failure(format!("{}: {error}", path.to_string_lossy())))
+    read.map_err(|error| Stop::Failure(format!("{name}: {error}")))
+}
+
+fn read_standard_input() -> io::Result<Vec<u8>> {
+    let mut bytes = Vec::new();
+    io::stdin().lock().read_to_end(&mut bytes)?;
+    Ok(bytes)
 }
 
 /// Writes all bytes to standard output. A reader that has gone away is no failure.

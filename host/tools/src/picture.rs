@@ -8,24 +8,18 @@ mod refusals;
 mod rows;
 mod scale;
 mod style;
+mod view;
 
-use crate::canonical::{turns_within, Turn};
+use crate::canonical::turns_within;
 use crate::run::{Run, Span};
 use crate::svg::Element;
 use scale::Scale;
 use style::{FONT, PAPER};
+use view::View;
 
 /// Left of the plot are the names of the rows.
 const LEFT: f64 = 150.0;
 const MARGIN: f64 = 20.0;
-
-/// What is drawn: the run, the window on it, and the canonical schedule in that window.
-struct View<'a> {
-    run: &'a Run,
-    window: Span,
-    scale: Scale,
-    turns: Vec<Turn>,
-}
 
 /// The window that the options ask for, or why there is none. Left open, it is from tick 0 to the
 /// end of the last order's hold.

@@ -136,14 +136,12 @@ impl Run {
 
     /// The ticks that the running job's work left needs at its level; 0 if none is running.
     fn ticks_needed(&self, state: &[u8]) -> u64 {
-        let Order::Run { task, level, .. } = self.order else {
-            return 0;
+        let (task, level) = match self.order {
+            Order::Run { task, level, .. } => (usize::from(task), usize::from(level)),
+            Order::Idle { .. } => return 0,
         };
         let state = unpack(state).expect("the simulator leaves a state that can be unpacked");
-        time_needed(
-            state.entries[usize::from(task)].work_left,
-            usize::from(level),
-        )
+        time_needed(state.entries[task].work_left, level)
     }
 
     /// A stretch that goes on where the last one stopped, of the same job at the same level,

@@ -87,14 +87,12 @@ pub fn write(script: &Script) -> String {
 
 fn enter_line(script: &mut Script, line: &str) -> Result<(), Mistake> {
     let mut words = before_comment(line).split_whitespace();
-    let Some(first) = words.next() else {
-        return Ok(());
-    };
-    match first {
-        "task" => enter_task(script, &mut words)?,
-        "pass" => enter_pass(script, &mut words, false)?,
-        "finish" => enter_pass(script, &mut words, true)?,
-        other => return Err(Mistake::UnknownWord(other.to_string())),
+    match words.next() {
+        None => return Ok(()),
+        Some("task") => enter_task(script, &mut words)?,
+        Some("pass") => enter_pass(script, &mut words, false)?,
+        Some("finish") => enter_pass(script, &mut words, true)?,
+        Some(other) => return Err(Mistake::UnknownWord(other.to_string())),
     }
     match words.next() {
         Some(word) => Err(Mistake::LeftOver(word.to_string())),

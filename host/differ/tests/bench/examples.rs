@@ -16,7 +16,7 @@ fn stored() -> Vec<(PathBuf, String)> {
     let mut inputs: Vec<PathBuf> = fs::read_dir(examples())
         .expect("there is a folder of examples")
         .map(|entry| entry.expect("it can be read").path())
-        .filter(|path| path.extension().is_some_and(|ending| ending == "in"))
+        .filter(|path| path.extension().map_or(false, |ending| ending == "in"))
         .collect();
     inputs.sort();
     let with_listing = |input: PathBuf| {

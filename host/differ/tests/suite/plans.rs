@@ -67,7 +67,7 @@ fn plans_around_the_full_sum() {
         for _ in 0..400 {
             let full = full_plan(&mut random, level);
             let judged = put_tasks(&mut both, &mut random, &full);
-            assert!(judged.is_ok_and(|judged| judged.level <= level as u64));
+            assert!(judged.map_or(false, |judged| judged.level <= level as u64));
             let over = plan_one_over(&mut random, level);
             let judged = put_tasks(&mut both, &mut random, &over);
             assert_ne!(judged.map(|judged| judged.level), Ok(level as u64));

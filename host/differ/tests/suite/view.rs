@@ -49,7 +49,7 @@ impl View {
             12
         } else if finished && self.needed.is_none() {
             13
-        } else if self.needed.is_some_and(|needed| d > most(needed)) {
+        } else if self.needed.map_or(false, |needed| d > most(needed)) {
             14
         } else if self.clock + d > LARGEST_CLOCK {
             15
@@ -60,7 +60,9 @@ impl View {
 
     /// The pass that comes if nothing ends early: the timer rings after the hold.
     pub fn whole_hold(&self) -> (u32, bool) {
-        let finished = self.needed.is_some_and(|needed| needed <= self.to_arrival);
+        let finished = self
+            .needed
+            .map_or(false, |needed| needed <= self.to_arrival);
         (self.hold() as u32, finished)
     }
 
@@ -78,7 +80,7 @@ impl View {
     pub fn one_tick(&self, random: &mut Random) -> (u32, bool) {
         let finished = self
             .needed
-            .is_some_and(|needed| needed == 1 || random.one_in(16));
+            .map_or(false, |needed| needed == 1 || random.one_in(16));
         (1, finished)
     }
 

@@ -117,10 +117,10 @@ fn number_6() {
         assert_eq!(write_plan(2, &list, &mut []), Err(6));
     }
     // The other side.
-    assert!(judge_list(&tasks(&[(65_535, 1), (1, 1)])).is_err_and(|number| number == 8));
+    assert_eq!(judge_list(&tasks(&[(65_535, 1), (1, 1)])), Err(8));
     assert!(judge_list(&tasks(&[(65_535, 1)])).is_ok());
     assert!(judge_list(&tasks(&[(65_535, 1_048_575)])).is_ok());
-    assert!(judge_list(&tasks(&[(10_485, 1_048_575)])).is_err_and(|number| number == 8));
+    assert_eq!(judge_list(&tasks(&[(10_485, 1_048_575)])), Err(8));
     assert!(judge_list(&tasks(&[(10_486, 1_048_575)])).is_ok());
 }
 

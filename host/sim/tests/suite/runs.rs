@@ -117,10 +117,14 @@ impl Run {
         let to_arrival = |task: &Task| task.period - clock % task.period;
         let arrival = self.plan.iter().map(to_arrival).min().unwrap();
         let open = self.actual.jobs().into_iter().filter(|job| job.open);
-        let Some(job) = open.min_by_key(|job| urgency(&self.plan, job.task, job.arrival)) else {
-            return Order::Idle {
-                hold: arrival as u32,
-            };
+        let urgent = open.min_by_key(|job| urgency(&self.plan, job.task, job.arrival));
+        let job = match urgent {
+            Some(job) => job,
+            None => {
+                return Order::Idle {
+                    hold: arrival as u32,
+                }
+            }
         };
         let own = urgency(&self.plan, job.task, job.arrival);
         let mut allowance = 0;

@@ -2,7 +2,7 @@
 
 use super::scale::AXIS_SIZE;
 use super::style::{line, rectangle, soft_words, text_width, triangle, words, GRID, INK, SHADE};
-use super::View;
+use super::view::View;
 use crate::svg::Element;
 
 pub const HEIGHT: f64 = 58.0;

@@ -1,7 +1,7 @@
 //! The lines above the picture: the plan and its nominal level, then figures of the run.
 
 use super::style::{soft_words, text_width, ticks, words};
-use super::View;
+use super::view::View;
 use crate::run::Run;
 use crate::svg::Element;
 

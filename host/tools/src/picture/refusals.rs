@@ -1,7 +1,8 @@
 //! The refused passes: a cross at the tick where they came, and their numbers beside it.
 
 use super::style::{line, refused_mark, soft_words, text_width, words, REFUSED};
-use super::{View, MARGIN};
+use super::view::View;
+use super::MARGIN;
 use crate::refusal::meaning;
 use crate::run::Refusal;
 use crate::svg::Element;
@@ -114,8 +115,9 @@ impl Group {
 
     fn draw(&self, lowest: f64, cross: f64, drawn: &mut Element) {
         drawn.add(refused_mark(self.x, cross).hint(&self.hint));
-        let Some(lane) = self.lane else {
-            return;
+        let lane = match self.lane {
+            Some(lane) => lane,
+            None => return,
         };
         let y = lowest - lane as f64 * LANE - 4.0;
         let pole = line(self.x, y - 8.0, self.x, cross - 4.0, REFUSED);

@@ -5,7 +5,8 @@ use super::style::{
     narrow_idle_bar, nominal_line, ordered_box, soft_words, text_width, ticks, unused_box, words,
     INK, LEVELS, SHADE,
 };
-use super::{View, LEFT, MARGIN};
+use super::view::View;
+use super::{LEFT, MARGIN};
 use crate::run::{Span, Stretch};
 use crate::svg::Element;
 use sim::dispatch::Order;
@@ -134,8 +135,9 @@ impl Row<'_> {
             from: stretch.span.to,
             to: stretch.span.to + stretch.early.unwrap_or(0),
         };
-        let Some(shown) = unused.within(self.view.window) else {
-            return;
+        let shown = match unused.within(self.view.window) {
+            Some(shown) => shown,
+            None => return,
         };
         let (x, width) = self.place(shown);
         if width < NARROWEST_BOX {
@@ -159,8 +161,9 @@ impl Row<'_> {
     }
 
     fn add_bar(&self, stretch: &Stretch, group: &mut Element) {
-        let Some(shown) = stretch.span.within(self.view.window) else {
-            return;
+        let shown = match stretch.span.within(self.view.window) {
+            Some(shown) => shown,
+            None => return,
         };
         let (x, width) = self.place(shown);
         let high = level_height(stretch.level, BAR);
@@ -179,21 +182,21 @@ impl Row<'_> {
     /// The last order, if it is for this task.
     fn add_order(&self, group: &mut Element) {
         let run = self.view.run;
-        let Order::Run { task, level, hold } = run.order else {
-            return;
+        let (level, hold) = match run.order {
+            Order::Run { task, level, hold } if usize::from(task) == self.task => {
+                (usize::from(level), hold)
+            }
+            _ => return,
         };
         let span = Span {
             from: run.clock,
             to: run.end_of_order(),
         };
-        let Some(shown) = span.within(self.view.window) else {
-            return;
+        let shown = match span.within(self.view.window) {
+            Some(shown) => shown,
+            None => return,
         };
-        if usize::from(task) != self.task {
-            return;
-        }
         let (x, width) = self.place(shown);
-        let level = usize::from(level);
         let high = level_height(level, BAR);
         let order = format!("the last order: level {level}, hold {hold}");
         let drawn = ordered_box(x, self.base - high, width, high, LEVELS[level]);
@@ -242,8 +245,9 @@ impl Row<'_> {
     /// Over something of this place and height, the first label that there is room for, if any.
     fn add_label(&self, x: f64, width: f64, high: f64, choice: &[String], group: &mut Element) {
         let fits = |text: &&String| text_width(text, LABEL_SIZE) + 12.0 <= width;
-        let Some(text) = choice.iter().find(fits) else {
-            return;
+        let text = match choice.iter().find(fits) {
+            Some(text) => text,
+            None => return,
         };
         // Where the nominal line would run through the label, the label goes above the line.
         let nominal = level_height(self.view.run.judged.nominal, BAR);

@@ -2,6 +2,7 @@
 
 use super::style::text_width;
 use crate::run::Span;
+use sim::plan::div_ceil;
 
 const WIDEST_TICK: f64 = 36.0;
 const NARROWEST_PLOT: f64 = 520.0;
@@ -77,7 +78,7 @@ impl Scale {
 
     /// The multiples of a step in the window, both its ends included.
     pub fn multiples(&self, step: u64) -> impl Iterator<Item = u64> {
-        let first = self.window.from.div_ceil(step);
+        let first = div_ceil(self.window.from, step);
         let last = self.window.to / step;
         (first..=last).map(move |nth| nth * step)
     }

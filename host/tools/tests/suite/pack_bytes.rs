@@ -89,7 +89,7 @@ fn blocks_of_every_count() {
             }],
         };
         let bytes = to_bytes(&script);
-        assert_eq!(bytes.len(), (9 + 36 * count).div_ceil(8) + 2);
+        assert_eq!(bytes.len(), (9 + 36 * count + 7) / 8 + 2);
         assert_eq!(from_bytes(&bytes), Ok(script));
     }
 }

@@ -47,7 +47,7 @@ fn fault(input: &[u8]) -> Option<usize> {
         return Some(0);
     }
     let count = usize::from(input[0] & 0x0f) * 2 + usize::from(input[1] >> 7);
-    let needed = (9 + 36 * count).div_ceil(8);
+    let needed = (9 + 36 * count + 7) / 8;
     if input.len() < needed {
         return Some(input.len());
     }
