@@ -6,8 +6,9 @@ use benchmark::inputs::{inputs, QUEUE_BYTES};
 use sim::dispatch::Order;
 use sim::plan::Task;
 use sim::random::blocks::{block_of, damaged_block};
+use sim::random::passes::any_pass;
 use sim::random::plans;
-use sim::random::states::{any_pass, forged_state, invented_state, late_state};
+use sim::random::states::{forged_state, invented_state, late_state};
 use sim::random::Random;
 use std::collections::BTreeMap;
 

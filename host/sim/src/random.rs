@@ -1,7 +1,8 @@
-//! A small generator of pseudo-random numbers, and the plans, blocks and states made with it. The
-//! same seed always gives the same numbers.
+//! A small generator of pseudo-random numbers, and the plans, passes, blocks and states made with it.
+//! The same seed always gives the same numbers.
 
 pub mod blocks;
+pub mod passes;
 pub mod plans;
 pub mod states;
 

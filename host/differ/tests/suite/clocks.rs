@@ -38,12 +38,7 @@ fn runs_up_to_the_largest_clock() {
         let before = random.below(40);
         let mut state = started_late(&mut both, &plan, before);
         loop {
-            let view = View::of(&state);
-            let (d, finished) = match random.below(3) {
-                0 => view.whole_hold(),
-                1 => view.early_end(&mut random),
-                _ => view.one_tick(&mut random),
-            };
+            let (d, finished) = View::of(&state).some_pass(&mut random);
             let reply = both.pass(&mut state, d, told(&mut random, finished));
             assert!(both.show(&state, 48).is_ok());
             if reply == Err(15) {

@@ -125,11 +125,7 @@ fn runs_from_invented_states() {
         let mut state = invented_state(&mut random, &plan);
         for _ in 0..30 {
             let view = View::of(&state);
-            let (d, finished) = match random.below(3) {
-                0 => view.whole_hold(),
-                1 => view.early_end(&mut random),
-                _ => view.one_tick(&mut random),
-            };
+            let (d, finished) = view.some_pass(&mut random);
             let reply = both.pass(&mut state, d, told(&mut random, finished));
             assert_eq!(reply.err().unwrap_or(0), view.refusal(d, finished));
             let _ = both.show(&state, 48);

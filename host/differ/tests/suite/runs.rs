@@ -10,8 +10,8 @@ use differ::dispatcher::Order;
 use sim::books::{demand3_holds, ActualBook, PlainBook};
 use sim::plan::{judge_list, Task, SPEEDS};
 use sim::random::blocks::block_of;
+use sim::random::passes::any_pass;
 use sim::random::plans::{full_plan, plan_at_level, plan_at_level_within, SMALL_BASES};
-use sim::random::states::any_pass;
 use sim::random::Random;
 
 /// How the passes of a run are chosen.

@@ -84,6 +84,15 @@ impl View {
         (1, finished)
     }
 
+    /// One of the three above.
+    pub fn some_pass(&self, random: &mut Random) -> (u32, bool) {
+        match random.below(3) {
+            0 => self.whole_hold(),
+            1 => self.early_end(random),
+            _ => self.one_tick(random),
+        }
+    }
+
     /// Ticks at and beside each edge that a question has, and some far off.
     pub fn edges(&self) -> Vec<u32> {
         let mut ticks = vec![0, 1, 2];

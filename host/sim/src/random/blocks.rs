@@ -1,6 +1,6 @@
 //! Random plan blocks, whole and damaged, and inputs for the bench program.
 
-use super::states::any_pass;
+use super::passes::any_pass;
 use super::Random;
 use crate::dispatch::{pass, start};
 use crate::plan::{pack_block, Task};

@@ -1,42 +1,12 @@
-//! Random passes, and random states: reached by runs, invented but sound, and forged.
+//! Random states: reached by runs, invented but sound, and forged.
 
 use super::blocks::block_of;
+use super::passes::likely_pass;
 use super::Random;
 use crate::dispatch::{choose, pass, start, Order};
 use crate::plan::{judge_list, time_needed, Task};
 use crate::schedule::allotment;
 use crate::state::{pack, unpack, Entry, State, LARGEST_CLOCK, STATE_BYTES};
-
-/// A pass that is most likely accepted after this order, often with an early finish.
-pub fn likely_pass(random: &mut Random, order: Order) -> (u32, bool) {
-    match order {
-        Order::Idle { hold } => (random.between(1, u64::from(hold)) as u32, false),
-        Order::Run { hold, .. } => {
-            let d = random.between(1, u64::from(hold)) as u32;
-            // At the end of its hold a job has either finished or been preempted. Which of both
-            // is possible the order doesn't tell, so a few of these are refused.
-            let finished = random.one_in(2) || (d == hold && random.one_in(2));
-            (d, finished)
-        }
-    }
-}
-
-/// Any pass: one likely accepted, or one around the order's hold, or one far off.
-pub fn any_pass(random: &mut Random, order: Order) -> (u32, bool) {
-    let hold = match order {
-        Order::Run { hold, .. } => hold,
-        Order::Idle { hold } => hold,
-    };
-    match random.below(8) {
-        0 => (
-            random.pick(&[0, hold, hold + 1, hold + 2]),
-            random.one_in(2),
-        ),
-        1 => (hold, random.one_in(2)),
-        2 if random.one_in(4) => (random.number() as u32, random.one_in(2)),
-        _ => likely_pass(random, order),
-    }
-}
 
 /// The state and the order after so many random passes from the start of an accepted plan.
 /// Refused ones count, and change nothing.

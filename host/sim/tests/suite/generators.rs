@@ -4,14 +4,13 @@ use sim::dispatch::{pass, show, sound, start};
 use sim::listing;
 use sim::plan::{admission_sum, judge, judge_list, read_plan, write_plan};
 use sim::random::blocks::{bench_input, block_of, damaged_block};
+use sim::random::passes::{any_pass, likely_pass};
 use sim::random::plans::{
     edge_count_and_entries, edge_list, full_plan, plan_above_largest_hyperperiod,
     plan_at_largest_hyperperiod, plan_at_level, plan_at_level_within, plan_one_over,
     plan_one_unit_over, BASES, SMALL_BASES,
 };
-use sim::random::states::{
-    any_pass, forged_state, invented_state, late_state, likely_pass, reached_state,
-};
+use sim::random::states::{forged_state, invented_state, late_state, reached_state};
 use sim::random::Random;
 use std::collections::BTreeSet;
 

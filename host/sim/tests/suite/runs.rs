@@ -6,8 +6,8 @@ use sim::books::{demand3_holds, ActualBook, PlainBook};
 use sim::dispatch::{pass, show, start, Order};
 use sim::plan::{time_needed, Task, SPEEDS};
 use sim::random::blocks::block_of;
+use sim::random::passes::any_pass;
 use sim::random::plans::{full_plan, plan_at_level, plan_at_level_within, SMALL_BASES};
-use sim::random::states::any_pass;
 use sim::random::Random;
 use sim::schedule::urgency;
 
