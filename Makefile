@@ -1,21 +1,20 @@
-# make test    the gate: proves every crate, then runs the host tests
+# make run     ./run: the bench program on 01's example
+# make test    ./test: proves every crate, then runs the host tests
 # make prove   the proofs alone
 # make host    the host tests alone, over what of the proved code is missing or older than its source
-# make run     the bench program on 01's example
 # make bench   measures the proved calls against ones written by hand, and writes docs/BENCHMARK.md
 # make install PREFIX=..   the header, the archive and the pkg-config file
 # make clean   removes all that was made
 
 ARCHIVES := target/staticlib/libplan_calls.a target/staticlib/libdispatcher_calls.a
-PROGRAMS := target/bin/bench
 CODE := crates.txt $(shell find crates -name '*.rt')
 PREFIX ?= /usr/local
 
-.PHONY: test prove host archives programs run bench install clean
+.PHONY: run test prove host archives programs bench install clean
 .NOTPARALLEL:
 
-test:
-	@tools/test
+run test:
+	@./$@
 
 prove:
 	rt ci
@@ -26,11 +25,8 @@ host: archives programs
 
 archives: $(ARCHIVES)
 
-programs: $(PROGRAMS)
-
-run: target/bin/bench
-	@echo 'target/bin/bench < examples/bench.in'
-	@target/bin/bench < examples/bench.in
+programs:
+	@tools/program bench
 
 bench: archives
 	host/benchmark/run
@@ -50,13 +46,6 @@ target/staticlib/libkilmstra.a: $(ARCHIVES)
 
 target/staticlib/lib%.a: $(CODE)
 	rt staticlib $*
-
-# rt makes no program again whose code it has seen: one that is gone it must forget first, and one that
-# is there is as new as its source, whatever the times of the files say.
-target/bin/%: $(CODE)
-	@[ -f $@ ] || rm -f target/stamp/$*
-	rt check $*
-	@touch -c $@
 
 clean:
 	rm -rf target host/target
