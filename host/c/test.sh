@@ -1,7 +1,8 @@
 #!/usr/bin/env bash
 # Builds the C programs of this folder over the proved library, as C99 and as C++, plain and with the
 # compiler's checks at run time, then over an installed copy. What a program prints must be what its
-# file .out has. Tries 'make run' too. The very last line is 'N passed, M failed'.
+# file .out has. readme.c has in it the very lines of C in the README at the top. Tries './run' too.
+# The very last line is 'N passed, M failed'.
 set -u -o pipefail
 cd "$(dirname "${BASH_SOURCE[0]}")" || exit 2
 top=../..
@@ -29,25 +30,41 @@ try() { # NAME COMMAND..
     fi
 }
 
-# The programs allocate nothing, so the search for leaks, which fails where ptrace is shut, is off.
+# The README has one block of C.
+takes_the_lines_of_the_readme() {
+    awk '
+        /^```/ { inside = 0 }
+        inside
+        /^```c$/ { inside = 1; blocks++ }
+        END { exit blocks != 1 }' "$top/README.md" >"$work/readme.inc"
+}
+
 prints() { # EXPECTED COMMAND..
-    local expected=$1
+    local expected=$1 status
     shift
-    ASAN_OPTIONS=detect_leaks=0 "$@" >"$work/printed" && diff "$expected" "$work/printed"
+    "$@" >"$work/printed"
+    status=$?
+    diff "$expected" "$work/printed" && return "$status"
+}
+
+# Runs what was built last. The programs allocate nothing, so the search for leaks, which fails where
+# ptrace is shut, is off.
+runs() { # PROGRAM
+    prints "$1.out" env ASAN_OPTIONS=detect_leaks=0 timeout 60 "$work/program"
 }
 
 as_c() { # PROGRAM FLAGS..
     local program=$1
     shift
-    gcc -std=c99 -pedantic "${warnings[@]}" "$@" "$program.c" "${library[@]}" -o "$work/program" &&
-        prints "$program.out" "$work/program"
+    gcc -std=c99 -pedantic "${warnings[@]}" "$@" -I . -I "$work" "$program.c" "${library[@]}" -o "$work/program" &&
+        runs "$program"
 }
 
 as_cpp() { # PROGRAM FLAGS..
     local program=$1
     shift
-    g++ -pedantic "${warnings[@]}" "$@" -x c++ "$program.c" -x none "${library[@]}" -o "$work/program" &&
-        prints "$program.out" "$work/program"
+    g++ -pedantic "${warnings[@]}" "$@" -I . -I "$work" -x c++ "$program.c" -x none "${library[@]}" -o "$work/program" &&
+        runs "$program"
 }
 
 # The header alone must do, first in a file and more than once.
@@ -66,8 +83,8 @@ over_the_installed_copy() { # PROGRAM
     local flags
     mkdir -p "$work/elsewhere" && cp "$1.c" "$work/elsewhere" || return
     read -ra flags < <(PKG_CONFIG_PATH="$work/installed/lib/pkgconfig" pkg-config --cflags --libs kilmstra)
-    gcc -std=c99 "${warnings[@]}" "$work/elsewhere/$1.c" "${flags[@]}" -o "$work/program" &&
-        prints "$1.out" "$work/program"
+    gcc -std=c99 "${warnings[@]}" -I "$work" "$work/elsewhere/$1.c" "${flags[@]}" -o "$work/program" &&
+        runs "$1"
 }
 
 # A firmware may have no C library beyond these.
@@ -79,11 +96,12 @@ wants_no_more_than_memory_functions() {
 
 runs_the_bench_program() {
     { echo 'target/bin/bench < examples/bench.in' && cat "$top/examples/bench.out"; } >"$work/wanted"
-    prints "$work/wanted" make -C "$top" --no-print-directory run
+    prints "$work/wanted" "$top/run"
 }
 
 try 'the header alone, as C99' header_alone gcc -std=c99 -pedantic -x c
 try 'the header alone, as C++' header_alone g++ -pedantic -x c++
+try 'the lines of the README' takes_the_lines_of_the_readme
 for source in *.c; do
     program=${source%.c}
     try "$program, as C99" as_c "$program"
@@ -96,7 +114,7 @@ for source in *.c; do
     try "${source%.c}, over the installed copy" over_the_installed_copy "${source%.c}"
 done
 try 'the installed archive wants no more than memory functions' wants_no_more_than_memory_functions
-try 'make run' runs_the_bench_program
+try './run' runs_the_bench_program
 
 echo "$passed passed, $failed failed"
 [ "$failed" -eq 0 ]

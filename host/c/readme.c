@@ -1,0 +1,74 @@
+/* What the loop in the README at the top needs around it, so that it can be built and run as it stands
+ * there: 01's bench plan, and a processor, a timer and jobs that are played. Up to tick 20 the jobs
+ * end as in 01's example, where the processor idles at tick 18. The last job never ends, so that its
+ * pass is refused. */
+
+#include "kilmstra.h"
+
+#include <stdio.h>
+#include <stdlib.h>
+
+static uint32_t run_job(unsigned task, unsigned level, uint32_t hold, bool *finished);
+static void stay_idle(uint32_t hold);
+static void fail_safe(unsigned refusal);
+
+/* The lines of the README. */
+#include "readme.inc"
+
+enum { TASKS = 3, MOST_ORDERS = 20 };
+
+static const uint32_t plan[2 * TASKS] = {10, 400, 10, 400, 30, 600};
+
+/* The ticks that each job takes, in the order in which they run; one with 0 never ends. */
+static const uint32_t taken[MOST_ORDERS] = {1, 7, 2, 4, 4, 5};
+
+static uint32_t now;
+
+/* A loop that goes on for ever is stopped. */
+static void count_order(void)
+{
+    static int orders;
+    orders++;
+    if (orders > MOST_ORDERS) {
+        printf("more than %d orders\n", MOST_ORDERS);
+        exit(1);
+    }
+}
+
+static uint32_t run_job(unsigned task, unsigned level, uint32_t hold, bool *finished)
+{
+    static size_t jobs;
+    count_order();
+    printf("%lu run %u %u %lu\n", (unsigned long)now, task, level, (unsigned long)hold);
+    uint32_t ticks = taken[jobs++];
+    *finished = 0 < ticks && ticks <= hold;
+    if (!*finished) {
+        ticks = hold;
+    }
+    now += ticks;
+    return ticks;
+}
+
+static void stay_idle(uint32_t hold)
+{
+    count_order();
+    printf("%lu idle %lu\n", (unsigned long)now, (unsigned long)hold);
+    now += hold;
+}
+
+static void fail_safe(unsigned refusal)
+{
+    printf("refused %u\n", refusal);
+}
+
+int main(void)
+{
+    uint8_t block[KILMSTRA_BLOCK_BYTES];
+    uint64_t written = kilmstra_plan_write(TASKS, plan, 2 * TASKS, block, sizeof block);
+    if (kilmstra_is_refused(written)) {
+        return 1;
+    }
+    dispatch(block, kilmstra_byte_count(written));
+    dispatch(block, kilmstra_byte_count(written) - 1);
+    return 0;
+}
