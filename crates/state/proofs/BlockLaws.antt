@@ -23,7 +23,7 @@ use Rattle.reclaiming.proofs.StateCodec.{length-entriesFrom, length-entriesByte
 use Rattle.arith.proofs.RangeLaws.{length-listTo, getD-listTo}
 
 -- entry i of those in a block
-pub entriesFrom-at :
+entriesFrom-at :
     (n : ℕ) (bytes : List ℕ) (i : ℕ) → i < n → getD (entriesFrom n bytes) i noEntry ≡ entryFrom (drop (12 * i) bytes)
 entriesFrom-at zero bytes i h = absurd (not-suc-le-zero h)
 entriesFrom-at (suc n) bytes zero h = refl
@@ -40,37 +40,32 @@ pub entry-at : (bytes : List ℕ) (i : ℕ) → i < getD bytes 6 0 → getD (dec
 entry-at bytes i h =
     entriesFrom-at (getD bytes 6 0) (drop 8 bytes) i h ∙ ap (λ (x : List ℕ). entryFrom x) (drop-drop (12 * i) 8 bytes)
 
--- a field of an entry, counted from the front of the block
-field-in : (bytes : List ℕ) (at k n i : ℕ) → at ≡ 8 + k → fieldIn bytes at n i ≡ number 256 n (drop k (drop (8 + 12 * i) bytes))
-field-in bytes at k n i e =
-    let p : at + 12 * i ≡ 8 + 12 * i + k = omega arith in
+-- a field of an entry, k bytes past its front
+field-in : (bytes : List ℕ) (k n i : ℕ) → fieldIn bytes (8 + k) n i ≡ number 256 n (drop k (drop (8 + 12 * i) bytes))
+field-in bytes k n i =
+    let p : 8 + k + 12 * i ≡ 8 + 12 * i + k = omega arith in
     ap (λ (m : ℕ). number 256 n (drop m bytes)) p ∙ sym (ap (λ (l : List ℕ). number 256 n l) (drop-drop k (8 + 12 * i) bytes))
 
 pub field-work : (bytes : List ℕ) (i : ℕ) → fieldIn bytes 13 3 i ≡ entryIn bytes i .work
-field-work bytes i = field-in bytes 13 5 3 i refl
+field-work bytes i = field-in bytes 5 3 i
 
 pub field-remaining : (bytes : List ℕ) (i : ℕ) → fieldIn bytes 16 2 i ≡ entryIn bytes i .remaining
-field-remaining bytes i = field-in bytes 16 8 2 i refl
+field-remaining bytes i = field-in bytes 8 2 i
 
--- what bytes decode to has its numbers in range
-module _ (bytes : List ℕ) (b : (k : ℕ) → getD bytes k 0 < 256) where
-  number-fits : (n at : ℕ) → number 256 n (drop at bytes) < 256 ^ n
-  number-fits n at = number-below 256 n (drop at bytes) (λ k h. subst (λ (x : ℕ). x < 256) (sym (getD-drop at bytes k 0)) (b (at + k)))
-
-  number-later : (n at k : ℕ) → number 256 n (drop k (drop at bytes)) < 256 ^ n
-  number-later n at k = subst (λ (l : List ℕ). number 256 n l < 256 ^ n) (sym (drop-drop k at bytes)) (number-fits n (at + k))
-
-  -- a number read within an entry, and its range
-  pub read-at :
-      (at k place n r : ℕ) → place ≡ at + k → r ≡ number 256 n (drop place bytes) →
-      (r ≡ number 256 n (drop k (drop at bytes))) × (r < 256 ^ n)
-  read-at at k place n r e h =
-      let same : r ≡ number 256 n (drop k (drop at bytes)) =
-      h ∙ ap (λ (m : ℕ). number 256 n (drop m bytes)) e ∙ sym (ap (λ (l : List ℕ). number 256 n l) (drop-drop k at bytes)) in
-      (same, subst (λ (x : ℕ). x < 256 ^ n) (sym same) (number-later n at k))
+-- what is read there is the field, and in its range
+pub field-read :
+    (bytes : List ℕ) (i k n : ℕ) {r : ℕ} →
+    ((j : ℕ) → getD bytes j 0 < 256) →
+    r ≡ fieldIn bytes (8 + k) n i →
+    (r ≡ number 256 n (drop k (drop (8 + 12 * i) bytes))) × (r ≤ 256 ^ n - 1)
+field-read bytes i k n b h =
+    let at : ℕ = 8 + k + 12 * i in
+    let fits : number 256 n (drop at bytes) < 256 ^ n =
+    number-below 256 n (drop at bytes) (λ j q. subst (λ (x : ℕ). x < 256) (sym (getD-drop at bytes j 0)) (b (at + j))) in
+    (h ∙ field-in bytes k n i, omega arith)
 
 -- one run of stores after another
-pub sets-append :
+sets-append :
     (l : List ℕ) (i : ℕ) (xs ys : List ℕ) → sets l i (xs ++ ys) ≡ sets (sets l i xs) (i + length xs) ys
 sets-append l i [] ys = ap (λ (k : ℕ). sets l k ys) (sym (add-zero i))
 sets-append l i (x ∷ xs) ys =
@@ -98,13 +93,13 @@ sets-over p q r v k e h =
 
 -- the four numbers of an entry, stored one after the other
 pub entry-stored :
-    (e : Entry) (at : ℕ) (l m n o image : List ℕ) →
+    (e : Entry) (at : ℕ) (l : List ℕ) {m n o image : List ℕ} →
     m ≡ sets l at (digits 256 2 (e .period)) →
     n ≡ sets m (at + 2) (digits 256 3 (e .worst)) →
     o ≡ sets n (at + 5) (digits 256 3 (e .work)) →
     image ≡ sets o (at + 8) (digits 256 2 (e .remaining)) →
     image ≡ sets l at (take 10 (entryBytes e))
-entry-stored e at l m n o image a b d f =
+entry-stored e at l {m} {n} {o} {image} a b d f =
     let p : List ℕ = digits 256 2 (e .period) in
     let w : List ℕ = digits 256 3 (e .worst) in
     let k : List ℕ = digits 256 3 (e .work) in
@@ -155,20 +150,36 @@ stored-more front es i m n f h q a b =
     ∙ ap (λ (x : List ℕ). front ++ x) (sym (append-assoc p (entryBytes e) rest))
     ∙ ap (λ (x : List ℕ). front ++ (x ++ rest)) (sym (entriesBytes-more es i q))
 
--- bytes copied to the front of a buffer, one a turn
-module _ (bytes buffer : List ℕ) (room : length bytes ≤ length buffer) where
-  pub copy-more :
-      (m : List ℕ) (j : ℕ) → j < length bytes → m ≡ paste buffer 0 bytes j → set m j (getD bytes j 0) ≡ paste buffer 0 bytes (j + 1)
-  copy-more m j h e =
-      let z : j ≡ 0 + j = omega arith in
-      ap₂ (λ (l : List ℕ) (k : ℕ). set l k (getD bytes j 0)) e z
-      ∙ paste-suc buffer 0 bytes j 0 (omega arith) h
-      ∙ sym (ap (λ (k : ℕ). paste buffer 0 bytes k) (add-one j))
+-- an image of 200 bytes is copied to the front of a buffer: its first i bytes stand there
+pub record CopiedTo (image found buffer : List ℕ) (i : ℕ) : Type 0 where
+  pub size : length image ≡ 200
+  pub room : 200 ≤ length found
+  pub below : i ≤ 200
+  pub kept : length buffer ≡ length found
+  pub bytes : buffer ≡ paste found 0 image i
 
-  pub copy-all : (m : List ℕ) (j : ℕ) → j ≡ length bytes → m ≡ paste buffer 0 bytes j → m ≡ bytes ++ drop j buffer
-  copy-all m j h e =
-      let z : 0 + j ≡ j = omega arith in
-      e ∙ ap₂ (λ (l : List ℕ) (k : ℕ). l ++ drop k buffer) (take-all j bytes (omega arith)) z
+pub copy-none : (image found : List ℕ) → length image ≡ 200 → 200 ≤ length found → CopiedTo image found found 0
+copy-none image found size room = record { size = size; room = room; below = omega arith; kept = refl; bytes = refl }
+
+module _ {image found buffer : List ℕ} {i : ℕ} (so-far : CopiedTo image found buffer i) where
+  pub copy-more : i < 200 → CopiedTo image found (set buffer i (getD image i 0)) (i + 1)
+  copy-more h =
+      let z : i ≡ 0 + i = omega arith in
+      record {
+        size = so-far .size;
+        room = so-far .room;
+        below = omega arith;
+        kept = length-set buffer i (getD image i 0) ∙ so-far .kept;
+        bytes =
+            ap₂ (λ (l : List ℕ) (k : ℕ). set l k (getD image i 0)) (so-far .bytes) z
+            ∙ paste-suc found 0 image i 0 (omega (arith, so-far .room)) (omega (arith, so-far .size))
+            ∙ sym (ap (λ (k : ℕ). paste found 0 image k) (add-one i));
+      }
+
+  pub copy-all : 200 ≤ i → buffer ≡ image ++ drop 200 found
+  copy-all h =
+      let z : 0 + i ≡ 200 = omega (arith, so-far .below) in
+      so-far .bytes ∙ ap₂ (λ (l : List ℕ) (k : ℕ). l ++ drop k found) (take-all i image (omega (arith, so-far .size))) z
 
 -- the bytes of entries from entry i on
 from-entry :
@@ -184,36 +195,32 @@ from-entry (e ∷ es) rest (suc i) h =
 
 -- entry i read off the bytes of a state
 module _ (s : State) (i : ℕ) (h : i < length (s .entries)) where
-  at-entry :
-      drop (8 + 12 * i) (encode s)
-      ≡ entryBytes (getD (s .entries) i noEntry)
-      ++ (entriesBytes (drop (suc i) (s .entries)) ++ replicate (12 * (16 - length (s .entries))) 0)
-  at-entry =
-      sym (drop-drop (12 * i) 8 (encode s)) ∙ from-entry (s .entries) (replicate (12 * (16 - length (s .entries))) 0) i h
+  abbrev entry : Entry
+  entry = getD (s .entries) i noEntry
 
-  read-off : entryIn (encode s) i ≡ entryFrom (entryBytes (getD (s .entries) i noEntry) ++ (entriesBytes (drop (suc i) (s .entries)) ++ replicate (12 * (16 - length (s .entries))) 0))
-  read-off = ap (λ (l : List ℕ). entryFrom l) at-entry
+  -- the bytes past it
+  abbrev past : List ℕ
+  past = entriesBytes (drop (suc i) (s .entries)) ++ replicate (12 * (16 - length (s .entries))) 0
+
+  read-off : entryIn (encode s) i ≡ entryFrom (entryBytes entry ++ past)
+  read-off =
+      ap (λ (l : List ℕ). entryFrom l)
+      (sym (drop-drop (12 * i) 8 (encode s)) ∙ from-entry (s .entries) (replicate (12 * (16 - length (s .entries))) 0) i h)
 
   pub encode-worst : getD (s .entries) i noEntry .worst ≤ 16777215 → entryIn (encode s) i .worst ≡ getD (s .entries) i noEntry .worst
   encode-worst e =
       ap (λ (x : Entry). x .worst) read-off
-      ∙ number-digits 256 3 (getD (s .entries) i noEntry .worst)
-      (drop 5 (entryBytes (getD (s .entries) i noEntry) ++ (entriesBytes (drop (suc i) (s .entries)) ++ replicate (12 * (16 - length (s .entries))) 0)))
-      (omega arith) (omega arith)
+      ∙ number-digits 256 3 (entry .worst) (drop 5 (entryBytes entry ++ past)) (omega arith) (omega arith)
 
   pub encode-work : workOf s i ≤ 16777215 → entryIn (encode s) i .work ≡ workOf s i
   encode-work e =
       ap (λ (x : Entry). x .work) read-off
-      ∙ number-digits 256 3 (workOf s i)
-      (drop 8 (entryBytes (getD (s .entries) i noEntry) ++ (entriesBytes (drop (suc i) (s .entries)) ++ replicate (12 * (16 - length (s .entries))) 0)))
-      (omega arith) (omega arith)
+      ∙ number-digits 256 3 (entry .work) (drop 8 (entryBytes entry ++ past)) (omega arith) (omega arith)
 
   pub encode-remaining : remainingOf s i ≤ 65535 → entryIn (encode s) i .remaining ≡ remainingOf s i
   encode-remaining e =
       ap (λ (x : Entry). x .remaining) read-off
-      ∙ number-digits 256 2 (remainingOf s i)
-      (drop 10 (entryBytes (getD (s .entries) i noEntry) ++ (entriesBytes (drop (suc i) (s .entries)) ++ replicate (12 * (16 - length (s .entries))) 0)))
-      (omega arith) (omega arith)
+      ∙ number-digits 256 2 (entry .remaining) (drop 10 (entryBytes entry ++ past)) (omega arith) (omega arith)
 
 -- a function that is changed at one place: there, and elsewhere
 pub changed-there : (f : ℕ → ℕ) (i x j : ℕ) → j ≡ i → changed f i x j ≡ x
@@ -249,9 +256,6 @@ module _ (s : State) (work remaining : ℕ → ℕ) where
 
     pub jobs-worst : getD (withJobs s work remaining .entries) i noEntry .worst ≡ getD (s .entries) i noEntry .worst
     jobs-worst = ap (λ (e : Entry). e .worst) jobs-entry
-
-    pub jobs-period : getD (withJobs s work remaining .entries) i noEntry .period ≡ getD (s .entries) i noEntry .period
-    jobs-period = ap (λ (e : Entry). e .period) jobs-entry
 
 -- a list of n values that are known
 listTo-is :
@@ -319,17 +323,19 @@ module _ (s : State) (work remaining : ℕ → ℕ) (i x : ℕ) (h : i < length 
 
   -- one entry of many
   changed-entries :
-      (f p : ℕ → ℕ) → entryWith s f p i ≡ record { period = getD (s .entries) i noEntry .period; worst = getD (s .entries) i noEntry .worst; work = f i; remaining = p i } →
-      ((j : ℕ) → (j ≡ i → ⊥) → f j ≡ work j) → ((j : ℕ) → (j ≡ i → ⊥) → p j ≡ remaining j) →
+      (f p : ℕ → ℕ) →
+      ((j : ℕ) → (j ≡ i → ⊥) → f j ≡ work j) →
+      ((j : ℕ) → (j ≡ i → ⊥) → p j ≡ remaining j) →
       set (withJobs s work remaining .entries) i (entryWith s f p i) ≡ withJobs s f p .entries
-  changed-entries f p y a b =
+  changed-entries f p a b =
       let es : List Entry = withJobs s work remaining .entries in
-      listTo-is (length (s .entries)) (entryWith s f p) (set es i (entryWith s f p i)) (length-set es i (entryWith s f p i) ∙ jobs-count s work remaining)
+      let e : Entry = entryWith s f p i in
+      listTo-is (length (s .entries)) (entryWith s f p) (set es i e) (length-set es i e ∙ jobs-count s work remaining)
       (λ j k.
       elim (ℕ-discrete j i) [
-        | yes z ↦ subst (λ (n : ℕ). getD (set es i (entryWith s f p i)) n noEntry ≡ entryWith s f p n) (sym z) (getD-set-same es i (entryWith s f p i) noEntry in-jobs)
+        | yes z ↦ subst (λ (n : ℕ). getD (set es i e) n noEntry ≡ entryWith s f p n) (sym z) (getD-set-same es i e noEntry in-jobs)
         | no z ↦
-            getD-set-other es i j (entryWith s f p i) noEntry z
+            getD-set-other es i j e noEntry z
             ∙ jobs-entry s work remaining j k
             ∙ (λ n. record {
               period = getD (s .entries) j noEntry .period;
@@ -349,7 +355,7 @@ module _ (s : State) (work remaining : ℕ → ℕ) (i x : ℕ) (h : i < length 
       let es : List Entry = withJobs s work remaining .entries in
       let rest : List ℕ = replicate (12 * (16 - length es)) 0 in
       let front : List ℕ = take 8 (encode (withJobs s work remaining)) in
-      let z : set es i (entryWith s f p i) ≡ withJobs s f p .entries = changed-entries f p refl a b in
+      let z : set es i (entryWith s f p i) ≡ withJobs s f p .entries = changed-entries f p a b in
       let n : length es ≡ length (withJobs s f p .entries) = jobs-count s work remaining ∙ sym (jobs-count s f p) in
       sets-past front (entriesBytes es ++ rest) (12 * i + k) v
       ∙ ap (λ (l : List ℕ). front ++ l)

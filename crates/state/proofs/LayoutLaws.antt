@@ -20,56 +20,51 @@ use Rattle.reclaiming.specs.StateBlock.{entryBytes, entriesBytes, encode, entry
 use Rattle.state.specs.Code.{pairsZero}
 use Rattle.reclaiming.proofs.StateCodec.{length-entriesFrom, bytes-same}
 
--- a loop over the pairs of zero bytes
-module _ (bytes : List ℕ) (count i : ℕ) (h : i < count)
-    (inv : pairsZero (count - i) (drop (8 + 12 * i) bytes) ≡ pairsZero count (drop 8 bytes))
-    (x : ℕ) (e : x ≡ number 256 2 (drop (18 + 12 * i) bytes)) where
-  pairs-cons : both (eqb x 0) (pairsZero (count - (i + 1)) (drop (8 + 12 * (i + 1)) bytes)) ≡ pairsZero count (drop 8 bytes)
-  pairs-cons =
-      let n : count - i ≡ suc (count - (i + 1)) = omega arith in
-      let a : 8 + 12 * i + 10 ≡ 18 + 12 * i = omega arith in
-      let b : 8 + 12 * i + 12 ≡ 8 + 12 * (i + 1) = omega arith in
-      sym
-      (ap (λ (k : ℕ). pairsZero k (drop (8 + 12 * i) bytes)) n
-      ∙ ap₂ (λ (y : ℕ) (l : List ℕ). both (eqb y 0) (pairsZero (count - (i + 1)) l))
-      (ap (λ (l : List ℕ). number 256 2 l) (drop-drop 10 (8 + 12 * i) bytes ∙ ap (λ (k : ℕ). drop k bytes) a) ∙ sym e)
-      (drop-drop 12 (8 + 12 * i) bytes ∙ ap (λ (k : ℕ). drop k bytes) b))
-      ∙ inv
+-- a loop over the pairs of zero bytes: those of the first i entries are zero
+pub record PairsTo (bytes : List ℕ) (count i : ℕ) : Type 0 where
+  pub below : i ≤ count
+  pub left : pairsZero (count - i) (drop (8 + 12 * i) bytes) ≡ pairsZero count (drop 8 bytes)
 
-  pub pairs-not : (x ≡ 0 → ⊥) → false ≡ pairsZero count (drop 8 bytes)
-  pairs-not z =
-      sym (ap (λ (t : Bool). both t (pairsZero (count - (i + 1)) (drop (8 + 12 * (i + 1)) bytes))) (ne-eqb x 0 z)) ∙ pairs-cons
-
-  pub pairs-again : x ≡ 0 → pairsZero (count - (i + 1)) (drop (8 + 12 * (i + 1)) bytes) ≡ pairsZero count (drop 8 bytes)
-  pairs-again z =
-      sym (ap (λ (t : Bool). both t (pairsZero (count - (i + 1)) (drop (8 + 12 * (i + 1)) bytes))) (eq-eqb x 0 z)) ∙ pairs-cons
-
-pub pairs-none : (bytes : List ℕ) (count : ℕ) → pairsZero (count - 0) bytes ≡ pairsZero count bytes
+pub pairs-none : (bytes : List ℕ) (count : ℕ) → PairsTo bytes count 0
 pairs-none bytes count =
     let n : count - 0 ≡ count = omega arith in
-    ap (λ (k : ℕ). pairsZero k bytes) n
+    record { below = omega arith; left = ap (λ (k : ℕ). pairsZero k (drop 8 bytes)) n }
 
-pub pairs-all :
-    (bytes : List ℕ) (count i : ℕ) →
-    count ≤ i →
-    pairsZero (count - i) (drop (8 + 12 * i) bytes) ≡ pairsZero count (drop 8 bytes) →
-    true ≡ pairsZero count (drop 8 bytes)
-pairs-all bytes count i z inv =
-    let n : count - i ≡ 0 = omega arith in
-    sym (ap (λ (k : ℕ). pairsZero k (drop (8 + 12 * i) bytes)) n) ∙ inv
+module _ {bytes : List ℕ} {count i : ℕ} (so-far : PairsTo bytes count i) where
+  pub pairs-all : count ≤ i → true ≡ pairsZero count (drop 8 bytes)
+  pairs-all h =
+      let n : count - i ≡ 0 = omega arith in
+      sym (ap (λ (k : ℕ). pairsZero k (drop (8 + 12 * i) bytes)) n) ∙ so-far .left
+
+  -- the pair of entry i, as a number
+  module _ (h : i < count) {x : ℕ} (read : x ≡ number 256 2 (drop (18 + 12 * i) bytes)) where
+    abbrev after : Bool
+    after = pairsZero (count - (i + 1)) (drop (8 + 12 * (i + 1)) bytes)
+
+    pairs-cons : both (eqb x 0) after ≡ pairsZero count (drop 8 bytes)
+    pairs-cons =
+        let n : count - i ≡ suc (count - (i + 1)) = omega arith in
+        let a : 8 + 12 * i + 10 ≡ 18 + 12 * i = omega arith in
+        let b : 8 + 12 * i + 12 ≡ 8 + 12 * (i + 1) = omega arith in
+        sym
+        (ap (λ (k : ℕ). pairsZero k (drop (8 + 12 * i) bytes)) n
+        ∙ ap₂ (λ (y : ℕ) (l : List ℕ). both (eqb y 0) (pairsZero (count - (i + 1)) l))
+        (ap (λ (l : List ℕ). number 256 2 l) (drop-drop 10 (8 + 12 * i) bytes ∙ ap (λ (k : ℕ). drop k bytes) a) ∙ sym read)
+        (drop-drop 12 (8 + 12 * i) bytes ∙ ap (λ (k : ℕ). drop k bytes) b))
+        ∙ so-far .left
+
+    pub pairs-not : (x ≡ 0 → ⊥) → false ≡ pairsZero count (drop 8 bytes)
+    pairs-not z = sym (ap (λ (t : Bool). both t after) (ne-eqb x 0 z)) ∙ pairs-cons
+
+    pub pairs-more : x ≡ 0 → PairsTo bytes count (i + 1)
+    pairs-more z = record {
+      below = omega arith;
+      left = sym (ap (λ (t : Bool). both t after) (eq-eqb x 0 z)) ∙ pairs-cons;
+    }
 
 -- the sum of bytes
-abbrev pub byteSum : List ℕ → ℕ
+abbrev byteSum : List ℕ → ℕ
 byteSum l = sumOf (λ (x : ℕ). x) l
-
--- a sum over the bytes from a place on
-pub sum-more :
-    (bytes : List ℕ) (at i sum x : ℕ) → i < length bytes → sum + byteSum (drop i bytes) ≡ byteSum (drop at bytes) → x ≡ getD bytes i 0 →
-    sum + x + byteSum (drop (i + 1) bytes) ≡ byteSum (drop at bytes)
-sum-more bytes at i sum x h inv e =
-    let s : byteSum (drop i bytes) ≡ getD bytes i 0 + byteSum (drop (i + 1) bytes) =
-    ap byteSum (drop-cons bytes i 0 h ∙ ap (λ (k : ℕ). getD bytes i 0 ∷ drop k bytes) (sym (add-one i))) in
-    omega arith
 
 -- bytes are all zero exactly if their sum is
 zero-sum : (l : List ℕ) → eqb (byteSum l) 0 ≡ every (eqb 0) l
@@ -82,13 +77,29 @@ zero-sum (x ∷ l) =
           ap (λ (n : ℕ). eqb n 0) e ∙ zero-sum l ∙ ap (λ (b : Bool). both b (every (eqb 0) l)) (sym (eq-eqb 0 x (omega arith)))
     ]
 
-pub sum-all :
-    (bytes : List ℕ) (at i sum : ℕ) → i ≡ length bytes → sum + byteSum (drop i bytes) ≡ byteSum (drop at bytes) →
-    eqb sum 0 ≡ every (eqb 0) (drop at bytes)
-sum-all bytes at i sum z inv =
-    let e : byteSum (drop i bytes) ≡ 0 = ap byteSum (ap (λ (k : ℕ). drop k bytes) z ∙ drop-length bytes) in
-    let s : sum ≡ byteSum (drop at bytes) = omega arith in
-    ap (λ (n : ℕ). eqb n 0) s ∙ zero-sum (drop at bytes)
+-- a sum over the 200 bytes of a block from a place on, up to i
+pub record SummedTo (bytes : List ℕ) (at sum i : ℕ) : Type 0 where
+  pub size : length bytes ≡ 200
+  pub below : i ≤ 200
+  pub total : sum + byteSum (drop i bytes) ≡ byteSum (drop at bytes)
+  pub small : sum ≤ 255 * i
+
+pub sum-none : (bytes : List ℕ) (at : ℕ) → length bytes ≡ 200 → at ≤ 200 → SummedTo bytes at 0 at
+sum-none bytes at size h = record { size = size; below = h; total = omega arith; small = omega arith }
+
+module _ {bytes : List ℕ} {at sum i : ℕ} (so-far : SummedTo bytes at sum i) where
+  pub sum-more : {x : ℕ} → i < 200 → x ≡ getD bytes i 0 → x ≤ 255 → SummedTo bytes at (sum + x) (i + 1)
+  sum-more {x} h e most =
+      let s : byteSum (drop i bytes) ≡ getD bytes i 0 + byteSum (drop (i + 1) bytes) =
+      ap byteSum (drop-cons bytes i 0 (omega (arith, so-far .size)) ∙ ap (λ (k : ℕ). getD bytes i 0 ∷ drop k bytes) (sym (add-one i))) in
+      record { size = so-far .size; below = omega arith; total = omega (arith, so-far .total); small = omega (arith, so-far .small) }
+
+  pub sum-all : 200 ≤ i → eqb sum 0 ≡ every (eqb 0) (drop at bytes)
+  sum-all h =
+      let z : i ≡ length bytes = omega (arith, so-far .size, so-far .below) in
+      let e : byteSum (drop i bytes) ≡ 0 = ap byteSum (ap (λ (k : ℕ). drop k bytes) z ∙ drop-length bytes) in
+      let s : sum ≡ byteSum (drop at bytes) = omega (arith, so-far .total) in
+      ap (λ (n : ℕ). eqb n 0) s ∙ zero-sum (drop at bytes)
 
 -- comparing bytes piece by piece
 both-assoc : (a b c : Bool) → both a (both b c) ≡ both (both a b) c
@@ -194,28 +205,34 @@ pairsIn block = pairsZero (getD block 6 0) (drop 8 block)
 abbrev zerosPast : List ℕ → Bool
 zerosPast block = every (eqb 0) (drop (8 + 12 * getD block 6 0) block)
 
--- a block of 200 bytes
-module _ (block : List ℕ) (size : length block ≡ 200) (most : getD block 6 0 ≤ 16) (b : (k : ℕ) → getD block k 0 < 256) where
+-- a block of 200 bytes, of at most 16 tasks
+pub record Block (block : List ℕ) : Type 0 where
+  pub size : length block ≡ 200
+  pub few : getD block 6 0 ≤ 16
+  pub bytes : (k : ℕ) → getD block k 0 < 256
+
+module _ {block : List ℕ} (known : Block block) where
   entries-same :
       sameBytes (entriesBytes (decode block .entries) ++ replicate (12 * (16 - length (decode block .entries))) 0) (drop 8 block)
       ≡ both (pairsIn block) (zerosPast block)
   entries-same =
       let n : ℕ = getD block 6 0 in
       let m : ℕ = 12 * (16 - length (decode block .entries)) in
-      let long : length (drop 8 block) ≡ 12 * n + m = omega (arith, length-drop 8 block, length-entriesFrom n (drop 8 block)) in
-      same-entries n m (drop 8 block) long (λ k. subst (λ (x : ℕ). x < 256) (sym (getD-drop 8 block k 0)) (b (8 + k)))
+      let long : length (drop 8 block) ≡ 12 * n + m =
+      omega (arith, length-drop 8 block, length-entriesFrom n (drop 8 block), known .size, known .few) in
+      same-entries n m (drop 8 block) long (λ k. subst (λ (x : ℕ). x < 256) (sym (getD-drop 8 block k 0)) (known .bytes (8 + k)))
       ∙ ap (λ (l : List ℕ). both (pairsIn block) (every (eqb 0) l)) (drop-drop (12 * n) 8 block)
 
-  pub layout : laidOut block ≡ both (eqb 0 (getD block 7 0)) (both (pairsIn block) (zerosPast block))
+  layout : laidOut block ≡ both (eqb 0 (getD block 7 0)) (both (pairsIn block) (zerosPast block))
   layout =
       let n : ℕ = length (decode block .entries) in
       let rest : List ℕ = entriesBytes (decode block .entries) ++ replicate (12 * (16 - n)) 0 in
-      ap (λ (t : Bool). both t (sameBytes (encode (decode block)) block)) (eq-eqb (length block) 200 size)
-      ∙ same-number block 0 4 (getD block 4 0 ∷ getD block 5 0 ∷ n ∷ 0 ∷ rest) (omega arith) b
-      ∙ same-yes block 4 (getD block 4 0) (getD block 5 0 ∷ n ∷ 0 ∷ rest) (omega arith) refl
-      ∙ same-yes block 5 (getD block 5 0) (n ∷ 0 ∷ rest) (omega arith) refl
-      ∙ same-yes block 6 n (0 ∷ rest) (omega arith) (length-entriesFrom (getD block 6 0) (drop 8 block))
-      ∙ same-byte block 7 0 rest (omega arith)
+      ap (λ (t : Bool). both t (sameBytes (encode (decode block)) block)) (eq-eqb (length block) 200 (known .size))
+      ∙ same-number block 0 4 (getD block 4 0 ∷ getD block 5 0 ∷ n ∷ 0 ∷ rest) (omega (arith, known .size)) (known .bytes)
+      ∙ same-yes block 4 (getD block 4 0) (getD block 5 0 ∷ n ∷ 0 ∷ rest) (omega (arith, known .size)) refl
+      ∙ same-yes block 5 (getD block 5 0) (n ∷ 0 ∷ rest) (omega (arith, known .size)) refl
+      ∙ same-yes block 6 n (0 ∷ rest) (omega (arith, known .size)) (length-entriesFrom (getD block 6 0) (drop 8 block))
+      ∙ same-byte block 7 0 rest (omega (arith, known .size))
       ∙ ap (λ (t : Bool). both (eqb 0 (getD block 7 0)) t) entries-same
 
   -- each way out of the test
@@ -225,15 +242,14 @@ module _ (block : List ℕ) (size : length block ≡ 200) (most : getD block 6 0
       (layout
       ∙ ap (λ (t : Bool). both t (both (pairsIn block) (zerosPast block))) (ne-eqb 0 (getD block 7 0) (λ e. z (sym e))))
 
-  module _ (z : getD block 7 0 ≡ 0) (x : Bool) (e : x ≡ pairsZero (getD block 6 0) (drop 8 block)) where
+  module _ (eighth : getD block 7 0 ≡ 0) {x : Bool} (paired : x ≡ pairsZero (getD block 6 0) (drop 8 block)) where
     eighth-zero : laidOut block ≡ both x (zerosPast block)
     eighth-zero =
         layout
-        ∙ ap₂ (λ (s t : Bool). both s (both t (zerosPast block))) (eq-eqb 0 (getD block 7 0) (sym z)) (sym e)
+        ∙ ap₂ (λ (s t : Bool). both s (both t (zerosPast block))) (eq-eqb 0 (getD block 7 0) (sym eighth)) (sym paired)
 
     pub pairs-decide : x ≡ false → false ≡ laidOut block
     pairs-decide f = sym (eighth-zero ∙ ap (λ (t : Bool). both t (zerosPast block)) f)
 
-    pub zeros-decide :
-        (y : Bool) → x ≡ true → y ≡ every (eqb 0) (drop (8 + 12 * getD block 6 0) block) → y ≡ laidOut block
-    zeros-decide y f g = g ∙ sym (eighth-zero ∙ ap (λ (t : Bool). both t (zerosPast block)) f)
+    pub zeros-decide : {y : Bool} → x ≡ true → y ≡ every (eqb 0) (drop (8 + 12 * getD block 6 0) block) → y ≡ laidOut block
+    zeros-decide f zeros = zeros ∙ sym (eighth-zero ∙ ap (λ (t : Bool). both t (zerosPast block)) f)

@@ -1,20 +1,24 @@
-use Prim.Native.Nat.{ℕ, _<_}
+-- `laid_out` meets its contract: the eighth byte, a pair of bytes past an entry or a byte past all entries decides.
+-- Assumes nothing.
 use native.Mathlib.Omega.{arith}
-use lib.ListN.{getD}
-use borrow.Author.Tests.{not-true, not-false}
-use Rattle.state.proofs.LayoutLaws.{eighth-not, pairs-decide, zeros-decide}
 use borrow.Author.Needs.{needs}
+use borrow.Author.Tests.{not-true, not-false}
+use Rattle.state.proofs.LayoutLaws.{Block, eighth-not, pairs-decide, zeros-decide}
 use Rattle.state.proofs.image.laid_out.Statement.{statement}
 use Rattle.state.proofs.image.laid_out.Tie as tie
 
-bytes : (c : tie.After-shared-slice-known) (k : ℕ) → getD (c .before .args .block .now) k 0 < 256
-bytes c k = omega (arith, c .shared-slice-known .given k)
+known : (c : tie.After-shared-slice-known) → Block (c .before .args .block .now)
+known c = record { size = c .before .pre .0; few = c .before .pre .1; bytes = λ k. omega (arith, c .shared-slice-known .given k) }
+
+-- the place past the first test
+abbrev tested : tie.After-pairs-zero → tie.Else1
+tested c = c .before .before
 
 shared-slice-read-if1 : tie.Need-shared-slice-read-if1
 shared-slice-read-if1 c = search needs
 
 returns : tie.Need-returns
-returns c = eighth-not (c .before .before .before .args .block .now) (c .before .before .before .pre .0) (c .before .before .before .pre .1) (bytes (c .before .before)) (c .if1 .taken)
+returns c = eighth-not (known (c .before .before)) (c .if1 .taken)
 
 shared-slice-read-count : tie.Need-shared-slice-read-count
 shared-slice-read-count c = search needs
@@ -27,7 +31,8 @@ pairs-zero-requires c κs = search needs
 
 returns-2 : tie.Need-returns-2
 returns-2 c =
-    pairs-decide (c .before .before .before .before .before .before .args .block .now) (c .before .before .before .before .before .before .pre .0) (c .before .before .before .before .before .before .pre .1) (bytes (c .before .before .before .before .before)) (c .before .before .before .if1 .left) (c .before .pairs-zero .result) (c .before .pairs-zero .ensures) (not-true _ (c .if2 .taken))
+    let e : tie.Else1 = tested (c .before) in
+    pairs-decide (known (e .before .before)) (e .if1 .left) (c .before .pairs-zero .ensures) (not-true _ (c .if2 .taken))
 
 mul-zero-from : tie.Need-mul-zero-from
 mul-zero-from c = search needs
@@ -40,7 +45,8 @@ zero-from-requires c κs = search needs
 
 returns-3 : tie.Need-returns-3
 returns-3 c =
-    zeros-decide (c .before .before .before .before .before .before .before .args .block .now) (c .before .before .before .before .before .before .before .pre .0) (c .before .before .before .before .before .before .before .pre .1) (bytes (c .before .before .before .before .before .before)) (c .before .before .before .before .if1 .left) (c .before .before .pairs-zero .result) (c .before .before .pairs-zero .ensures) (c .zero-from .result) (not-false _ (c .before .if2 .left)) (c .zero-from .ensures)
+    let e : tie.Else1 = tested (c .before .before) in
+    zeros-decide (known (e .before .before)) (e .if1 .left) (c .before .before .pairs-zero .ensures) (not-false _ (c .before .if2 .left)) (c .zero-from .ensures)
 
 pub laid-out-spec : {M : Type 1} → statement M
 laid-out-spec =

@@ -1,8 +1,23 @@
+-- `put_entry` meets its contract: each field is stored past the one before it.
+-- Assumes nothing.
 use Prim.Native.Nat.{_+_, _*_}
-use Rattle.state.proofs.BlockLaws.{entry-stored}
 use borrow.Author.Needs.{needs}
+use Rattle.state.proofs.BlockLaws.{entry-stored}
 use Rattle.state.proofs.image.put_entry.Statement.{statement}
 use Rattle.state.proofs.image.put_entry.Tie as tie
+
+-- the places after each store
+abbrev start : tie.After-put-number → tie.Start
+start c = c .before .before .before
+
+abbrev first : tie.After-put-number2 → tie.After-put-number
+first c = c .before .before .before .before
+
+abbrev second : tie.After-put-number3 → tie.After-put-number2
+second c = c .before .before .before .before
+
+abbrev third : tie.After-put-number4 → tie.After-put-number3
+third c = c .before .before .before .before
 
 mul-at : tie.Need-mul-at
 mul-at c = search needs
@@ -36,8 +51,10 @@ same-length c = search needs
 
 returns : tie.Need-returns
 returns c =
-    entry-stored (c .before .before .before .before .before .before .before .before .before .before .before .before .before .before .before .before .before .args .e) (8 + 12 * c .before .before .before .before .before .before .before .before .before .before .before .before .before .before .before .before .before .args .i) (c .before .before .before .before .before .before .before .before .before .before .before .before .before .before .before .before .before .args .image .now) (c .before .before .before .before .before .before .before .before .before .before .before .before .before .before .put-number .last .0) (c .before .before .before .before .before .before .before .before .before .before .put-number2 .last .0) (c .before .before .before .before .before .before .put-number3 .last .0) (c .before .before .put-number4 .last .0)
-    (c .before .before .before .before .before .before .before .before .before .before .before .before .before .before .put-number .ensures) (c .before .before .before .before .before .before .before .before .before .before .put-number2 .ensures) (c .before .before .before .before .before .before .put-number3 .ensures) (c .before .before .put-number4 .ensures)
+    let last : tie.After-put-number4 = c .before .before in
+    let s : tie.Start = start (first (second (third last))) in
+    entry-stored (s .args .e) (8 + 12 * s .args .i) (s .args .image .now) (first (second (third last)) .put-number .ensures) (second (third last) .put-number2 .ensures)
+    (third last .put-number3 .ensures) (last .put-number4 .ensures)
 
 pub put-entry-spec : {M : Type 1} → statement M
 put-entry-spec =

@@ -1,30 +1,25 @@
--- `store` meets its contract.
+-- `store` meets its contract. The loop has copied the first i bytes.
 -- Assumes nothing.
-use Prim.Native.Nat.{ℕ, _-_, _≤_}
-use mathlib.Core.Path.{_≡_, refl, ap, _∙_}
-use mathlib.Core.List.{_++_}
+use Prim.Native.Nat.{_-_}
 use native.Mathlib.Omega.{arith}
-use lib.ListN.{length, drop, length-set}
-use lib.Seq.{paste}
-use Rattle.state.proofs.BlockLaws.{copy-more, copy-all}
+use Rattle.state.proofs.BlockLaws.{CopiedTo, copy-none, copy-more, copy-all}
 use Rattle.state.proofs.image.store.Statement.{statement}
 use Rattle.state.proofs.image.store.Tie as tie
 
 abbrev Inv-loop : tie.InvT-loop
-Inv-loop buffer₀ image i₀ buffer i =
-    (i ≤ 200) × (length buffer ≡ length buffer₀) × (buffer ≡ paste buffer₀ 0 image i)
+Inv-loop buffer₀ image i₀ buffer i = CopiedTo image buffer₀ buffer i
 
 abbrev μ-loop : tie.MeasureT-loop
 μ-loop buffer₀ image i₀ buffer i = 200 - i
 
 loop-holds : tie.Need-loop-holds Inv-loop μ-loop
-loop-holds c = (omega arith, refl, refl)
+loop-holds c = copy-none (c .args .image .now) (c .args .buffer .now) (c .pre .0) (c .pre .1)
 
 shared-slice-read-buffer : tie.Need-shared-slice-read-buffer Inv-loop μ-loop
-shared-slice-read-buffer c = omega (arith, c .before .before .before .pre .0)
+shared-slice-read-buffer c = omega (arith, c .before .before .loop .inv .size)
 
 slice-write-buffer : tie.Need-slice-write-buffer Inv-loop μ-loop
-slice-write-buffer c = omega arith
+slice-write-buffer c = omega (arith, c .before .before .loop .inv .kept, c .before .before .loop .inv .room)
 
 add-i : tie.Need-add-i Inv-loop μ-loop
 add-i c = omega arith
@@ -33,20 +28,13 @@ loop-less : tie.Need-loop-less Inv-loop μ-loop
 loop-less c = omega arith
 
 loop-again : tie.Need-loop-again Inv-loop μ-loop
-loop-again c = (
-  omega arith,
-  simp length-set (c .before .before .loop .inv .1),
-  copy-more (c .before .before .before .args .image .now) (c .before .before .before .args .buffer .now) (omega (arith, c .before .before .before .pre .0, c .before .before .before .pre .1)) (c .before .before .loop .buffer) (c .before .before .loop .i) (omega (arith, c .before .before .before .pre .0)) (c .before .before .loop .inv .2),
-)
+loop-again c = copy-more (c .before .before .loop .inv) (c .before .loop-test .taken)
 
 same-length : tie.Need-same-length Inv-loop μ-loop
-same-length c = c .before .loop .inv .1
+same-length c = c .before .loop .inv .kept
 
 returns : tie.Need-returns Inv-loop μ-loop
-returns c =
-    let e : c .before .loop .i ≡ 200 = omega arith in
-    copy-all (c .before .before .args .image .now) (c .before .before .args .buffer .now) (omega (arith, c .before .before .pre .0, c .before .before .pre .1)) (c .before .loop .buffer) (c .before .loop .i) (omega (arith, c .before .before .pre .0)) (c .before .loop .inv .2)
-    ∙ ap (λ (k : ℕ). c .before .before .args .image .now ++ drop k (c .before .before .args .buffer .now)) e
+returns c = copy-all (c .before .loop .inv) (c .loop-test .left)
 
 pub store-spec : {M : Type 1} → statement M
 store-spec =
