@@ -20,7 +20,11 @@ use Rattle.reclaiming.specs.Orders.{withOrder}
 use Rattle.arith.specs.Ranges.{listTo}
 use Rattle.state.specs.Code.{entryIn, fieldIn, changed, withJobs, withClock}
 use Rattle.reclaiming.proofs.StateCodec.{length-entriesFrom, length-entriesBytes}
-use Rattle.arith.proofs.RangeLaws.{length-listTo, getD-listTo}
+use Rattle.arith.proofs.RangeLaws.{length-listTo, getD-listTo, listTo-same}
+
+-- the remaining ticks of a block's tasks
+abbrev pub remainingIn : List ℕ → ℕ → ℕ
+remainingIn bytes i = entryIn bytes i .remaining
 
 -- entry i of those in a block
 entriesFrom-at :
@@ -278,15 +282,13 @@ pub jobs-eq :
     withJobs s f p ≡ withJobs s g q
 jobs-eq s f g p q a b =
     let e : withJobs s f p .entries ≡ withJobs s g q .entries =
-    listTo-is (length (s .entries)) (entryWith s g q) (withJobs s f p .entries) (jobs-count s f p)
-    (λ i h.
-    jobs-entry s f p i h
-    ∙ (λ k. record {
+    listTo-same (length (s .entries)) (entryWith s f p) (entryWith s g q)
+    (λ i h k. record {
       period = getD (s .entries) i noEntry .period;
       worst = getD (s .entries) i noEntry .worst;
       work = a i h k;
       remaining = b i h k;
-    })) in
+    }) in
     λ k. record { clock = s .clock; task = s .task; level = s .level; entries = e k }
 
 -- stores past a front

@@ -1,28 +1,23 @@
 -- `allowance_of` meets its contract. The loop has summed the terms below j, each at most 65535.
 -- Assumes nothing.
-use Prim.Native.Nat.{ℕ, _-_, _*_, _≤_}
-use mathlib.Core.Path.{_≡_, refl, ap, _∙_}
-use mathlib.Core.List.{List}
+use Prim.Native.Nat.{_-_}
+use mathlib.Core.Path.{refl}
 use mathlib.Core.Logic.{⊎-elim}
 use native.Mathlib.Omega.{arith}
 use borrow.Author.Needs.{needs}
-use Rattle.state.specs.Code.{entryIn, allowedBy}
-use Rattle.state.proofs.KeySteps.{allowed-more, allowed-same}
+use Rattle.state.proofs.BlockLaws.{remainingIn}
+use Rattle.state.proofs.KeySteps.{AllowedTo, allowed-more, allowed-same, allowed-all}
 use Rattle.state.proofs.urgency.allowance_of.Statement.{statement}
 use Rattle.state.proofs.urgency.allowance_of.Tie as tie
 
--- what task j has left
-abbrev left : List ℕ → ℕ → ℕ
-left block j = entryIn block j .remaining
-
 abbrev Inv-loop : tie.InvT-loop
-Inv-loop block keys count key sum₀ j₀ sum j = (j ≤ count) × (sum ≡ allowedBy keys (left block) j key) × (sum ≤ 65535 * j)
+Inv-loop block keys count key sum₀ j₀ sum j = AllowedTo keys (remainingIn block) count key sum j
 
 abbrev μ-loop : tie.MeasureT-loop
 μ-loop block keys count key sum₀ j₀ sum j = count - j
 
 loop-holds : tie.Need-loop-holds Inv-loop μ-loop
-loop-holds c = (omega arith, refl, omega arith)
+loop-holds c = record { below = omega arith; total = refl; small = omega arith }
 
 remaining-at-requires : tie.Need-remaining-at-requires Inv-loop μ-loop
 remaining-at-requires c κs = search needs
@@ -34,7 +29,9 @@ element-copy-out-if1 : tie.Need-element-copy-out-if1 Inv-loop μ-loop
 element-copy-out-if1 c = omega arith
 
 add-sum : tie.Need-add-sum Inv-loop μ-loop
-add-sum c = omega (arith, c .before .before .remaining-at .ensures .1)
+add-sum c =
+    let read : tie.After-remaining-at Inv-loop μ-loop = c .before .before in
+    omega (arith, read .remaining-at .ensures .1, read .before .before .loop .inv .small)
 
 add-j : tie.Need-add-j Inv-loop μ-loop
 add-j c = omega arith
@@ -43,22 +40,17 @@ loop-less : tie.Need-loop-less Inv-loop μ-loop
 loop-less c = omega arith
 
 loop-again : tie.Need-loop-again Inv-loop μ-loop
-loop-again c = (
-  omega arith,
-  ⊎-elim
-      (λ w. allowed-more (c .before .before .before .before .before .before .args .keys .now) (left (c .before .before .before .before .before .before .args .block .now)) (c .before .before .before .before .loop .j) (c .before .before .before .before .before .before .args .key) (c .before .before .before .before .loop .sum) (c .if1 .sum) (c .before .before .before .before .loop .inv .1) (c .before .before .remaining-at .result) (w .0 .taken) (c .before .before .remaining-at .ensures .0) (w .1))
-      (λ w. allowed-same (c .before .before .before .before .before .before .args .keys .now) (left (c .before .before .before .before .before .before .args .block .now)) (c .before .before .before .before .loop .j) (c .before .before .before .before .before .before .args .key) (c .before .before .before .before .loop .sum) (c .if1 .sum) (c .before .before .before .before .loop .inv .1) (w .0 .left) (w .1))
-      (c .if1 .came),
-  ⊎-elim (λ w. omega (arith, c .before .before .remaining-at .ensures .1, w .1)) (λ w. omega (arith, w .1)) (c .if1 .came),
-)
+loop-again c =
+    let read : tie.After-remaining-at Inv-loop μ-loop = c .before .before in
+    let turn : tie.In-loop Inv-loop μ-loop = read .before in
+    ⊎-elim
+    (λ w.
+    allowed-more (turn .before .loop .inv) (turn .loop-test .taken) (w .0 .taken) (read .remaining-at .ensures .0) (read .remaining-at .ensures .1) (w .1))
+    (λ w. allowed-same (turn .before .loop .inv) (turn .loop-test .taken) (w .0 .left) (w .1))
+    (c .if1 .came)
 
 returns : tie.Need-returns Inv-loop μ-loop
-returns c =
-    let e : c .before .loop .j ≡ c .before .before .before .args .count = omega arith in (
-      c .before .loop .inv .1
-          ∙ ap (λ (n : ℕ). allowedBy (c .before .before .before .args .keys .now) (left (c .before .before .before .args .block .now)) n (c .before .before .before .args .key)) e,
-      omega (arith, c .before .loop .inv .2),
-    )
+returns c = allowed-all (c .before .loop .inv) (c .before .before .before .pre .0) (c .loop-test .left)
 
 pub allowance-of-spec : {M : Type 1} → statement M
 allowance-of-spec =

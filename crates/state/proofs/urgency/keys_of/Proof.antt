@@ -1,37 +1,46 @@
 -- `keys_of` meets its contract. The loop has filled in the keys of the tasks below i.
 -- Assumes nothing.
-use Prim.Native.Nat.{ℕ, _-_, _≤_}
-use mathlib.Core.Path.{_≡_, refl, ap, _∙_}
+use Prim.Native.Nat.{ℕ, _-_, _*_, _/_, _≤_}
+use mathlib.Core.Path.{refl}
 use native.Mathlib.Nat.{div-mul-le-self}
 use native.Mathlib.Omega.{arith}
 use borrow.Author.Needs.{needs}
-use lib.ListN.{length, length-set}
-use Rattle.state.specs.Code.{keysIn}
-use Rattle.state.proofs.KeySteps.{keys-more}
+use Rattle.state.proofs.KeySteps.{KeysTo, keys-more, keys-all}
 use Rattle.state.proofs.urgency.keys_of.Statement.{statement}
 use Rattle.state.proofs.urgency.keys_of.Tie as tie
 
 abbrev Inv-loop : tie.InvT-loop
-Inv-loop block count clock keys₀ i₀ keys i =
-    (i ≤ count) × (length keys ≡ 16) × (keys ≡ keysIn block i clock)
+Inv-loop block count clock keys₀ i₀ keys i = KeysTo block count clock keys i
 
 abbrev μ-loop : tie.MeasureT-loop
 μ-loop block count clock keys₀ i₀ keys i = count - i
 
+abbrev start : tie.In-loop Inv-loop μ-loop → tie.Start Inv-loop μ-loop
+start c = c .before .before .before
+
+abbrev clock : tie.After-period-at Inv-loop μ-loop → ℕ
+clock c = start (c .before) .args .clock
+
+-- the arrival is not past the clock
+arrival : (c : tie.After-period-at Inv-loop μ-loop) → clock c / c .period-at .result * c .period-at .result ≤ clock c
+arrival c = div-mul-le-self (clock c) (c .period-at .result)
+
 loop-holds : tie.Need-loop-holds Inv-loop μ-loop
-loop-holds c = (omega arith, refl, refl)
+loop-holds c = record { few = c .before .pre .0 .0; below = omega arith; size = refl; filled = refl }
 
 period-at-requires : tie.Need-period-at-requires Inv-loop μ-loop
 period-at-requires c κs = search needs
 
 div-at : tie.Need-div-at Inv-loop μ-loop
-div-at c = omega (arith, c .before .before .before .before .pre .1 (c .before .before .loop .i) (c .before .loop-test .taken))
+div-at c =
+    let turn : tie.In-loop Inv-loop μ-loop = c .before in
+    omega (arith, start turn .pre .1 (turn .before .loop .i) (turn .loop-test .taken))
 
 mul-at : tie.Need-mul-at Inv-loop μ-loop
-mul-at c = omega (arith, div-mul-le-self (c .before .before .before .before .args .clock) (c .period-at .result))
+mul-at c = omega (arith, arrival c)
 
 add-key-of : tie.Need-add-key-of Inv-loop μ-loop
-add-key-of c = omega (arith, div-mul-le-self (c .before .before .before .before .args .clock) (c .period-at .result), c .period-at .ensures .1)
+add-key-of c = omega (arith, arrival c, c .period-at .ensures .1)
 
 key-of-requires : tie.Need-key-of-requires Inv-loop μ-loop
 key-of-requires c κs = search needs
@@ -49,16 +58,12 @@ loop-less : tie.Need-loop-less Inv-loop μ-loop
 loop-less c = omega arith
 
 loop-again : tie.Need-loop-again Inv-loop μ-loop
-loop-again c = (
-  omega arith,
-  length-set (c .before .before .before .loop .keys) (c .before .before .before .loop .i) (c .key-of .result) ∙ c .before .before .before .loop .inv .1,
-  keys-more _ _ _ (c .before .period-at .result) _ _ (omega arith) (c .before .before .before .loop .inv .2) (c .before .period-at .ensures .0) (c .key-of .ensures),
-)
+loop-again c =
+    let turn : tie.In-loop Inv-loop μ-loop = c .before .before in
+    keys-more (turn .before .loop .inv) (turn .loop-test .taken) (c .before .period-at .ensures .0) (c .key-of .ensures)
 
 returns : tie.Need-returns Inv-loop μ-loop
-returns c =
-    let e : c .before .loop .i ≡ c .before .before .before .args .count = omega arith in
-    c .before .loop .inv .2 ∙ ap (λ (n : ℕ). keysIn (c .before .before .before .args .block .now) n (c .before .before .before .args .clock)) e
+returns c = keys-all (c .before .loop .inv) (c .loop-test .left)
 
 pub keys-of-spec : {M : Type 1} → statement M
 keys-of-spec =
