@@ -1,11 +1,11 @@
--- One pass more of a list that is played.
+-- A list of passes that is played: one pass more, and the end.
 -- Assumes nothing.
 use Prim.Native.Nat.{ℕ, suc, _+_, _≤_, _<_}
 use mathlib.Core.Path.{_≡_, refl, sym, ap, ap₂, _∙_}
 use mathlib.Core.List.{List, [], _∷_, _++_, map}
 use native.Mathlib.Numerals.{add-one}
 use native.Mathlib.Omega.{arith}
-use lib.ListN.{length, getD, take, drop, set, length-map}
+use lib.ListN.{length, getD, take, drop, set, length-map, length-set}
 use lib.Seq.{take-suc, drop-cons, set-at, append-snoc, length-take-le, take-all, take-length}
 use Rattle.plan.specs.Levels.{baseSpeeds}
 use Rattle.reclaiming.specs.Calls.{passReply, passBytes}
@@ -14,7 +14,10 @@ use Rattle.reclaiming.specs.Numbers.{replyNumber}
 use Rattle.reclaiming.specs.Play.{passFrom, playedPasses, replyNumbers}
 use Rattle.arith.proofs.ListLaws.{map-snoc}
 
-bytes-snoc : (s : List ℕ) (ps : List Pass) (p : Pass) → bytesAfter baseSpeeds s (ps ++ (p ∷ [])) ≡ passBytes baseSpeeds (bytesAfter baseSpeeds s ps) (p .d) (p .finished)
+-- a run of one pass more
+bytes-snoc :
+    (s : List ℕ) (ps : List Pass) (p : Pass) →
+    bytesAfter baseSpeeds s (ps ++ (p ∷ [])) ≡ passBytes baseSpeeds (bytesAfter baseSpeeds s ps) (p .d) (p .finished)
 bytes-snoc s [] p = refl
 bytes-snoc s (q ∷ ps) p = bytes-snoc (passBytes baseSpeeds s (q .d) (q .finished)) ps p
 
@@ -30,10 +33,10 @@ trace-length s [] = refl
 trace-length s (q ∷ ps) = ap suc (trace-length (passBytes baseSpeeds s (q .d) (q .finished)) ps)
 
 -- the first i passes, and what they leave
-abbrev pub playedTo : List ℕ → ℕ → List Pass
+abbrev playedTo : List ℕ → ℕ → List Pass
 playedTo passes i = map passFrom (take i passes)
 
-abbrev pub repliesTo : List ℕ → List ℕ → List ℕ → ℕ → List ℕ
+abbrev repliesTo : List ℕ → List ℕ → List ℕ → ℕ → List ℕ
 repliesTo s passes replies i = replyNumbers (trace baseSpeeds s (playedTo passes i)) ++ drop i replies
 
 played-more : (passes : List ℕ) (i : ℕ) → i < length passes → playedTo passes (i + 1) ≡ playedTo passes i ++ (passFrom (getD passes i 0) ∷ [])
@@ -42,58 +45,100 @@ played-more passes i h =
     ∙ ap (map passFrom) (take-suc passes i 0 h)
     ∙ map-snoc passFrom (take i passes) (getD passes i 0)
 
-module _ (s passes replies : List ℕ) (i : ℕ) (h : i < length passes) where
-  pub state-more :
-      (m : List ℕ) →
-      m ≡ bytesAfter baseSpeeds s (playedTo passes i) →
-      passBytes baseSpeeds m (passFrom (getD passes i 0) .d) (passFrom (getD passes i 0) .finished) ≡ bytesAfter baseSpeeds s (playedTo passes (i + 1))
-  state-more m e =
-      ap (λ (b : List ℕ). passBytes baseSpeeds b (passFrom (getD passes i 0) .d) (passFrom (getD passes i 0) .finished)) e
-      ∙ sym (ap (bytesAfter baseSpeeds s) (played-more passes i h) ∙ bytes-snoc s (playedTo passes i) (passFrom (getD passes i 0)))
+-- a list of passes on its way: the first i are played
+pub record PlayedTo (start passes found state replies : List ℕ) (i : ℕ) : Type 0 where
+  pub below : i ≤ length passes
+  pub room : i ≤ length found
+  pub state-kept : length state ≡ length start
+  pub replies-kept : length replies ≡ length found
+  pub state-is : state ≡ bytesAfter baseSpeeds start (playedTo passes i)
+  pub replies-are : replies ≡ repliesTo start passes found i
 
-  front-length : length (replyNumbers (trace baseSpeeds s (playedTo passes i))) ≡ i
+pub played-none : (start passes found : List ℕ) → PlayedTo start passes found start found 0
+played-none start passes found = record {
+  below = omega arith;
+  room = omega arith;
+  state-kept = refl;
+  replies-kept = refl;
+  state-is = refl;
+  replies-are = refl;
+}
+
+module _ {start passes found state replies : List ℕ} {i : ℕ} (so-far : PlayedTo start passes found state replies i) where
+  -- pass i, on the state as it is, and its reply
+  abbrev pass : Pass
+  pass = passFrom (getD passes i 0)
+
+  abbrev front : List ℕ
+  front = replyNumbers (trace baseSpeeds start (playedTo passes i))
+
+  front-length : length front ≡ i
   front-length =
-      length-map (trace baseSpeeds s (playedTo passes i)) (λ (a : Answered). replyNumber (a .reply))
-      ∙ trace-length s (playedTo passes i)
+      length-map (trace baseSpeeds start (playedTo passes i)) (λ (a : Answered). replyNumber (a .reply))
+      ∙ trace-length start (playedTo passes i)
       ∙ length-map (take i passes) passFrom
-      ∙ length-take-le i passes (omega arith)
+      ∙ length-take-le i passes (so-far .below)
 
-  pub replies-more :
-      (m l : List ℕ) (x : ℕ) →
-      m ≡ bytesAfter baseSpeeds s (playedTo passes i) →
-      l ≡ repliesTo s passes replies i →
-      i < length replies →
-      x ≡ replyNumber (passReply baseSpeeds m (passFrom (getD passes i 0) .d) (passFrom (getD passes i 0) .finished)) →
-      set l i x ≡ repliesTo s passes replies (i + 1)
-  replies-more m l x e r k n =
-      let p : Pass = passFrom (getD passes i 0) in
-      let front : List ℕ = replyNumbers (trace baseSpeeds s (playedTo passes i)) in
-      let value : x ≡ replyNumber (passReply baseSpeeds (bytesAfter baseSpeeds s (playedTo passes i)) (p .d) (p .finished)) =
-      n ∙ ap (λ (b : List ℕ). replyNumber (passReply baseSpeeds b (p .d) (p .finished))) e in
-      ap (λ (y : List ℕ). set y i x) (r ∙ ap (λ (y : List ℕ). front ++ y) (drop-cons replies i 0 k))
-      ∙ set-at front (getD replies i 0) (drop (suc i) replies) x i front-length
-      ∙ sym (append-snoc front x (drop (suc i) replies))
-      ∙ ap (λ (y : List ℕ). y ++ drop (suc i) replies)
-      (ap (λ (y : ℕ). front ++ (y ∷ [])) value
-      ∙ sym (ap (λ (y : List Pass). replyNumbers (trace baseSpeeds s y)) (played-more passes i h)
-      ∙ ap replyNumbers (trace-snoc s (playedTo passes i) p)
-      ∙ map-snoc (λ (a : Answered). replyNumber (a .reply)) (trace baseSpeeds s (playedTo passes i)) (answer (bytesAfter baseSpeeds s (playedTo passes i)) p)))
-      ∙ ap (λ (k : ℕ). replyNumbers (trace baseSpeeds s (playedTo passes (i + 1))) ++ drop k replies) (sym (add-one i))
+  module _ (h : i < length passes) (k : i < length replies) where
+    state-more : passBytes baseSpeeds state (pass .d) (pass .finished) ≡ bytesAfter baseSpeeds start (playedTo passes (i + 1))
+    state-more =
+        ap (λ (b : List ℕ). passBytes baseSpeeds b (pass .d) (pass .finished)) (so-far .state-is)
+        ∙ sym (ap (bytesAfter baseSpeeds start) (played-more passes i h) ∙ bytes-snoc start (playedTo passes i) pass)
 
--- the end: all passes are played, or there is no more room
-pub all-played : (passes : List ℕ) (room i : ℕ) → i ≡ length passes → i ≤ room → playedTo passes i ≡ playedPasses passes room
-all-played passes room i e h =
-    ap (map passFrom) (ap (λ (k : ℕ). take k passes) e ∙ take-length passes ∙ sym (take-all room passes (omega arith)))
+    replies-more :
+        (x : ℕ) → x ≡ replyNumber (passReply baseSpeeds state (pass .d) (pass .finished)) → set replies i x ≡ repliesTo start passes found (i + 1)
+    replies-more x n =
+        let now : List ℕ = bytesAfter baseSpeeds start (playedTo passes i) in
+        let value : x ≡ replyNumber (passReply baseSpeeds now (pass .d) (pass .finished)) =
+        n ∙ ap (λ (b : List ℕ). replyNumber (passReply baseSpeeds b (pass .d) (pass .finished))) (so-far .state-is) in
+        let one : front ++ (x ∷ []) ≡ replyNumbers (trace baseSpeeds start (playedTo passes (i + 1))) =
+        ap (λ (y : ℕ). front ++ (y ∷ [])) value
+        ∙ sym (ap (λ (y : List Pass). replyNumbers (trace baseSpeeds start y)) (played-more passes i h)
+        ∙ ap replyNumbers (trace-snoc start (playedTo passes i) pass)
+        ∙ map-snoc (λ (a : Answered). replyNumber (a .reply)) (trace baseSpeeds start (playedTo passes i)) (answer now pass)) in
+        ap (λ (y : List ℕ). set y i x)
+        (so-far .replies-are ∙ ap (λ (y : List ℕ). front ++ y) (drop-cons found i 0 (omega (arith, so-far .replies-kept))))
+        ∙ set-at front (getD found i 0) (drop (suc i) found) x i front-length
+        ∙ sym (append-snoc front x (drop (suc i) found))
+        ∙ ap₂ (λ (y : List ℕ) (n : ℕ). y ++ drop n found) one (sym (add-one i))
 
-pub room-played : (passes : List ℕ) (room i : ℕ) → i ≡ room → playedTo passes i ≡ playedPasses passes room
-room-played passes room i e = ap (λ (k : ℕ). map passFrom (take k passes)) e
+    pub played-next :
+        {m : List ℕ} {x : ℕ} →
+        length m ≡ length state →
+        m ≡ passBytes baseSpeeds state (pass .d) (pass .finished) →
+        x ≡ replyNumber (passReply baseSpeeds state (pass .d) (pass .finished)) →
+        PlayedTo start passes found m (set replies i x) (i + 1)
+    played-next {m} {x} same e n = record {
+      below = omega arith;
+      room = omega (arith, so-far .replies-kept);
+      state-kept = same ∙ so-far .state-kept;
+      replies-kept = length-set replies i x ∙ so-far .replies-kept;
+      state-is = e ∙ state-more;
+      replies-are = replies-more x n;
+    }
 
-pub replies-end :
-    (s passes replies : List ℕ) (room i : ℕ) →
-    i ≤ length passes →
-    playedTo passes i ≡ playedPasses passes room →
-    repliesTo s passes replies i ≡ replyNumbers (trace baseSpeeds s (playedPasses passes room)) ++ drop (length (playedPasses passes room)) replies
-replies-end s passes replies room i h e =
-    let n : i ≡ length (playedPasses passes room) =
-    sym (sym (ap length e) ∙ length-map (take i passes) passFrom ∙ length-take-le i passes h) in
-    ap₂ (λ (y : List Pass) (k : ℕ). replyNumbers (trace baseSpeeds s y) ++ drop k replies) e n
+  -- the end: all passes are played, or there is no more room
+  abbrev ps : List Pass
+  ps = playedPasses passes (length found)
+
+  abbrev AllPlayed : Type 0
+  AllPlayed = (state ≡ bytesAfter baseSpeeds start ps) × (replies ≡ replyNumbers (trace baseSpeeds start ps) ++ drop (length ps) found)
+
+  played-end : playedTo passes i ≡ ps → AllPlayed
+  played-end e =
+      let n : i ≡ length ps =
+      sym (sym (ap length e) ∙ length-map (take i passes) passFrom ∙ length-take-le i passes (so-far .below)) in (
+        so-far .state-is ∙ ap (bytesAfter baseSpeeds start) e,
+        so-far .replies-are ∙ ap₂ (λ (y : List Pass) (k : ℕ). replyNumbers (trace baseSpeeds start y) ++ drop k found) e n,
+      )
+
+  pub played-all : length passes ≤ i → AllPlayed
+  played-all h =
+      let e : i ≡ length passes = omega (arith, so-far .below) in
+      played-end
+      (ap (map passFrom) (ap (λ (k : ℕ). take k passes) e ∙ take-length passes ∙ sym (take-all (length found) passes (omega (arith, so-far .room)))))
+
+  pub played-full : length replies ≤ i → AllPlayed
+  played-full h =
+      let e : i ≡ length found = omega (arith, so-far .room, so-far .replies-kept) in
+      played-end (ap (playedTo passes) e)

@@ -7,8 +7,8 @@ use mathlib.Core.List.{List, [], _∷_, _++_}
 use native.Mathlib.Numerals.{add-one}
 use native.Mathlib.Omega.{arith}
 use borrow.Author.Tests.{le-leb, lt-leb}
-use lib.ListN.{length, getD, take, drop, set, length-append, length-drop}
-use lib.Seq.{sets, sets-eq, drop-drop, drop-append-add, length-take-le, take-at, take-suc}
+use lib.ListN.{length, getD, take, drop, set, length-append, length-drop, length-set}
+use lib.Seq.{sets, sets-eq, length-sets, drop-drop, drop-append-add, length-take-le, take-at, take-suc}
 use Rattle.arith.specs.Digits.{digits}
 use Rattle.arith.specs.Choice.{pick}
 use Rattle.plan.specs.declared.Written.{Written}
@@ -24,17 +24,17 @@ use Rattle.orders.specs.declared.Tested.{Tested}
 use Rattle.reclaiming.specs.declared.Entry.{Entry}
 use Rattle.reclaiming.specs.StateBlock.{remainingOf, decode}
 use Rattle.reclaiming.specs.Calls.{queueBytes, shownBytes, showNumber}
-use Rattle.state.specs.Code.{tasksBytes, entryIn, timingIn, readyTo, readyOf}
+use Rattle.state.specs.Code.{tasksBytes, timingIn, readyTo, readyOf}
 use Rattle.orders.specs.Code.{Good, testedBy}
 use Rattle.orders.proofs.SoundLaws.{tested-sound}
 use Rattle.reclaiming.specs.Questions.{sound}
-use Rattle.reclaiming.proofs.Soundness.{length-planIn}
-use Rattle.state.proofs.BlockLaws.{count-in, entry-at}
+use Rattle.state.proofs.BlockLaws.{remainingIn, count-in, entry-at}
+use Rattle.state.proofs.OpenJobs.{timing-count}
 use Rattle.state.proofs.KeyLaws.{ready-bytes}
-use Rattle.state.proofs.ReadySteps.{ready-front, listed-below, listed-length}
+use Rattle.state.proofs.ReadySteps.{Listed, listed-front, listed-few, listed-below}
 
 -- how many bytes tasks take
-pub length-tasksBytes : (left : ℕ → ℕ) (ts : List ℕ) → length (tasksBytes left ts) ≡ 3 * length ts
+length-tasksBytes : (left : ℕ → ℕ) (ts : List ℕ) → length (tasksBytes left ts) ≡ 3 * length ts
 length-tasksBytes left [] = refl
 length-tasksBytes left (i ∷ q) = omega (arith, length-tasksBytes left q)
 
@@ -49,46 +49,56 @@ tasksBytes-more left ts k h =
     ap (tasksBytes left) (ap (λ (n : ℕ). take n ts) (add-one k) ∙ take-suc ts k 0 h)
     ∙ tasksBytes-append left (take k ts) (getD ts k 0 ∷ [])
 
--- a buffer in which the first k tasks stand
-abbrev pub shownTo : (ℕ → ℕ) → List ℕ → List ℕ → ℕ → List ℕ
-shownTo left ts buffer k = tasksBytes left (take k ts) ++ drop (3 * k) buffer
+-- the first len of some tasks are stored in a buffer: the first k stand there
+pub record ShownTo (left : ℕ → ℕ) (ts : List ℕ) (len : ℕ) (found buffer : List ℕ) (k : ℕ) : Type 0 where
+  pub few : len ≤ length ts
+  pub room : 3 * len ≤ length found
+  pub below : k ≤ len
+  pub kept : length buffer ≡ length found
+  pub bytes : buffer ≡ tasksBytes left (take k ts) ++ drop (3 * k) found
 
-pub shown-more :
-    (left : ℕ → ℕ) (ts buffer : List ℕ) (k : ℕ) (m n : List ℕ) (x : ℕ) →
-    k < length ts →
-    3 * k + 3 ≤ length buffer →
-    x ≡ left (getD ts k 0) →
-    m ≡ shownTo left ts buffer k →
-    n ≡ sets (set m (3 * k) (getD ts k 0)) (3 * k + 1) (digits 256 2 x) →
-    n ≡ shownTo left ts buffer (k + 1)
-shown-more left ts buffer k m n x h room d a b =
-    let p : List ℕ = tasksBytes left (take k ts) in
-    let v : List ℕ = getD ts k 0 ∷ digits 256 2 (left (getD ts k 0)) in
-    let rest : List ℕ = drop (3 * k) buffer in
-    let size : length p ≡ 3 * k = omega (arith, length-tasksBytes left (take k ts), length-take-le k ts (omega arith)) in
-    let on : 3 * k + 3 ≡ 3 * (k + 1) = omega arith in
-    let after : drop (3 * k + 3) (p ++ rest) ≡ drop (3 * (k + 1)) buffer =
-    ap (λ (x : ℕ). drop (x + 3) (p ++ rest)) (sym size)
-    ∙ drop-append-add p rest 3
-    ∙ drop-drop 3 (3 * k) buffer
-    ∙ ap (λ (x : ℕ). drop x buffer) on in
-    b
-    ∙ ap (λ (y : ℕ). sets (set m (3 * k) (getD ts k 0)) (3 * k + 1) (digits 256 2 y)) d
-    ∙ ap₂ (λ (x : List ℕ) (at : ℕ). sets (set x (3 * k) (getD ts k 0)) at (digits 256 2 (left (getD ts k 0)))) a (add-one (3 * k))
-    ∙ sets-eq v (p ++ rest) (3 * k) (omega (arith, length-append p rest, length-drop (3 * k) buffer))
-    ∙ ap₂ (λ (x y : List ℕ). x ++ v ++ y) (take-at p rest (3 * k) size) after
-    ∙ ap (λ (x : List ℕ). x ++ drop (3 * (k + 1)) buffer) (sym (tasksBytes-more left ts k h))
+module _ {left : ℕ → ℕ} {ts : List ℕ} {len : ℕ} {found buffer : List ℕ} {k : ℕ} (so-far : ShownTo left ts len found buffer k) where
+  pub shown-more :
+      {x : ℕ} {m : List ℕ} →
+      k < len →
+      x ≡ left (getD ts k 0) →
+      m ≡ sets (set buffer (3 * k) (getD ts k 0)) (3 * k + 1) (digits 256 2 x) →
+      ShownTo left ts len found m (k + 1)
+  shown-more {x} {m} h d e =
+      let t : ℕ = getD ts k 0 in
+      let p : List ℕ = tasksBytes left (take k ts) in
+      let v : List ℕ = t ∷ digits 256 2 (left t) in
+      let rest : List ℕ = drop (3 * k) found in
+      let size : length p ≡ 3 * k =
+      omega (arith, length-tasksBytes left (take k ts), length-take-le k ts (omega (arith, so-far .few))) in
+      let on : 3 * k + 3 ≡ 3 * (k + 1) = omega arith in
+      let after : drop (3 * k + 3) (p ++ rest) ≡ drop (3 * (k + 1)) found =
+      ap (λ (x : ℕ). drop (x + 3) (p ++ rest)) (sym size)
+      ∙ drop-append-add p rest 3
+      ∙ drop-drop 3 (3 * k) found
+      ∙ ap (λ (x : ℕ). drop x found) on in
+      record {
+        few = so-far .few;
+        room = so-far .room;
+        below = omega arith;
+        kept =
+            ap (λ (l : List ℕ). length l) e
+            ∙ length-sets (set buffer (3 * k) t) (3 * k + 1) (digits 256 2 x)
+            ∙ length-set buffer (3 * k) t
+            ∙ so-far .kept;
+        bytes =
+            e
+            ∙ ap (λ (y : ℕ). sets (set buffer (3 * k) t) (3 * k + 1) (digits 256 2 y)) d
+            ∙ ap₂ (λ (l : List ℕ) (at : ℕ). sets (set l (3 * k) t) at (digits 256 2 (left t))) (so-far .bytes) (add-one (3 * k))
+            ∙ sets-eq v (p ++ rest) (3 * k) (omega (arith, length-append p rest, length-drop (3 * k) found, so-far .room))
+            ∙ ap₂ (λ (x y : List ℕ). x ++ v ++ y) (take-at p rest (3 * k) size) after
+            ∙ ap (λ (x : List ℕ). x ++ drop (3 * (k + 1)) found) (sym (tasksBytes-more left ts k (omega (arith, so-far .few))));
+      }
 
-pub shown-all :
-    (left : ℕ → ℕ) (ts buffer : List ℕ) (k len : ℕ) (m : List ℕ) →
-    k ≡ len →
-    m ≡ shownTo left ts buffer k →
-    m ≡ tasksBytes left (take len ts) ++ drop (3 * len) buffer
-shown-all left ts buffer k len m e a = a ∙ ap (λ (n : ℕ). shownTo left ts buffer n) e
-
--- the remaining ticks of a block's tasks
-abbrev pub remainingIn : List ℕ → ℕ → ℕ
-remainingIn bytes i = entryIn bytes i .remaining
+  pub shown-all : len ≤ k → buffer ≡ tasksBytes left (take len ts) ++ drop (3 * len) found
+  shown-all h =
+      let e : k ≡ len = omega (arith, so-far .below) in
+      so-far .bytes ∙ ap (λ (n : ℕ). tasksBytes left (take n ts) ++ drop (3 * n) found) e
 
 -- what showing a block answers and leaves
 abbrev LeftByShow : List ℕ → List ℕ → Written → List ℕ → Type 0
@@ -114,33 +124,33 @@ pub record Showing (bytes keys : List ℕ) (highest n : ℕ) (q : Ready) : Type 
   pub ready : q ≡ readyOf (readyTo keys (remainingIn bytes) n)
 
 module _ {bytes keys : List ℕ} {highest n : ℕ} {q : Ready} (k : Showing bytes keys highest n q) (buffer : List ℕ) where
-  listed : take (q .len) (q .tasks) ≡ readyTo keys (remainingIn bytes) n
-  listed = ready-front (readyTo keys (remainingIn bytes) n) q (k .ready)
+  listed : Listed keys (remainingIn bytes) n q
+  listed = record { few = omega (arith, k .counted, k .good .holds .few); is = k .ready }
 
   pub show-len : q .len ≤ 16
-  show-len = omega (arith, listed-length keys (remainingIn bytes) n q (k .ready), k .counted, k .good .holds .few)
+  show-len = listed-few listed
 
   pub show-below : (j : ℕ) → j < q .len → getD (q .tasks) j 0 < 16
-  show-below j h = omega (arith, listed-below keys (remainingIn bytes) n q (k .ready) j h, k .counted, k .good .holds .few)
+  show-below = listed-below listed
 
   -- the bytes to show
   shown-are : shownBytes baseSpeeds bytes ≡ tasksBytes (remainingIn bytes) (take (q .len) (q .tasks))
   shown-are =
       let τ : Timing = timingIn bytes in
       let now : ℕ = decode bytes .clock in
-      let some : n ≤ τ .count = omega (arith, length-planIn (decode bytes), count-in bytes, k .counted) in
+      let some : n ≤ τ .count = omega (arith, timing-count bytes, k .counted) in
       ap (λ (x : ℕ). queueBytes (queueOf τ now (remainingOf (decode bytes)) x)) (count-in bytes ∙ sym (k .counted))
       ∙ ap (λ (x : List Pending). queueBytes x)
       (queueOf-cong τ now (remainingOf (decode bytes)) (remainingIn bytes) n
       (λ i h. ap (λ (e : Entry). e .remaining) (entry-at bytes i (omega (arith, k .counted)))))
       ∙ ready-bytes τ now keys (k .good .keyed) (remainingIn bytes) n some
-      ∙ ap (tasksBytes (remainingIn bytes)) (sym listed)
+      ∙ ap (tasksBytes (remainingIn bytes)) (sym (listed-front listed))
 
   wanted : length (shownBytes baseSpeeds bytes) ≡ 3 * q .len
   wanted =
       ap length shown-are
       ∙ length-tasksBytes (remainingIn bytes) (take (q .len) (q .tasks))
-      ∙ ap (λ (x : List ℕ). 3 * length x) listed
+      ∙ ap (λ (x : List ℕ). 3 * length x) (listed-front listed)
       ∙ ap (λ (x : Ready). 3 * x .len) (sym (k .ready))
 
   asked : showNumber baseSpeeds bytes (length buffer) ≡ firstNo (roomQuestion (3 * q .len) (length buffer) ∷ [])

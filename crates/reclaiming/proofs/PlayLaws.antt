@@ -180,54 +180,93 @@ played-on-time block state found passes ok =
 
 -- what it leaves where the start is refused, and where it is accepted
 module _ (block state : List ℕ) (passes : List Pass) (found : List ℕ) where
-  pub left-refused :
+  -- the number that is returned, the state and the replies; demand 3 is said of that number and those replies
+  abbrev PlayLeaves : ℕ → List ℕ → List ℕ → Type 0
+  PlayLeaves first m replies =
+      (first ≡ replyNumber (startReply baseSpeeds block (length state)))
+      × ((m ≡ playedState baseSpeeds block state passes)
+      × ((replies ≡ playedReplies baseSpeeds block state passes found) × PlayedOnTime baseSpeeds block first passes replies))
+
+  play-leaves :
+      (first : ℕ) (m replies : List ℕ) →
+      first ≡ replyNumber (startReply baseSpeeds block (length state)) →
+      m ≡ playedState baseSpeeds block state passes →
+      replies ≡ playedReplies baseSpeeds block state passes found →
+      PlayLeaves first m replies
+  play-leaves first m replies e f r =
+      let on-time : PlayedOnTime baseSpeeds block first passes replies =
+      subst₂ (λ (n : ℕ) (l : List ℕ). PlayedOnTime baseSpeeds block n passes l) (sym e) (sym r) (played-on-time block state found passes) in
+      (e, (f, (r, on-time)))
+
+  -- by the number of the start's questions
+  abbrev stateBy : ℕ → List ℕ
+  stateBy n = leftBy n (bytes-left block state passes) state
+
+  abbrev repliesBy : ℕ → List ℕ
+  repliesBy n = leftBy n (replies-left block state passes found) found
+
+  left-refused :
+      (n : ℕ) →
+      startNumber baseSpeeds block (length state) ≡ n →
       (refusalOf (startReply baseSpeeds block (length state)) ≡ 0 → ⊥) →
       (startBuffer baseSpeeds block state ≡ playedState baseSpeeds block state passes) × (found ≡ playedReplies baseSpeeds block state passes found)
-  left-refused never = go (startNumber baseSpeeds block (length state)) refl
-    where
-      go :
-          (n : ℕ) →
-          startNumber baseSpeeds block (length state) ≡ n →
-          (startBuffer baseSpeeds block state ≡ playedState baseSpeeds block state passes) × (found ≡ playedReplies baseSpeeds block state passes found)
-      go zero e = absurd (never (number-started block state e))
-      go (suc n) e = (
-        ap (λ (k : ℕ). storedBy k (encode (begun block state)) state) e ∙ sym (ap (λ (k : ℕ). leftBy k (bytes-left block state passes) state) e),
-        sym (ap (λ (k : ℕ). leftBy k (replies-left block state passes found) found) e),
-      )
+  left-refused zero e never = absurd (never (number-started block state e))
+  left-refused (suc n) e never = (
+    ap (λ (k : ℕ). storedBy k (encode (begun block state)) state) e ∙ sym (ap stateBy e),
+    sym (ap repliesBy e),
+  )
 
   module _ (ok : refusalOf (startReply baseSpeeds block (length state)) ≡ 0) (l : List ℕ) (started : l ≡ startBuffer baseSpeeds block state) where
-    pub left-state : (m : List ℕ) → m ≡ bytesAfter baseSpeeds (take 200 l) passes → m ++ drop 200 l ≡ playedState baseSpeeds block state passes
+    left-state : (m : List ℕ) → m ≡ bytesAfter baseSpeeds (take 200 l) passes → m ++ drop 200 l ≡ playedState baseSpeeds block state passes
     left-state m e =
         ap₂ (λ (x y : List ℕ). x ++ y)
         (e ∙ ap (λ (x : List ℕ). bytesAfter baseSpeeds (take 200 x) passes) started)
         (ap (drop 200) started ∙ untouched baseSpeeds baseRising few block state ok)
-        ∙ sym (ap (λ (k : ℕ). leftBy k (bytes-left block state passes) state) (started-number block state ok))
+        ∙ sym (ap stateBy (started-number block state ok))
 
-    pub left-replies :
+    left-replies :
         (m : List ℕ) →
         m ≡ replyNumbers (trace baseSpeeds (take 200 l) passes) ++ drop (length passes) found →
         m ≡ playedReplies baseSpeeds block state passes found
     left-replies m e =
         e
         ∙ ap (λ (x : List ℕ). replyNumbers (trace baseSpeeds (take 200 x) passes) ++ drop (length passes) found) started
-        ∙ sym (ap (λ (k : ℕ). leftBy k (replies-left block state passes found) found) (started-number block state ok))
+        ∙ sym (ap repliesBy (started-number block state ok))
 
-    pub left-room : length l ≡ length state → 200 ≤ length l
-    left-room same = omega (arith, room baseSpeeds baseRising few block state ok)
+-- a start on lent blocks: its reply, whether that is an order, and the state that it leaves
+pub record Begun (block state : List ℕ) (x : Reply) (b : Bool) (l : List ℕ) : Type 0 where
+  pub replied : x ≡ startReply baseSpeeds block (length state)
+  pub tested : b ≡ eqb (refusalOf x) 0
+  pub left : l ≡ startBuffer baseSpeeds block state
+  pub kept : length l ≡ length state
 
--- demand 3 of what was returned and left
-pub on-time-of :
-    (block state found : List ℕ) (passes : List Pass) (first : ℕ) (replies : List ℕ) →
-    first ≡ replyNumber (startReply baseSpeeds block (length state)) →
-    replies ≡ playedReplies baseSpeeds block state passes found →
-    PlayedOnTime baseSpeeds block first passes replies
-on-time-of block state found passes first replies e r =
-    subst₂ (λ (x : ℕ) (l : List ℕ). PlayedOnTime baseSpeeds block x passes l) (sym e) (sym r) (played-on-time block state found passes)
+module _ {block state : List ℕ} {x : Reply} {b : Bool} {l : List ℕ} (begun : Begun block state x b l) where
+  is-refusal : b ≡ false → refusalOf (startReply baseSpeeds block (length state)) ≡ 0 → ⊥
+  is-refusal f z = eqb-false (refusalOf x) 0 (sym (begun .tested) ∙ f) (ap refusalOf (begun .replied) ∙ z)
 
--- what testing a reply tells of the one that it is
-module _ (x r : Reply) (b : Bool) (e : x ≡ r) (t : b ≡ eqb (refusalOf x) 0) where
-  pub is-refusal : b ≡ false → refusalOf r ≡ 0 → ⊥
-  is-refusal f z = eqb-false (refusalOf x) 0 (sym t ∙ f) (ap refusalOf e ∙ z)
+  no-refusal : b ≡ true → refusalOf (startReply baseSpeeds block (length state)) ≡ 0
+  no-refusal t = ap refusalOf (sym (begun .replied)) ∙ eqb-true (refusalOf x) 0 (sym (begun .tested) ∙ t)
 
-  pub no-refusal : b ≡ true → refusalOf r ≡ 0
-  no-refusal f = ap refusalOf (sym e) ∙ eqb-true (refusalOf x) 0 (sym t ∙ f)
+  -- an accepted start has its 200 bytes
+  pub play-room : b ≡ true → 200 ≤ length l
+  play-room t = omega (arith, room baseSpeeds baseRising few block state (no-refusal t), begun .kept)
+
+  module _ (passes : List Pass) (found : List ℕ) {first : ℕ} (numbered : first ≡ replyNumber x) where
+    first-is : first ≡ replyNumber (startReply baseSpeeds block (length state))
+    first-is = numbered ∙ ap replyNumber (begun .replied)
+
+    pub play-refused : b ≡ false → PlayLeaves block state passes found first l found
+    play-refused f =
+        let same = left-refused block state passes found (startNumber baseSpeeds block (length state)) refl (is-refusal f) in
+        play-leaves block state passes found first l found first-is (begun .left ∙ same .0) (same .1)
+
+    pub play-accepted :
+        {m replies : List ℕ} →
+        b ≡ true →
+        m ≡ bytesAfter baseSpeeds (take 200 l) passes →
+        replies ≡ replyNumbers (trace baseSpeeds (take 200 l) passes) ++ drop (length passes) found →
+        PlayLeaves block state passes found first (m ++ drop 200 l) replies
+    play-accepted {m} {replies} t e r =
+        play-leaves block state passes found first (m ++ drop 200 l) replies first-is
+        (left-state block state passes found (no-refusal t) l (begun .left) m e)
+        (left-replies block state passes found (no-refusal t) l (begun .left) replies r)

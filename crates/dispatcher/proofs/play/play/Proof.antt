@@ -1,24 +1,51 @@
+-- `play` meets its contract: the start is refused, or its state is played on.
+-- Assumes nothing.
+use Prim.Native.Nat.{ℕ, _≤_}
+use mathlib.Core.Path.{sym}
 use mathlib.Core.List.{List}
-use mathlib.Core.Path.{sym, ap, _∙_}
+use borrow.Author.Needs.{needs}
+use borrow.Author.Tests.{not-true, not-false}
 use lib.ListN.{length}
 use lib.Seq.{length-take-le}
-use borrow.Author.Tests.{not-true, not-false}
-use Rattle.plan.specs.Levels.{baseSpeeds}
-use Rattle.reclaiming.specs.Calls.{startReply}
 use Rattle.reclaiming.specs.Run.{Pass}
-use Rattle.reclaiming.specs.Numbers.{replyNumber}
 use Rattle.reclaiming.specs.Play.{playedPasses}
 use Rattle.reclaiming.proofs.NumberLaws.{start-most}
-use Rattle.reclaiming.proofs.PlayLaws.{left-refused, left-state, left-replies, left-room, on-time-of, is-refusal, no-refusal}
-use borrow.Author.Needs.{needs}
+use Rattle.reclaiming.proofs.PlayLaws.{Begun, play-room, play-refused, play-accepted}
 use Rattle.dispatcher.proofs.play.play.Statement.{statement}
 use Rattle.dispatcher.proofs.play.play.Tie as tie
-use Rattle.dispatcher.proofs.play.play.Reads as reads
-use Rattle.dispatcher.proofs.play.play.Lts as lts
-use Rattle.answers.proofs.reply_number.Reads as reply-number-reads
-use Rattle.dispatcher.proofs.play.is_order.Reads as is-order-reads
-use Rattle.dispatcher.proofs.play.play_all.Reads as play-all-reads
-use Rattle.dispatcher.proofs.start.start.Reads as start-reads
+
+-- the places that others are reached from
+abbrev start : tie.After-start → tie.Start
+start c = c .before .before .before .before .before .before
+
+abbrev started : tie.After-is-order → tie.After-start
+started c = c .before .before .before
+
+abbrev accepted : tie.After-play-all → tie.Else1
+accepted c = c .before .before .before
+
+-- the state that the start leaves, the passes that are played and the replies that were found
+abbrev left : tie.After-start → List ℕ
+left c = c .start .last .1 .0
+
+abbrev passes : tie.After-start → List Pass
+passes c = playedPasses (start c .args .passes .now) (length (start c .args .replies .now))
+
+abbrev found : tie.After-start → List ℕ
+found c = start c .args .replies .now
+
+begun :
+    (c : tie.After-is-order) →
+    Begun (start (started c) .args .block .now) (start (started c) .args .state .now) (started c .start .result) (c .is-order .result) (left (started c))
+begun c = record {
+  replied = started c .start .ensures .0;
+  tested = c .is-order .ensures;
+  left = started c .start .ensures .1;
+  kept = started c .start .kept .1 .0;
+}
+
+room : (c : tie.Else1) → 200 ≤ length (left (started (c .before)))
+room c = play-room (begun (c .before)) (not-false _ (c .if1 .left))
 
 start-requires : tie.Need-start-requires
 start-requires c κs = search needs
@@ -27,37 +54,31 @@ is-order-requires : tie.Need-is-order-requires
 is-order-requires c κs = search needs
 
 reply-number-requires : tie.Need-reply-number-requires
-reply-number-requires c κs = start-most (c .before .before .before .before .before .before .before .before .before .before .args .block .now) (length (c .before .before .before .before .before .before .before .before .before .before .args .state .now)) (c .before .before .before .before .start .result) (c .before .before .before .before .start .ensures .0)
+reply-number-requires c κs =
+    let s : tie.After-start = started (c .before) in
+    start-most (start s .args .block .now) (length (start s .args .state .now)) (s .start .result) (s .start .ensures .0)
 
 same-length : tie.Need-same-length
 same-length c = search needs
 
 returns : tie.Need-returns
 returns c =
-    let ps : List Pass = playedPasses (c .before .before .before .before .before .before .before .before .before .before .before .args .passes .now) (length (c .before .before .before .before .before .before .before .before .before .before .before .args .replies .now)) in
-    let first = c .reply-number .ensures ∙ ap replyNumber (c .before .before .before .before .before .start .ensures .0) in
-    let left = left-refused (c .before .before .before .before .before .before .before .before .before .before .before .args .block .now) (c .before .before .before .before .before .before .before .before .before .before .before .args .state .now) ps (c .before .before .before .before .before .before .before .before .before .before .before .args .replies .now)
-    (is-refusal (c .before .before .before .before .before .start .result) (startReply baseSpeeds (c .before .before .before .before .before .before .before .before .before .before .before .args .block .now) (length (c .before .before .before .before .before .before .before .before .before .before .before .args .state .now))) (c .before .before .is-order .result) (c .before .before .before .before .before .start .ensures .0) (c .before .before .is-order .ensures) (not-true _ (c .before .if1 .taken))) in
-    (first, (c .before .before .before .before .before .start .ensures .1 ∙ left .0, (left .1, on-time-of (c .before .before .before .before .before .before .before .before .before .before .before .args .block .now) (c .before .before .before .before .before .before .before .before .before .before .before .args .state .now) (c .before .before .before .before .before .before .before .before .before .before .before .args .replies .now) ps (c .reply-number .result) (c .before .before .before .before .before .before .before .before .before .before .before .args .replies .now) first (left .1))))
+    let k : tie.After-is-order = c .before .before in
+    play-refused (begun k) (passes (started k)) (found (started k)) (c .reply-number .ensures) (not-true _ (c .before .if1 .taken))
 
 slice-relend-prefix-play-all : tie.Need-slice-relend-prefix-play-all
-slice-relend-prefix-play-all c =
-    left-room (c .before .before .before .before .before .before .before .before .before .before .args .block .now) (c .before .before .before .before .before .before .before .before .before .before .args .state .now) (playedPasses (c .before .before .before .before .before .before .before .before .before .before .args .passes .now) (length (c .before .before .before .before .before .before .before .before .before .before .args .replies .now))) (c .before .before .before .before .before .before .before .before .before .before .args .replies .now)
-    (no-refusal (c .before .before .before .before .start .result) (startReply baseSpeeds (c .before .before .before .before .before .before .before .before .before .before .args .block .now) (length (c .before .before .before .before .before .before .before .before .before .before .args .state .now))) (c .before .is-order .result) (c .before .before .before .before .start .ensures .0) (c .before .is-order .ensures) (not-false _ (c .if1 .left)))
-    (c .before .before .before .before .start .last .1 .0) (c .before .before .before .before .start .ensures .1) (c .before .before .before .before .start .kept .1 .0)
+slice-relend-prefix-play-all c = room c
 
 slice-aggregate-play-all : tie.Need-slice-aggregate-play-all
-slice-aggregate-play-all c =
-    sym (length-take-le 200 (c .before .before .before .before .before .start .last .1 .0)
-    (left-room (c .before .before .before .before .before .before .before .before .before .before .before .args .block .now) (c .before .before .before .before .before .before .before .before .before .before .before .args .state .now) (playedPasses (c .before .before .before .before .before .before .before .before .before .before .before .args .passes .now) (length (c .before .before .before .before .before .before .before .before .before .before .before .args .replies .now))) (c .before .before .before .before .before .before .before .before .before .before .before .args .replies .now)
-    (no-refusal (c .before .before .before .before .before .start .result) (startReply baseSpeeds (c .before .before .before .before .before .before .before .before .before .before .before .args .block .now) (length (c .before .before .before .before .before .before .before .before .before .before .before .args .state .now))) (c .before .before .is-order .result) (c .before .before .before .before .before .start .ensures .0) (c .before .before .is-order .ensures) (not-false _ (c .before .if1 .left)))
-    (c .before .before .before .before .before .start .last .1 .0) (c .before .before .before .before .before .start .ensures .1) (c .before .before .before .before .before .start .kept .1 .0)))
+slice-aggregate-play-all c = sym (length-take-le 200 (left (started (c .before .before))) (room (c .before)))
 
 play-all-requires : tie.Need-play-all-requires
 play-all-requires c κs = search needs
 
 reply-number-requires-2 : tie.Need-reply-number-requires-2
-reply-number-requires-2 c κs = start-most (c .before .before .before .before .before .before .before .before .before .before .before .before .before .before .before .before .before .args .block .now) (length (c .before .before .before .before .before .before .before .before .before .before .before .before .before .before .before .before .before .args .state .now)) (c .before .before .before .before .before .before .before .before .before .before .before .start .result) (c .before .before .before .before .before .before .before .before .before .before .before .start .ensures .0)
+reply-number-requires-2 c κs =
+    let s : tie.After-start = started (accepted (c .before .before .before .before) .before) in
+    start-most (start s .args .block .now) (length (start s .args .state .now)) (s .start .result) (s .start .ensures .0)
 
 same-length-2 : tie.Need-same-length-2
 same-length-2 c = search needs
@@ -67,19 +88,10 @@ same-length-3 c = search needs
 
 returns-2 : tie.Need-returns-2
 returns-2 c =
-    let ps : List Pass = playedPasses (c .before .before .before .before .before .before .before .before .before .before .before .before .before .before .before .before .before .before .args .passes .now) (length (c .before .before .before .before .before .before .before .before .before .before .before .before .before .before .before .before .before .before .args .replies .now)) in
-    let first = c .reply-number2 .ensures ∙ ap replyNumber (c .before .before .before .before .before .before .before .before .before .before .before .before .start .ensures .0) in
-    let ok = no-refusal (c .before .before .before .before .before .before .before .before .before .before .before .before .start .result) (startReply baseSpeeds (c .before .before .before .before .before .before .before .before .before .before .before .before .before .before .before .before .before .before .args .block .now) (length (c .before .before .before .before .before .before .before .before .before .before .before .before .before .before .before .before .before .before .args .state .now))) (c .before .before .before .before .before .before .before .before .before .is-order .result) (c .before .before .before .before .before .before .before .before .before .before .before .before .start .ensures .0) (c .before .before .before .before .before .before .before .before .before .is-order .ensures) (not-false _ (c .before .before .before .before .before .before .before .before .if1 .left)) in
-    let replies = left-replies (c .before .before .before .before .before .before .before .before .before .before .before .before .before .before .before .before .before .before .args .block .now) (c .before .before .before .before .before .before .before .before .before .before .before .before .before .before .before .before .before .before .args .state .now) ps (c .before .before .before .before .before .before .before .before .before .before .before .before .before .before .before .before .before .before .args .replies .now) ok (c .before .before .before .before .before .before .before .before .before .before .before .before .start .last .1 .0) (c .before .before .before .before .before .before .before .before .before .before .before .before .start .ensures .1) (c .before .before .before .before .before .play-all .last .1 .1 .0) (c .before .before .before .before .before .play-all .ensures .1) in (
-      first,
-      (
-        left-state (c .before .before .before .before .before .before .before .before .before .before .before .before .before .before .before .before .before .before .args .block .now) (c .before .before .before .before .before .before .before .before .before .before .before .before .before .before .before .before .before .before .args .state .now) ps (c .before .before .before .before .before .before .before .before .before .before .before .before .before .before .before .before .before .before .args .replies .now) ok (c .before .before .before .before .before .before .before .before .before .before .before .before .start .last .1 .0) (c .before .before .before .before .before .before .before .before .before .before .before .before .start .ensures .1) (c .before .before .before .before .before .play-all .last .0) (c .before .before .before .before .before .play-all .ensures .0),
-        (
-          replies,
-          on-time-of (c .before .before .before .before .before .before .before .before .before .before .before .before .before .before .before .before .before .before .args .block .now) (c .before .before .before .before .before .before .before .before .before .before .before .before .before .before .before .before .before .before .args .state .now) (c .before .before .before .before .before .before .before .before .before .before .before .before .before .before .before .before .before .before .args .replies .now) ps (c .reply-number2 .result) (c .before .before .before .before .before .play-all .last .1 .1 .0) first replies,
-        ),
-      ),
-    )
+    let p : tie.After-play-all = c .before .before .before .before .before in
+    let e : tie.Else1 = accepted p in
+    play-accepted (begun (e .before)) (passes (started (e .before))) (found (started (e .before))) (c .reply-number2 .ensures) (not-false _ (e .if1 .left))
+    (p .play-all .ensures .0) (p .play-all .ensures .1)
 
 pub play-spec : {M : Type 1} → statement M
 play-spec =

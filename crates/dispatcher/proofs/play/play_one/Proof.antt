@@ -1,15 +1,13 @@
+-- `play_one` meets its contract: the pass that a number stands for, and its reply as a number.
+-- Assumes nothing.
 use Prim.Native.Nat.{_/_, _%_}
-use lib.Dec.{eqb}
 use mathlib.Core.Path.{ap, _∙_}
+use lib.Dec.{eqb}
+use borrow.Author.Needs.{needs}
 use Rattle.reclaiming.specs.Numbers.{replyNumber}
 use Rattle.reclaiming.proofs.NumberLaws.{pass-most}
-use borrow.Author.Needs.{needs}
 use Rattle.dispatcher.proofs.play.play_one.Statement.{statement}
 use Rattle.dispatcher.proofs.play.play_one.Tie as tie
-use Rattle.dispatcher.proofs.play.play_one.Reads as reads
-use Rattle.dispatcher.proofs.play.play_one.Lts as lts
-use Rattle.answers.proofs.reply_number.Reads as reply-number-reads
-use Rattle.passing.proofs.pass.Reads as pass-reads
 
 cast-d : tie.Need-cast-d
 cast-d c = search needs
@@ -19,13 +17,17 @@ pass-requires c κs = search needs
 
 reply-number-requires : tie.Need-reply-number-requires
 reply-number-requires c κs =
-    pass-most (c .before .before .before .before .before .args .state .now) (c .before .before .before .before .before .args .p % 4294967296) (eqb (c .before .before .before .before .before .args .p / 4294967296 % 2) 1) (c .before .before .pass .result) (c .before .before .pass .ensures .0)
+    let p : tie.After-pass = c .before .before in
+    let s : tie.Start = p .before .before .before in
+    pass-most (s .args .state .now) (s .args .p % 4294967296) (eqb (s .args .p / 4294967296 % 2) 1) (p .pass .result) (p .pass .ensures .0)
 
 same-length : tie.Need-same-length
 same-length c = search needs
 
 returns : tie.Need-returns
-returns c = (c .reply-number .ensures ∙ ap replyNumber (c .before .before .before .pass .ensures .0), c .before .before .before .pass .ensures .1)
+returns c =
+    let p : tie.After-pass = c .before .before .before in
+    (c .reply-number .ensures ∙ ap replyNumber (p .pass .ensures .0), p .pass .ensures .1)
 
 pub play-one-spec : {M : Type 1} → statement M
 play-one-spec = tie.close (tie.spec cast-d pass-requires reply-number-requires same-length returns)
