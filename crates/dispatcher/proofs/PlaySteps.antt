@@ -32,18 +32,16 @@ trace-length : (s : List ℕ) (ps : List Pass) → length (trace baseSpeeds s ps
 trace-length s [] = refl
 trace-length s (q ∷ ps) = ap suc (trace-length (passBytes baseSpeeds s (q .d) (q .finished)) ps)
 
--- the first i passes, and what they leave
-abbrev playedTo : List ℕ → ℕ → List Pass
-playedTo passes i = map passFrom (take i passes)
-
-abbrev repliesTo : List ℕ → List ℕ → List ℕ → ℕ → List ℕ
-repliesTo s passes replies i = replyNumbers (trace baseSpeeds s (playedTo passes i)) ++ drop i replies
-
-played-more : (passes : List ℕ) (i : ℕ) → i < length passes → playedTo passes (i + 1) ≡ playedTo passes i ++ (passFrom (getD passes i 0) ∷ [])
+-- the first i passes: one more, and the replies that they leave
+played-more :
+    (passes : List ℕ) (i : ℕ) → i < length passes → playedPasses passes (i + 1) ≡ playedPasses passes i ++ (passFrom (getD passes i 0) ∷ [])
 played-more passes i h =
-    ap (λ (k : ℕ). playedTo passes k) (add-one i)
+    ap (playedPasses passes) (add-one i)
     ∙ ap (map passFrom) (take-suc passes i 0 h)
     ∙ map-snoc passFrom (take i passes) (getD passes i 0)
+
+abbrev repliesTo : List ℕ → List ℕ → List ℕ → ℕ → List ℕ
+repliesTo s passes replies i = replyNumbers (trace baseSpeeds s (playedPasses passes i)) ++ drop i replies
 
 -- a list of passes on its way: the first i are played
 pub record PlayedTo (start passes found state replies : List ℕ) (i : ℕ) : Type 0 where
@@ -51,7 +49,7 @@ pub record PlayedTo (start passes found state replies : List ℕ) (i : ℕ) : Ty
   pub room : i ≤ length found
   pub state-kept : length state ≡ length start
   pub replies-kept : length replies ≡ length found
-  pub state-is : state ≡ bytesAfter baseSpeeds start (playedTo passes i)
+  pub state-is : state ≡ bytesAfter baseSpeeds start (playedPasses passes i)
   pub replies-are : replies ≡ repliesTo start passes found i
 
 pub played-none : (start passes found : List ℕ) → PlayedTo start passes found start found 0
@@ -70,32 +68,32 @@ module _ {start passes found state replies : List ℕ} {i : ℕ} (so-far : Playe
   pass = passFrom (getD passes i 0)
 
   abbrev front : List ℕ
-  front = replyNumbers (trace baseSpeeds start (playedTo passes i))
+  front = replyNumbers (trace baseSpeeds start (playedPasses passes i))
 
   front-length : length front ≡ i
   front-length =
-      length-map (trace baseSpeeds start (playedTo passes i)) (λ (a : Answered). replyNumber (a .reply))
-      ∙ trace-length start (playedTo passes i)
+      length-map (trace baseSpeeds start (playedPasses passes i)) (λ (a : Answered). replyNumber (a .reply))
+      ∙ trace-length start (playedPasses passes i)
       ∙ length-map (take i passes) passFrom
       ∙ length-take-le i passes (so-far .below)
 
   module _ (h : i < length passes) (k : i < length replies) where
-    state-more : passBytes baseSpeeds state (pass .d) (pass .finished) ≡ bytesAfter baseSpeeds start (playedTo passes (i + 1))
+    state-more : passBytes baseSpeeds state (pass .d) (pass .finished) ≡ bytesAfter baseSpeeds start (playedPasses passes (i + 1))
     state-more =
         ap (λ (b : List ℕ). passBytes baseSpeeds b (pass .d) (pass .finished)) (so-far .state-is)
-        ∙ sym (ap (bytesAfter baseSpeeds start) (played-more passes i h) ∙ bytes-snoc start (playedTo passes i) pass)
+        ∙ sym (ap (bytesAfter baseSpeeds start) (played-more passes i h) ∙ bytes-snoc start (playedPasses passes i) pass)
 
     replies-more :
         (x : ℕ) → x ≡ replyNumber (passReply baseSpeeds state (pass .d) (pass .finished)) → set replies i x ≡ repliesTo start passes found (i + 1)
     replies-more x n =
-        let now : List ℕ = bytesAfter baseSpeeds start (playedTo passes i) in
+        let now : List ℕ = bytesAfter baseSpeeds start (playedPasses passes i) in
         let value : x ≡ replyNumber (passReply baseSpeeds now (pass .d) (pass .finished)) =
         n ∙ ap (λ (b : List ℕ). replyNumber (passReply baseSpeeds b (pass .d) (pass .finished))) (so-far .state-is) in
-        let one : front ++ (x ∷ []) ≡ replyNumbers (trace baseSpeeds start (playedTo passes (i + 1))) =
+        let one : front ++ (x ∷ []) ≡ replyNumbers (trace baseSpeeds start (playedPasses passes (i + 1))) =
         ap (λ (y : ℕ). front ++ (y ∷ [])) value
         ∙ sym (ap (λ (y : List Pass). replyNumbers (trace baseSpeeds start y)) (played-more passes i h)
-        ∙ ap replyNumbers (trace-snoc start (playedTo passes i) pass)
-        ∙ map-snoc (λ (a : Answered). replyNumber (a .reply)) (trace baseSpeeds start (playedTo passes i)) (answer now pass)) in
+        ∙ ap replyNumbers (trace-snoc start (playedPasses passes i) pass)
+        ∙ map-snoc (λ (a : Answered). replyNumber (a .reply)) (trace baseSpeeds start (playedPasses passes i)) (answer now pass)) in
         ap (λ (y : List ℕ). set y i x)
         (so-far .replies-are ∙ ap (λ (y : List ℕ). front ++ y) (drop-cons found i 0 (omega (arith, so-far .replies-kept))))
         ∙ set-at front (getD found i 0) (drop (suc i) found) x i front-length
@@ -124,7 +122,7 @@ module _ {start passes found state replies : List ℕ} {i : ℕ} (so-far : Playe
   abbrev AllPlayed : Type 0
   AllPlayed = (state ≡ bytesAfter baseSpeeds start ps) × (replies ≡ replyNumbers (trace baseSpeeds start ps) ++ drop (length ps) found)
 
-  played-end : playedTo passes i ≡ ps → AllPlayed
+  played-end : playedPasses passes i ≡ ps → AllPlayed
   played-end e =
       let n : i ≡ length ps =
       sym (sym (ap length e) ∙ length-map (take i passes) passFrom ∙ length-take-le i passes (so-far .below)) in (
@@ -141,4 +139,4 @@ module _ {start passes found state replies : List ℕ} {i : ℕ} (so-far : Playe
   pub played-full : length replies ≤ i → AllPlayed
   played-full h =
       let e : i ≡ length found = omega (arith, so-far .room, so-far .replies-kept) in
-      played-end (ap (playedTo passes) e)
+      played-end (ap (playedPasses passes) e)

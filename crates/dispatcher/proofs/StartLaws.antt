@@ -35,7 +35,7 @@ use Rattle.reclaiming.specs.declared.Reply.the-variants as reply
 use Rattle.reclaiming.specs.StateBlock.{State, noEntry, taskOf, timingAt, timing, planIn, entryBytes, entriesBytes, encode, decode}
 use Rattle.reclaiming.specs.Orders.{chooseOrder, holdOf, orderWith}
 use Rattle.reclaiming.specs.Passes.{newEntry, startState}
-use Rattle.reclaiming.specs.Calls.{repliedBy, startNumber, startOrder, startReply, startBuffer}
+use Rattle.reclaiming.specs.Calls.{repliedBy, startNumber, startOrder}
 use Rattle.state.specs.Code.{Holds, entryIn, timingIn, latestKey, keysIn, Keyed}
 use Rattle.arith.proofs.ArrayLaws.{value-at}
 use Rattle.orders.specs.Code.{Doable}
@@ -51,7 +51,7 @@ use Rattle.state.proofs.BlockLaws.{storedTo, stored-more, count-in, entry-at}
 use Rattle.orders.proofs.NeedTests.{speed-positive, speed-most}
 
 -- the eight bytes in front of the entries of a new state
-abbrev pub newFront : ℕ → List ℕ
+abbrev newFront : ℕ → List ℕ
 newFront count = 0 ∷ 0 ∷ 0 ∷ 0 ∷ 255 ∷ 0 ∷ count ∷ 0 ∷ []
 
 -- an image of which the first i entries are stored has 200 bytes
@@ -68,94 +68,124 @@ stored-size front es i f few h =
       length-replicate {A = ℕ} (12 * (16 - i)) 0,
     )
 
+-- a plan as the code holds it, in 16 places: how many tasks it has
+plan-length : (p : Plan) → length (p .tasks) ≡ 16 → p .count ≤ 16 → length (tasksOf p) ≡ p .count
+plan-length p size few = length-take-le (p .count) (p .tasks) (omega arith)
+
+pub record Held (p : Plan) : Type 0 where
+  pub few : p .count ≤ 16
+  pub count : p .count ≡ length (tasksOf p)
+
+pub held : (p : Plan) → length (p .tasks) ≡ 16 → p .count ≤ 16 → Held p
+held p size few = record { few = few; count = sym (plan-length p size few) }
+
 -- an image on its way: its first i entries are stored
 pub record Making (speed : ℕ) (p : Plan) (image : List ℕ) (i : ℕ) : Type 0 where
+  pub plan : Held p
   pub below : i ≤ p .count
   pub size : length image ≡ 200
   pub bytes : image ≡ storedTo (newFront (p .count)) (newState speed (tasksOf p) .entries) i
 
-module _ (speed : ℕ) (p : Plan) (size : length (p .tasks) ≡ 16) (few : p .count ≤ 16) where
+module _ (speed : ℕ) {p : Plan} (plan : Held p) where
   abbrev made : List Entry
   made = newState speed (tasksOf p) .entries
 
-  plan-length : length (tasksOf p) ≡ p .count
-  plan-length = length-take-le (p .count) (p .tasks) (omega arith)
-
   made-are : length made ≡ p .count
-  made-are = length-listTo (length (tasksOf p)) (newEntry (timingAt speed (tasksOf p)) (tasksOf p)) ∙ plan-length
+  made-are = length-listTo (length (tasksOf p)) (newEntry (timingAt speed (tasksOf p)) (tasksOf p)) ∙ sym (plan .count)
 
   making : (i : ℕ) (image : List ℕ) → i ≤ p .count → image ≡ storedTo (newFront (p .count)) made i → Making speed p image i
   making i image h e = record {
+    plan = plan;
     below = h;
-    size = ap length e ∙ stored-size (newFront (p .count)) made i refl (omega arith) (omega (arith, made-are));
+    size = ap length e ∙ stored-size (newFront (p .count)) made i refl (omega (arith, plan .few)) (omega (arith, made-are));
     bytes = e;
   }
 
-  pub making-none : (image : List ℕ) → image ≡ 0 ∷ 0 ∷ 0 ∷ 0 ∷ 255 ∷ 0 ∷ p .count ∷ replicate 193 0 → Making speed p image 0
-  making-none image e = making 0 image (omega arith) e
+  pub making-none : {image : List ℕ} → image ≡ 0 ∷ 0 ∷ 0 ∷ 0 ∷ 255 ∷ 0 ∷ p .count ∷ replicate 193 0 → Making speed p image 0
+  making-none {image} e = making 0 image (omega arith) e
 
-  module _ (image : List ℕ) (i : ℕ) (h : Making speed p image i) where
-    pub making-more :
-        (ticks : ℕ) (m : List ℕ) →
-        i < p .count →
-        ticks ≡ need speed (getD (p .tasks) i noTask .worst) →
-        m
-        ≡ sets image (8 + 12 * i)
-        (take 10
-        (entryBytes
-        record {
-          period = getD (p .tasks) i noTask .period;
-          worst = getD (p .tasks) i noTask .worst;
-          work = getD (p .tasks) i noTask .worst;
-          remaining = ticks;
-        })) →
-        Making speed p m (i + 1)
-    making-more ticks m q e s =
-        let ts : List Task = tasksOf p in
-        let f : ℕ → Entry = newEntry (timingAt speed ts) ts in
-        let same : getD (p .tasks) i noTask ≡ getD ts i noTask = sym (getD-take (p .count) (p .tasks) i noTask q) in
-        let ticks-is : ticks ≡ need speed (getD ts i noTask .worst) = e ∙ ap (λ (t : Task). need speed (t .worst)) same in
-        let new :
-        _≡_ {A = Entry}
-        record {
-          period = getD (p .tasks) i noTask .period;
-          worst = getD (p .tasks) i noTask .worst;
-          work = getD (p .tasks) i noTask .worst;
-          remaining = ticks;
-        }
-        (f i) =
-        λ j. record { period = same j .period; worst = same j .worst; work = same j .worst; remaining = ticks-is j } in
-        let at : f i ≡ getD made i noEntry = sym (getD-listTo (length ts) f i noEntry (omega (arith, plan-length))) in
-        making (i + 1) m (omega arith)
-        (stored-more (newFront (p .count)) made i image m refl (omega arith) (omega (arith, made-are)) (h .bytes)
-        (s ∙ ap (λ (x : Entry). sets image (8 + 12 * i) (take 10 (entryBytes x))) (new ∙ at)))
+-- the entry that the code stores for task i
+abbrev entryMade : Plan → ℕ → ℕ → Entry
+entryMade p i ticks = record {
+  period = getD (p .tasks) i noTask .period;
+  worst = getD (p .tasks) i noTask .worst;
+  work = getD (p .tasks) i noTask .worst;
+  remaining = ticks;
+}
 
-    pub making-all : i ≡ p .count → image ≡ encode (newState speed (tasksOf p))
-    making-all e =
-        let n : ℕ = length made in
-        h .bytes
-        ∙ ap₂ (λ (k j : ℕ). storedTo (newFront k) made j) (sym made-are) (e ∙ sym made-are)
-        ∙ ap (λ (x : List Entry). newFront n ++ (entriesBytes x ++ replicate (12 * (16 - n)) 0)) (take-all n made (omega arith))
+module _ {speed : ℕ} {p : Plan} {image : List ℕ} {i : ℕ} (so-far : Making speed p image i) where
+  pub making-more :
+      {ticks : ℕ} {m : List ℕ} →
+      i < p .count →
+      ticks ≡ need speed (getD (p .tasks) i noTask .worst) →
+      m ≡ sets image (8 + 12 * i) (take 10 (entryBytes (entryMade p i ticks))) →
+      Making speed p m (i + 1)
+  making-more {ticks} {m} h e s =
+      let ts : List Task = tasksOf p in
+      let es : List Entry = made speed (so-far .plan) in
+      let f : ℕ → Entry = newEntry (timingAt speed ts) ts in
+      let same : getD (p .tasks) i noTask ≡ getD ts i noTask = sym (getD-take (p .count) (p .tasks) i noTask h) in
+      let ticks-is : ticks ≡ need speed (getD ts i noTask .worst) = e ∙ ap (λ (t : Task). need speed (t .worst)) same in
+      let new : entryMade p i ticks ≡ f i =
+      λ j. record { period = same j .period; worst = same j .worst; work = same j .worst; remaining = ticks-is j } in
+      let at : f i ≡ getD es i noEntry = sym (getD-listTo (length ts) f i noEntry (omega (arith, so-far .plan .count))) in
+      making speed (so-far .plan) (i + 1) m (omega arith)
+      (stored-more (newFront (p .count)) es i image m refl (omega (arith, so-far .plan .few)) (omega (arith, made-are speed (so-far .plan))) (so-far .bytes)
+      (s ∙ ap (λ (x : Entry). sets image (8 + 12 * i) (take 10 (entryBytes x))) (new ∙ at)))
 
--- an accepted plan, with its nominal level
-module _ (p : Plan) (size : length (p .tasks) ≡ 16) (ok : firstNo (judging baseSpeeds (p .count) (tasksOf p)) ≡ 0) where
-  pub plan-few : p .count ≤ 16
-  plan-few = fine-list baseSpeeds (p .count) (tasksOf p) ok .count-high
+  pub making-all : p .count ≤ i → image ≡ encode (newState speed (tasksOf p))
+  making-all h =
+      let es : List Entry = made speed (so-far .plan) in
+      let n : p .count ≡ length es = sym (made-are speed (so-far .plan)) in
+      let e : i ≡ length es = omega (arith, so-far .below) in
+      so-far .bytes
+      ∙ ap₂ (λ (k j : ℕ). storedTo (newFront k) es j) n e
+      ∙ ap (λ (x : List Entry). newFront (length es) ++ (entriesBytes x ++ replicate (12 * (16 - length es)) 0)) (take-all (length es) es (omega arith))
 
-  pub plan-count : p .count ≡ length (tasksOf p)
-  plan-count = sym (plan-length 0 p size plan-few)
+-- an accepted plan with its nominal level
+pub record Planned (p : Plan) (level : ℕ) : Type 0 where
+  pub plan : Held p
+  pub good : FineList baseSpeeds (length (tasksOf p)) (tasksOf p)
+  pub level-is : level ≡ nominal baseSpeeds (tasksOf p)
 
-  plan-good : FineList baseSpeeds (length (tasksOf p)) (tasksOf p)
-  plan-good =
-      let f : FineList baseSpeeds (p .count) (tasksOf p) = fine-list baseSpeeds (p .count) (tasksOf p) ok in
-      record { count-low = omega (arith, plan-count, f .count-low); count-high = omega (arith, plan-count, f .count-high); tasks = f .tasks }
+pub planned :
+    (p : Plan) (level : ℕ) →
+    length (p .tasks) ≡ 16 →
+    firstNo (judging baseSpeeds (p .count) (tasksOf p)) ≡ 0 →
+    level ≡ nominal baseSpeeds (tasksOf p) →
+    Planned p level
+planned p level size ok e =
+    let f : FineList baseSpeeds (p .count) (tasksOf p) = fine-list baseSpeeds (p .count) (tasksOf p) ok in
+    let h : Held p = held p size (f .count-high) in
+    record { plan = h; good = subst (λ (n : ℕ). FineList baseSpeeds n (tasksOf p)) (h .count) f; level-is = e }
 
-  module _ (level : ℕ) (e : level ≡ nominal baseSpeeds (tasksOf p)) where
-    pub level-below : level < 8
-    level-below = omega (arith, plan-good .tasks .admitted)
+module _ {p : Plan} {level : ℕ} (k : Planned p level) where
+  pub level-below : level < 8
+  level-below = omega (arith, k .level-is, k .good .tasks .admitted)
 
-    pub speed-some : (speed : ℕ) → speed ≡ speedOf baseSpeeds level → 0 < speed
-    speed-some speed s = speed-positive level speed level-below s
+  pub speed-some : {speed : ℕ} → speed ≡ speedOf baseSpeeds level → 0 < speed
+  speed-some {speed} s = speed-positive level speed level-below s
+
+-- what starting a plan leaves, by the number of its questions: a reply, and the bytes of the state
+abbrev LeftBy : ℕ → List Task → List ℕ → Reply → List ℕ → Type 0
+LeftBy number ts buffer r m =
+    (r ≡ repliedBy number (startOrder baseSpeeds (startState baseSpeeds ts)))
+    × (m ≡ storedBy number (encode (startState baseSpeeds ts)) buffer)
+
+-- the number that asking for a state's 200 bytes gives
+abbrev roomNumber : List ℕ → ℕ
+roomNumber buffer = firstNo (roomQuestion 200 (length buffer) ∷ [])
+
+left-refused : (number n : ℕ) (ts : List Task) (buffer : List ℕ) → 0 < n → number ≡ n → LeftBy number ts buffer (reply.Refused n) buffer
+left-refused number zero ts buffer h e = absurd (omega arith)
+left-refused number (suc n) ts buffer h e = (
+  sym (ap (λ (k : ℕ). repliedBy k (startOrder baseSpeeds (startState baseSpeeds ts))) e),
+  sym (ap (λ (k : ℕ). storedBy k (encode (startState baseSpeeds ts)) buffer) e),
+)
+
+pub left-short : (ts : List Task) (buffer : List ℕ) → length buffer < 200 → LeftBy (roomNumber buffer) ts buffer (reply.Refused 9) buffer
+left-short ts buffer h =
+    left-refused (roomNumber buffer) 9 ts buffer (omega arith) (ap (λ (b : Bool). pick {A = ℕ} b 0 9) (lt-leb 200 (length buffer) h))
 
 -- the image of a new state of an accepted plan, at its nominal speed
 pub record Newly (ts : List Task) (image : List ℕ) : Type 0 where
@@ -163,17 +193,14 @@ pub record Newly (ts : List Task) (image : List ℕ) : Type 0 where
   pub bytes : image ≡ encode (newState (nominalSpeed baseSpeeds ts) ts)
 
 pub newly :
-    (p : Plan) →
-    length (p .tasks) ≡ 16 →
-    firstNo (judging baseSpeeds (p .count) (tasksOf p)) ≡ 0 →
-    (level speed : ℕ) (image : List ℕ) →
-    level ≡ nominal baseSpeeds (tasksOf p) →
+    {p : Plan} {level speed : ℕ} {image : List ℕ} →
+    Planned p level →
     speed ≡ speedOf baseSpeeds level →
     image ≡ encode (newState speed (tasksOf p)) →
     Newly (tasksOf p) image
-newly p size ok level speed image e s new = record {
-  good = plan-good p size ok;
-  bytes = new ∙ ap (λ (x : ℕ). encode (newState x (tasksOf p))) (s ∙ ap (speedOf baseSpeeds) e);
+newly {p} k s e = record {
+  good = k .good;
+  bytes = e ∙ ap (λ (x : ℕ). encode (newState x (tasksOf p))) (s ∙ ap (speedOf baseSpeeds) (k .level-is));
 }
 
 module _ {ts : List Task} {image : List ℕ} (new : Newly ts image) where
@@ -253,7 +280,7 @@ module _ {ts : List Task} {image : List ℕ} (new : Newly ts image) where
       (mul-le-mul-left (need speed worst) (speed-most (nominal baseSpeeds ts) speed level refl)))
 
   -- with the keys that are found
-  module _ (count : ℕ) (same : count ≡ length ts) (keys : List ℕ) (found : keys ≡ keysIn image count 0) where
+  module _ {count : ℕ} (same : count ≡ length ts) {keys : List ℕ} (found : keys ≡ keysIn image count 0) where
     keyed : Keyed τ 0 keys
     keyed = record {
       few = new .good .count-high;
@@ -277,107 +304,84 @@ module _ {ts : List Task} {image : List ℕ} (new : Newly ts image) where
     new-ready = ((new-holds, omega (arith, new-tasks, new .good .count-low), new-back, new-doable), new-keyed)
 
   -- the order that is chosen in it is that of the start
-  chosen-is : chooseOrder baseSpeeds (timingIn image) (decode image) ≡ S
+  abbrev chosen : State
+  chosen = chooseOrder baseSpeeds (timingIn image) (decode image)
+
+  chosen-is : chosen ≡ S
   chosen-is = ap₂ (λ (x : Timing) (s : State). chooseOrder baseSpeeds x s) new-timing new-read
 
-  pub new-reply :
-      (r : Reply) →
-      r
-      ≡ orderWith (chooseOrder baseSpeeds (timingIn image) (decode image))
-      (holdOf baseSpeeds (timingIn image) (chooseOrder baseSpeeds (timingIn image) (decode image))) →
-      r ≡ startOrder baseSpeeds S
-  new-reply r e =
-      e
-      ∙ ap₂ (λ (x : Timing) (s : State). orderWith s (holdOf baseSpeeds x s)) new-timing chosen-is
-      ∙ sym (ap (λ (us : List Task). orderWith S (holdOf baseSpeeds (timing baseSpeeds us) S)) (fine .entries .plan))
-
-  pub new-stored :
-      (buffer l m : List ℕ) →
-      l ≡ encode (chooseOrder baseSpeeds (timingIn image) (decode image)) →
+  -- its reply, and its bytes where there is room for them
+  pub new-left :
+      (buffer : List ℕ) {l m : List ℕ} {r : Reply} →
+      200 ≤ length buffer →
+      r ≡ orderWith chosen (holdOf baseSpeeds (timingIn image) chosen) →
+      l ≡ encode chosen →
       m ≡ l ++ drop 200 buffer →
-      m ≡ storedBy 0 (encode S) buffer
-  new-stored buffer l m a e =
+      LeftBy (roomNumber buffer) ts buffer r m
+  new-left buffer {l} {m} {r} h a b e =
+      let zero-is : 0 ≡ roomNumber buffer = sym (ap (λ (t : Bool). pick {A = ℕ} t 0 9) (le-leb 200 (length buffer) h)) in
+      let order : r ≡ startOrder baseSpeeds S =
+      a
+      ∙ ap₂ (λ (x : Timing) (s : State). orderWith s (holdOf baseSpeeds x s)) new-timing chosen-is
+      ∙ sym (ap (λ (us : List Task). orderWith S (holdOf baseSpeeds (timing baseSpeeds us) S)) (fine .entries .plan)) in
+      let stored : m ≡ storedBy 0 (encode S) buffer =
       e
-      ∙ ap (λ (x : List ℕ). x ++ drop 200 buffer) (a ∙ ap encode chosen-is)
-      ∙ ap (λ (n : ℕ). encode S ++ drop n buffer) (sym (length-encode S (start-storable .count)))
-
--- what a call leaves: a reply, and the bytes of the state
-abbrev pub Left : ℕ → Reply → List ℕ → List ℕ → Reply → List ℕ → Type 0
-Left number order bytes buffer r m = (r ≡ repliedBy number order) × (m ≡ storedBy number bytes buffer)
-
-pub left-refused : (number n : ℕ) (order : Reply) (bytes buffer : List ℕ) → 0 < n → number ≡ n → Left number order bytes buffer (reply.Refused n) buffer
-left-refused number zero order bytes buffer h e = absurd (omega arith)
-left-refused number (suc n) order bytes buffer h e =
-    (sym (ap (λ (k : ℕ). repliedBy k order) e), sym (ap (λ (k : ℕ). storedBy k bytes buffer) e))
-
-left-as : (k n : ℕ) (order : Reply) (bytes buffer : List ℕ) (r : Reply) (m : List ℕ) → k ≡ n → Left k order bytes buffer r m → Left n order bytes buffer r m
-left-as k n order bytes buffer r m e h = subst (λ (x : ℕ). Left x order bytes buffer r m) e h
-
--- the room for a state
-module _ (order : Reply) (bytes buffer : List ℕ) where
-  pub left-short : length buffer < 200 → Left (firstNo (roomQuestion 200 (length buffer) ∷ [])) order bytes buffer (reply.Refused 9) buffer
-  left-short h =
-      left-refused (firstNo (roomQuestion 200 (length buffer) ∷ [])) 9 order bytes buffer (omega arith)
-      (ap (λ (b : Bool). pick {A = ℕ} b 0 9) (lt-leb 200 (length buffer) h))
-
-  pub left-stored :
-      200 ≤ length buffer → (r : Reply) (m : List ℕ) → r ≡ order → m ≡ storedBy 0 bytes buffer →
-      Left (firstNo (roomQuestion 200 (length buffer) ∷ [])) order bytes buffer r m
-  left-stored h r m a b =
-      left-as 0 (firstNo (roomQuestion 200 (length buffer) ∷ [])) order bytes buffer r m
-      (sym (ap (λ (t : Bool). pick {A = ℕ} t 0 9) (le-leb 200 (length buffer) h)))
-      (a, b)
+      ∙ ap (λ (x : List ℕ). x ++ drop 200 buffer) (b ∙ ap encode chosen-is)
+      ∙ ap (λ (n : ℕ). encode S ++ drop n buffer) (sym (length-encode S (start-storable .count))) in
+      subst (λ (n : ℕ). LeftBy n ts buffer r m) zero-is (order, stored)
 
 -- starting, by what reading the block answers
-module _ (block buffer : List ℕ) (j : Judged) (a : j ≡ readBlock baseSpeeds block) where
-  abbrev LeftByStart : Reply → List ℕ → Type 0
-  LeftByStart r m = (r ≡ startReply baseSpeeds block (length buffer)) × (m ≡ startBuffer baseSpeeds block buffer)
+pub start-unread :
+    (block buffer : List ℕ) {j : Judged} {n : ℕ} →
+    j ≡ readBlock baseSpeeds block →
+    j .verdict ≡ verdict.Refused n →
+    LeftBy (startNumber baseSpeeds block (length buffer)) (tasksIn block) buffer (reply.Refused n) buffer
+start-unread block buffer {j} {n} read told =
+    let t : (0 < n) × (firstNo (reading baseSpeeds block) ≡ n) =
+    told-refused baseSpeeds (tasksIn block) (j .verdict) (firstNo (reading baseSpeeds block)) n (ap (λ (x : Judged). x .verdict) read) told in
+    left-refused (startNumber baseSpeeds block (length buffer)) n (tasksIn block) buffer (t .0)
+    (no-before (reading baseSpeeds block) (roomQuestion 200 (length buffer) ∷ []) n (t .0) (t .1))
 
-  pub start-unread : (n : ℕ) → j .verdict ≡ verdict.Refused n → LeftByStart (reply.Refused n) buffer
-  start-unread n b =
-      let t : (0 < n) × (firstNo (reading baseSpeeds block) ≡ n) =
-      told-refused baseSpeeds (tasksIn block) (j .verdict) (firstNo (reading baseSpeeds block)) n (ap (λ (x : Judged). x .verdict) a) b in
-      left-refused (startNumber baseSpeeds block (length buffer)) n (startOrder baseSpeeds (startState baseSpeeds (tasksIn block)))
-      (encode (startState baseSpeeds (tasksIn block))) buffer (t .0)
-      (no-before (reading baseSpeeds block) (roomQuestion 200 (length buffer) ∷ []) n (t .0) (t .1))
+pub record Admitted (block : List ℕ) (j : Judged) (level span : ℕ) : Type 0 where
+  pub read : j ≡ readBlock baseSpeeds block
+  pub told : j .verdict ≡ verdict.Admitted level span
 
-  module _ (level span : ℕ) (b : j .verdict ≡ verdict.Admitted level span) where
-    accepted : firstNo (reading baseSpeeds block) ≡ 0
-    accepted =
-        told-admitted baseSpeeds (tasksIn block) (j .verdict) (firstNo (reading baseSpeeds block)) level span (ap (λ (x : Judged). x .verdict) a) b
+module _ {block : List ℕ} {j : Judged} {level span : ℕ} (k : Admitted block j level span) where
+  verdict-is : j .verdict ≡ answered (firstNo (reading baseSpeeds block)) baseSpeeds (tasksIn block)
+  verdict-is = ap (λ (x : Judged). x .verdict) (k .read)
 
-    plan-is : j .plan ≡ planOf (tasksIn block)
-    plan-is = ap (λ (x : Judged). x .plan) a ∙ ap (λ (k : ℕ). beside k (tasksIn block)) accepted
+  accepted : firstNo (reading baseSpeeds block) ≡ 0
+  accepted = told-admitted baseSpeeds (tasksIn block) (j .verdict) (firstNo (reading baseSpeeds block)) level span verdict-is (k .told)
 
-    tasks-are : tasksOf (j .plan) ≡ tasksIn block
-    tasks-are = ap tasksOf plan-is ∙ tasksOf-planOf (tasksIn block)
+  plan-is : j .plan ≡ planOf (tasksIn block)
+  plan-is = ap (λ (x : Judged). x .plan) (k .read) ∙ ap (λ (n : ℕ). beside n (tasksIn block)) accepted
 
-    level-is : level ≡ nominal baseSpeeds (tasksIn block)
-    level-is =
-        let v : verdict.Admitted level span ≡ answered 0 baseSpeeds (tasksIn block) =
-        sym b
-        ∙ ap (λ (x : Judged). x .verdict) a
-        ∙ ap (λ (k : ℕ). answered k baseSpeeds (tasksIn block)) accepted in
-        cc
+  tasks-are : tasksOf (j .plan) ≡ tasksIn block
+  tasks-are = ap tasksOf plan-is ∙ tasksOf-planOf (tasksIn block)
 
-    pub start-read : (firstNo (judging baseSpeeds (j .plan .count) (tasksOf (j .plan))) ≡ 0) × (level ≡ nominal baseSpeeds (tasksOf (j .plan)))
-    start-read =
-        let ts : List Task = tasksIn block in
-        let f : FineBlock baseSpeeds block = fine-block baseSpeeds block accepted in
-        let n : length ts ≡ countIn block = length-tasksFrom (countIn block) (drop 9 (unpacked block)) in (
-          ap (λ (q : Plan). firstNo (judging baseSpeeds (q .count) (tasksOf q))) plan-is
-              ∙ ap (λ (l : List Task). firstNo (judging baseSpeeds (length ts) l)) (tasksOf-planOf ts)
-              ∙ list-yes baseSpeeds (length ts) ts
-              record { count-low = omega (arith, f .count-low); count-high = omega (arith, f .count-high); tasks = f .tasks },
-          level-is ∙ sym (ap (nominal baseSpeeds) tasks-are),
-        )
+  level-is : level ≡ nominal baseSpeeds (tasksIn block)
+  level-is =
+      let v : verdict.Admitted level span ≡ answered 0 baseSpeeds (tasksIn block) =
+      sym (k .told) ∙ verdict-is ∙ ap (λ (n : ℕ). answered n baseSpeeds (tasksIn block)) accepted in
+      cc
 
-    pub start-left :
-        (r : Reply) (m : List ℕ) →
-        Left (firstNo (roomQuestion 200 (length buffer) ∷ [])) (startOrder baseSpeeds (startState baseSpeeds (tasksOf (j .plan)))) (encode (startState baseSpeeds (tasksOf (j .plan)))) buffer r m →
-        LeftByStart r m
-    start-left r m h =
-        left-as (firstNo (roomQuestion 200 (length buffer) ∷ [])) (startNumber baseSpeeds block (length buffer))
-        (startOrder baseSpeeds (startState baseSpeeds (tasksIn block))) (encode (startState baseSpeeds (tasksIn block))) buffer r m
-        (sym (yes-before (reading baseSpeeds block) (roomQuestion 200 (length buffer) ∷ []) refl accepted))
-        (subst (λ (ts : List Task). Left (firstNo (roomQuestion 200 (length buffer) ∷ [])) (startOrder baseSpeeds (startState baseSpeeds ts)) (encode (startState baseSpeeds ts)) buffer r m) tasks-are h)
+  pub start-read : (firstNo (judging baseSpeeds (j .plan .count) (tasksOf (j .plan))) ≡ 0) × (level ≡ nominal baseSpeeds (tasksOf (j .plan)))
+  start-read =
+      let ts : List Task = tasksIn block in
+      let f : FineBlock baseSpeeds block = fine-block baseSpeeds block accepted in
+      let n : length ts ≡ countIn block = length-tasksFrom (countIn block) (drop 9 (unpacked block)) in (
+        ap (λ (q : Plan). firstNo (judging baseSpeeds (q .count) (tasksOf q))) plan-is
+            ∙ ap (λ (l : List Task). firstNo (judging baseSpeeds (length ts) l)) (tasksOf-planOf ts)
+            ∙ list-yes baseSpeeds (length ts) ts
+            record { count-low = omega (arith, f .count-low); count-high = omega (arith, f .count-high); tasks = f .tasks },
+        level-is ∙ sym (ap (nominal baseSpeeds) tasks-are),
+      )
+
+  pub start-left :
+      (buffer : List ℕ) {r : Reply} {m : List ℕ} →
+      LeftBy (roomNumber buffer) (tasksOf (j .plan)) buffer r m →
+      LeftBy (startNumber baseSpeeds block (length buffer)) (tasksIn block) buffer r m
+  start-left buffer {r} {m} h =
+      subst (λ (n : ℕ). LeftBy n (tasksIn block) buffer r m)
+      (sym (yes-before (reading baseSpeeds block) (roomQuestion 200 (length buffer) ∷ []) refl accepted))
+      (subst (λ (ts : List Task). LeftBy (roomNumber buffer) ts buffer r m) tasks-are h)

@@ -206,12 +206,12 @@ abbrev zerosPast : List ℕ → Bool
 zerosPast block = every (eqb 0) (drop (8 + 12 * getD block 6 0) block)
 
 -- a block of 200 bytes, of at most 16 tasks
-pub record Block (block : List ℕ) : Type 0 where
+pub record BlockBytes (block : List ℕ) : Type 0 where
   pub size : length block ≡ 200
   pub few : getD block 6 0 ≤ 16
   pub bytes : (k : ℕ) → getD block k 0 < 256
 
-module _ {block : List ℕ} (known : Block block) where
+module _ {block : List ℕ} (known : BlockBytes block) where
   entries-same :
       sameBytes (entriesBytes (decode block .entries) ++ replicate (12 * (16 - length (decode block .entries))) 0) (drop 8 block)
       ≡ both (pairsIn block) (zerosPast block)

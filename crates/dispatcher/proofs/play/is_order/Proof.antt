@@ -1,3 +1,5 @@
+-- `is_order` meets its contract, by what the reply is.
+-- Assumes nothing.
 use mathlib.Core.Path.{sym, ap}
 use lib.Dec.{eqb}
 use Rattle.reclaiming.specs.declared.Reply.{Reply}
@@ -5,8 +7,6 @@ use Rattle.reclaiming.specs.Calls.{refusalOf}
 use borrow.Author.Needs.{needs}
 use Rattle.dispatcher.proofs.play.is_order.Statement.{statement}
 use Rattle.dispatcher.proofs.play.is_order.Tie as tie
-use Rattle.dispatcher.proofs.play.is_order.Reads as reads
-use Rattle.dispatcher.proofs.play.is_order.Lts as lts
 
 enum-known-r : tie.Need-enum-known-r
 enum-known-r c = search needs

@@ -12,26 +12,28 @@ use Rattle.dispatcher.proofs.show.show.Statement.{statement}
 use Rattle.dispatcher.proofs.show.show.Tie as tie
 
 -- the places that others are reached from
-abbrev begun : tie.Else1 → tie.Start
-begun c = c .before .before .before .before .before
+abbrev start : tie.After-test-block → tie.Start
+start c = c .before .before .before
+
+abbrev tested : tie.Else1 → tie.After-test-block
+tested c = c .before .before
 
 abbrev sound : tie.After-ready → tie.Else1
 sound c = c .before .before .before .before
 
 abbrev state : tie.Else1 → List ℕ
-state c = begun c .args .state .now
+state c = start (tested c) .args .state .now
 
 abbrev buffer : tie.After-ready → List ℕ
-buffer c = begun (sound c) .args .buffer .now
+buffer c = start (tested (sound c)) .args .buffer .now
 
-good : (c : tie.Else1) → Good (state c) (c .before .before .test-block .result .keys) (c .before .before .test-block .result .nominal)
+good : (c : tie.Else1) → Good (state c) (tested c .test-block .result .keys) (tested c .test-block .result .nominal)
 good c =
-    tested-good (state c) (c .before .before .test-block .result) (c .before .before .test-block .ensures)
-    (not-false (c .before .before .test-block .result .sound) (c .if1 .left))
+    tested-good (state c) (tested c .test-block .result) (tested c .test-block .ensures) (not-false (tested c .test-block .result .sound) (c .if1 .left))
 
 showing :
     (c : tie.After-ready) →
-    Showing (state (sound c)) (sound c .before .before .test-block .result .keys) (sound c .before .before .test-block .result .nominal)
+    Showing (state (sound c)) (tested (sound c) .test-block .result .keys) (tested (sound c) .test-block .result .nominal)
     (c .before .count-at .result) (c .ready .result)
 showing c = record { good = good (sound c); counted = c .before .count-at .ensures; ready = c .ready .ensures }
 
@@ -40,17 +42,17 @@ test-block-requires c κs = search needs
 
 returns : tie.Need-returns
 returns c =
-    show-unsound (c .before .before .before .before .before .args .state .now) (c .before .before .before .before .before .args .buffer .now)
-    (c .before .before .test-block .result) (c .before .before .test-block .ensures) (not-true (c .before .before .test-block .result .sound) (c .if1 .taken))
+    let t : tie.After-test-block = c .before .before in
+    show-unsound (start t .args .state .now) (start t .args .buffer .now) (t .test-block .result) (t .test-block .ensures)
+    (not-true (t .test-block .result .sound) (c .if1 .taken))
 
 count-at-requires : tie.Need-count-at-requires
 count-at-requires c κs = good (c .before .before) .holds
 
 ready-requires : tie.Need-ready-requires
-ready-requires c κs = (
-  omega (arith, c .count-at .ensures, good (c .before .before .before) .holds .few),
-  good (c .before .before .before) .holds .size,
-)
+ready-requires c κs =
+    let holds = good (c .before .before .before) .holds in
+    (omega (arith, c .count-at .ensures, holds .few), holds .size)
 
 mul-wanted : tie.Need-mul-wanted
 mul-wanted c = omega (arith, show-len (showing (c .before)) (buffer (c .before)))
@@ -68,8 +70,9 @@ same-length c = search needs
 
 returns-3 : tie.Need-returns-3
 returns-3 c =
-    let r : tie.After-ready = c .before .before .before .before .before .before in
-    show-stored (showing r) (buffer r) (c .before .before .before .before .if2 .left) (c .before .before .put-queue .last .0) (c .before .before .put-queue .ensures)
+    let p : tie.After-put-queue = c .before .before in
+    let e : tie.Else2 = p .before .before in
+    show-stored (showing (e .before .before)) (buffer (e .before .before)) (e .if2 .left) (p .put-queue .last .0) (p .put-queue .ensures)
 
 pub show-spec : {M : Type 1} → statement M
 show-spec =

@@ -6,7 +6,7 @@ use native.Mathlib.Omega.{arith}
 use borrow.Author.Needs.{needs}
 use lib.ListN.{length}
 use Rattle.arith.proofs.Loops.{length-mapped}
-use Rattle.dispatcher.proofs.StartLaws.{Making, making-none, making-more, making-all}
+use Rattle.dispatcher.proofs.StartLaws.{held, Making, making-none, making-more, making-all}
 use Rattle.dispatcher.proofs.start.fresh.Statement.{statement}
 use Rattle.dispatcher.proofs.start.fresh.Tie as tie
 
@@ -23,22 +23,26 @@ blank-requires : tie.Need-blank-requires Inv-loop μ-loop
 blank-requires c κs = c .pre .0
 
 loop-holds : tie.Need-loop-holds Inv-loop μ-loop
-loop-holds c = making-none (c .before .args .speed) (c .before .args .t1) (size (c .before)) (c .before .pre .0) (c .blank .result) (c .blank .ensures)
+loop-holds c =
+    let s : tie.Start Inv-loop μ-loop = c .before in
+    making-none (s .args .speed) (held (s .args .t1) (size s) (s .pre .0)) (c .blank .ensures)
 
 mul-t : tie.Need-mul-t Inv-loop μ-loop
-mul-t c = omega arith
+mul-t c = omega (arith, c .before .loop .inv .plan .few)
 
 element-copy-out-t : tie.Need-element-copy-out-t Inv-loop μ-loop
-element-copy-out-t c = omega arith
+element-copy-out-t c = omega (arith, c .before .loop .inv .plan .few)
 
 time-needed-requires : tie.Need-time-needed-requires Inv-loop μ-loop
-time-needed-requires c κs = c .before .before .before .before .pre .1
+time-needed-requires c κs = search needs
 
 slice-aggregate-put-entry : tie.Need-slice-aggregate-put-entry Inv-loop μ-loop
 slice-aggregate-put-entry c = search needs
 
 put-entry-requires : tie.Need-put-entry-requires Inv-loop μ-loop
-put-entry-requires c κs = (omega arith, c .before .before .before .before .loop .inv .size)
+put-entry-requires c κs =
+    let turn : tie.In-loop Inv-loop μ-loop = c .before .before .before in
+    (omega (arith, turn .before .loop .inv .plan .few), turn .before .loop .inv .size)
 
 add-i : tie.Need-add-i Inv-loop μ-loop
 add-i c = omega arith
@@ -48,12 +52,12 @@ loop-less c = omega arith
 
 loop-again : tie.Need-loop-again Inv-loop μ-loop
 loop-again c =
-    making-more (c .before .before .before .before .before .before .before .before .args .speed) (c .before .before .before .before .before .before .before .before .args .t1) (size (c .before .before .before .before .before .before .before .before)) (c .before .before .before .before .before .before .before .before .pre .0) (c .before .before .before .before .before .before .loop .image) (c .before .before .before .before .before .before .loop .i) (c .before .before .before .before .before .before .loop .inv)
-    (c .before .before .before .time-needed .result) (c .before .put-entry .last .0) (c .before .before .before .before .before .loop-test .taken) (c .before .before .before .time-needed .ensures) (c .before .put-entry .ensures)
+    let timed : tie.After-time-needed Inv-loop μ-loop = c .before .before .before in
+    let turn : tie.In-loop Inv-loop μ-loop = timed .before .before in
+    making-more (turn .before .loop .inv) (turn .loop-test .taken) (timed .time-needed .ensures) (c .before .put-entry .ensures)
 
 returns : tie.Need-returns Inv-loop μ-loop
-returns c =
-    making-all (c .before .before .before .args .speed) (c .before .before .before .args .t1) (size (c .before .before .before)) (c .before .before .before .pre .0) (c .before .loop .image) (c .before .loop .i) (c .before .loop .inv) (omega arith)
+returns c = making-all (c .before .loop .inv) (c .loop-test .left)
 
 pub fresh-spec : {M : Type 1} → statement M
 fresh-spec =

@@ -3,11 +3,11 @@
 use native.Mathlib.Omega.{arith}
 use borrow.Author.Needs.{needs}
 use borrow.Author.Tests.{not-true, not-false}
-use Rattle.state.proofs.LayoutLaws.{Block, eighth-not, pairs-decide, zeros-decide}
+use Rattle.state.proofs.LayoutLaws.{BlockBytes, eighth-not, pairs-decide, zeros-decide}
 use Rattle.state.proofs.image.laid_out.Statement.{statement}
 use Rattle.state.proofs.image.laid_out.Tie as tie
 
-known : (c : tie.After-shared-slice-known) → Block (c .before .args .block .now)
+known : (c : tie.After-shared-slice-known) → BlockBytes (c .before .args .block .now)
 known c = record { size = c .before .pre .0; few = c .before .pre .1; bytes = λ k. omega (arith, c .shared-slice-known .given k) }
 
 -- the place past the first test

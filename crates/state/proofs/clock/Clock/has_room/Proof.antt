@@ -1,3 +1,5 @@
+-- `has_room` meets its contract: what is left up to the largest clock is compared.
+-- Assumes nothing.
 use Prim.Native.Nat.{ℕ, _+_, _-_, _≤_}
 use mathlib.Core.Path.{_≡_}
 use native.Mathlib.Omega.{arith}
