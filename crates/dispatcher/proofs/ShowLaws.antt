@@ -24,14 +24,14 @@ use Rattle.orders.specs.declared.Tested.{Tested}
 use Rattle.reclaiming.specs.declared.Entry.{Entry}
 use Rattle.reclaiming.specs.StateBlock.{remainingOf, decode}
 use Rattle.reclaiming.specs.Calls.{queueBytes, shownBytes, showNumber}
-use Rattle.state.specs.Code.{tasksBytes, timingIn, readyTo, readyOf}
+use Rattle.state.specs.Code.{tasksBytes, timingIn}
 use Rattle.orders.specs.Code.{Good, testedBy}
 use Rattle.orders.proofs.SoundLaws.{tested-sound}
 use Rattle.reclaiming.specs.Questions.{sound}
 use Rattle.state.proofs.BlockLaws.{remainingIn, count-in, entry-at}
 use Rattle.state.proofs.OpenJobs.{timing-count}
 use Rattle.state.proofs.KeyLaws.{ready-bytes}
-use Rattle.state.proofs.ReadySteps.{Listed, listed-front, listed-few, listed-below}
+use Rattle.state.proofs.ReadySteps.{Listed, listed-front}
 
 -- how many bytes tasks take
 length-tasksBytes : (left : ℕ → ℕ) (ts : List ℕ) → length (tasksBytes left ts) ≡ 3 * length ts
@@ -121,18 +121,9 @@ show-unsound bytes buffer t e h =
 pub record Showing (bytes keys : List ℕ) (highest n : ℕ) (q : Ready) : Type 0 where
   pub good : Good bytes keys highest
   pub counted : n ≡ getD bytes 6 0
-  pub ready : q ≡ readyOf (readyTo keys (remainingIn bytes) n)
+  pub listed : Listed keys (remainingIn bytes) n q
 
 module _ {bytes keys : List ℕ} {highest n : ℕ} {q : Ready} (k : Showing bytes keys highest n q) (buffer : List ℕ) where
-  listed : Listed keys (remainingIn bytes) n q
-  listed = record { few = omega (arith, k .counted, k .good .holds .few); is = k .ready }
-
-  pub show-len : q .len ≤ 16
-  show-len = listed-few listed
-
-  pub show-below : (j : ℕ) → j < q .len → getD (q .tasks) j 0 < 16
-  show-below = listed-below listed
-
   -- the bytes to show
   shown-are : shownBytes baseSpeeds bytes ≡ tasksBytes (remainingIn bytes) (take (q .len) (q .tasks))
   shown-are =
@@ -144,14 +135,14 @@ module _ {bytes keys : List ℕ} {highest n : ℕ} {q : Ready} (k : Showing byte
       (queueOf-cong τ now (remainingOf (decode bytes)) (remainingIn bytes) n
       (λ i h. ap (λ (e : Entry). e .remaining) (entry-at bytes i (omega (arith, k .counted)))))
       ∙ ready-bytes τ now keys (k .good .keyed) (remainingIn bytes) n some
-      ∙ ap (tasksBytes (remainingIn bytes)) (sym (listed-front listed))
+      ∙ ap (tasksBytes (remainingIn bytes)) (sym (listed-front (k .listed)))
 
   wanted : length (shownBytes baseSpeeds bytes) ≡ 3 * q .len
   wanted =
       ap length shown-are
       ∙ length-tasksBytes (remainingIn bytes) (take (q .len) (q .tasks))
-      ∙ ap (λ (x : List ℕ). 3 * length x) (listed-front listed)
-      ∙ ap (λ (x : Ready). 3 * x .len) (sym (k .ready))
+      ∙ ap (λ (x : List ℕ). 3 * length x) (listed-front (k .listed))
+      ∙ ap (λ (x : Ready). 3 * x .len) (sym (k .listed .is))
 
   asked : showNumber baseSpeeds bytes (length buffer) ≡ firstNo (roomQuestion (3 * q .len) (length buffer) ∷ [])
   asked = ap (showNo bytes buffer) (k .good .sound) ∙ ap (λ (x : ℕ). firstNo (roomQuestion x (length buffer) ∷ [])) wanted
@@ -162,11 +153,11 @@ module _ {bytes keys : List ℕ} {highest n : ℕ} {q : Ready} (k : Showing byte
       (asked ∙ ap (λ (b : Bool). pick {A = ℕ} b 0 9) (lt-leb (3 * q .len) (length buffer) h))
 
   pub show-stored :
+      {m : List ℕ} →
       3 * q .len ≤ length buffer →
-      (m : List ℕ) →
       m ≡ tasksBytes (remainingIn bytes) (take (q .len) (q .tasks)) ++ drop (3 * q .len) buffer →
       LeftByShow bytes buffer (written.Bytes (3 * q .len)) m
-  show-stored h m e =
+  show-stored {m} h e =
       leaves-written (showNumber baseSpeeds bytes (length buffer)) (3 * q .len) (shownBytes baseSpeeds bytes) buffer m
       (asked ∙ ap (λ (b : Bool). pick {A = ℕ} b 0 9) (le-leb (3 * q .len) (length buffer) h))
       (sym wanted)

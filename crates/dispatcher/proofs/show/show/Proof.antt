@@ -7,7 +7,8 @@ use borrow.Author.Needs.{needs}
 use borrow.Author.Tests.{not-true, not-false}
 use Rattle.orders.specs.Code.{Good}
 use Rattle.orders.proofs.SoundLaws.{tested-good}
-use Rattle.dispatcher.proofs.ShowLaws.{Showing, show-unsound, show-len, show-below, show-short, show-stored}
+use Rattle.state.proofs.ReadySteps.{listed-few, listed-below}
+use Rattle.dispatcher.proofs.ShowLaws.{Showing, show-unsound, show-short, show-stored}
 use Rattle.dispatcher.proofs.show.show.Statement.{statement}
 use Rattle.dispatcher.proofs.show.show.Tie as tie
 
@@ -35,7 +36,13 @@ showing :
     (c : tie.After-ready) →
     Showing (state (sound c)) (tested (sound c) .test-block .result .keys) (tested (sound c) .test-block .result .nominal)
     (c .before .count-at .result) (c .ready .result)
-showing c = record { good = good (sound c); counted = c .before .count-at .ensures; ready = c .ready .ensures }
+showing c =
+    let counted = c .before .count-at .ensures in
+    record {
+      good = good (sound c);
+      counted = counted;
+      listed = record { few = omega (arith, counted, good (sound c) .holds .few); is = c .ready .ensures };
+    }
 
 test-block-requires : tie.Need-test-block-requires
 test-block-requires c κs = search needs
@@ -55,7 +62,7 @@ ready-requires c κs =
     (omega (arith, c .count-at .ensures, holds .few), holds .size)
 
 mul-wanted : tie.Need-mul-wanted
-mul-wanted c = omega (arith, show-len (showing (c .before)) (buffer (c .before)))
+mul-wanted c = omega (arith, listed-few (showing (c .before) .listed))
 
 returns-2 : tie.Need-returns-2
 returns-2 c = show-short (showing (c .before .before)) (buffer (c .before .before)) (c .if2 .taken)
@@ -63,7 +70,7 @@ returns-2 c = show-short (showing (c .before .before)) (buffer (c .before .befor
 put-queue-requires : tie.Need-put-queue-requires
 put-queue-requires c κs =
     let r : tie.After-ready = c .before .before .before in
-    ((good (sound r) .holds .size, show-len (showing r) (buffer r), c .before .if2 .left), show-below (showing r) (buffer r))
+    ((good (sound r) .holds .size, listed-few (showing r .listed), c .before .if2 .left), listed-below (showing r .listed))
 
 same-length : tie.Need-same-length
 same-length c = search needs
@@ -72,7 +79,7 @@ returns-3 : tie.Need-returns-3
 returns-3 c =
     let p : tie.After-put-queue = c .before .before in
     let e : tie.Else2 = p .before .before in
-    show-stored (showing (e .before .before)) (buffer (e .before .before)) (e .if2 .left) (p .put-queue .last .0) (p .put-queue .ensures)
+    show-stored (showing (e .before .before)) (buffer (e .before .before)) (e .if2 .left) (p .put-queue .ensures)
 
 pub show-spec : {M : Type 1} → statement M
 show-spec =
