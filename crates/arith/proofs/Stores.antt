@@ -32,3 +32,10 @@ digits-stored b (suc i) at x s h =
     ∙ ap₂ (λ (k j : ℕ). sets (set s (at + k) (x % b)) at (digits b j (x / b)))
     (length-digits b i (x / b) ∙ sym e)
     (sym e)
+
+-- two runs of values stored at once are stored one after the other
+pub sets-append : (l : List ℕ) (at : ℕ) (s t : List ℕ) → sets l at (s ++ t) ≡ sets (sets l at s) (at + length s) t
+sets-append l at [] t = ap (λ (k : ℕ). sets l k t) (sym (add-zero at))
+sets-append l at (a ∷ s) t =
+    let e : suc at + length s ≡ at + suc (length s) = omega arith in
+    sets-append (set l at a) (suc at) s t ∙ ap (λ (k : ℕ). sets (sets (set l at a) (suc at) s) k t) e

@@ -48,7 +48,7 @@ use Rattle.arith.proofs.RangeLaws.{length-listTo, getD-listTo}
 use Rattle.reclaiming.proofs.PassedStates.{choose-entries}
 use Rattle.reclaiming.proofs.PassSound.{start-fine}
 use Rattle.state.proofs.BlockLaws.{storedTo, stored-more, count-in, entry-at}
-use Rattle.orders.proofs.NeedTests.{speed-positive, speed-most}
+use Rattle.orders.proofs.LevelSpeeds.{speed-positive, speed-most}
 
 -- the eight bytes in front of the entries of a new state
 abbrev newFront : ℕ → List ℕ

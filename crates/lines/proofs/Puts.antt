@@ -13,13 +13,7 @@ use lib.Seq.{sets, drop-cons, drop-length}
 use Rattle.arith.specs.Choice.{pick}
 use Rattle.transcript.specs.Text.{decimalWithin}
 use Rattle.lines.specs.Stores.{Put}
-
--- a run of two texts is stored text by text
-pub sets-append : (l : List ℕ) (at : ℕ) (s t : List ℕ) → sets l at (s ++ t) ≡ sets (sets l at s) (at + length s) t
-sets-append l at [] t = ap (λ (k : ℕ). sets l k t) (sym (add-zero at))
-sets-append l at (a ∷ s) t =
-    let e : suc at + length s ≡ at + suc (length s) = omega arith in
-    sets-append (set l at a) (suc at) s t ∙ ap (λ (k : ℕ). sets (sets (set l at a) (suc at) s) k t) e
+use Rattle.arith.proofs.Stores.{sets-append}
 
 -- a text, then another
 infixr 40 _then_

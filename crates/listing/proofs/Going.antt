@@ -13,7 +13,7 @@ use Rattle.reclaiming.specs.declared.Reply.{Reply}
 use Rattle.reclaiming.specs.Calls.{passReply, passBytes}
 use Rattle.transcript.specs.Listing.{replyLine, refusedLine, clockAfter, passLines, passStates}
 use Rattle.lines.specs.Stores.{Put}
-use Rattle.lines.proofs.Puts.{sets-append}
+use Rattle.arith.proofs.Stores.{sets-append}
 
 -- a line stored, of a text that it begins
 module _ {m at r : ℕ} {a b line : List ℕ} (p : Put m a at line r b) (rest left : List ℕ) (e : rest ≡ line ++ left) where

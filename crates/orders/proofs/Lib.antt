@@ -1,5 +1,5 @@
-pub mod NeedTests
 pub mod SoundFacts
 pub mod HeadLaws
 pub mod SoundLaws
 pub mod OrderLaws
+pub mod LevelSpeeds

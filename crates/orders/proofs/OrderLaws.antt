@@ -33,7 +33,7 @@ use Rattle.reclaiming.proofs.PassedStates.{choose-clock, choose-entries}
 use Rattle.reclaiming.proofs.Allowances.{allowance-is}
 use Rattle.state.proofs.BlockLaws.{count-in, store-order}
 use Rattle.state.proofs.KeyLaws as keys
-use Rattle.orders.proofs.NeedTests.{Tried, tried-does}
+use Rattle.orders.proofs.LevelSpeeds.{Tried, tried-does}
 use Rattle.orders.proofs.HeadLaws.{work-is, Looked, none-open, Head, first-open, told-task, Read, read-below, read-work, read-allowed}
 use Rattle.state.proofs.OpenJobs.{timing-count}
 

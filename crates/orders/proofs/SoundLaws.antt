@@ -35,7 +35,7 @@ use Rattle.reclaiming.specs.Questions.{largestClock, entrySound, orderSound, st
 use Rattle.state.specs.Code.{Holds, entryIn, timingIn, Keyed, latestKey, keysIn, noKey}
 use Rattle.orders.specs.Code.{Good, testedBy}
 use Rattle.plan.proofs.TimeLaws.{need-test, need-above}
-use Rattle.orders.proofs.NeedTests.{speed-positive, speed-most, Tried, tried-does}
+use Rattle.orders.proofs.LevelSpeeds.{speed-positive, speed-most, Tried, tried-does}
 use Rattle.orders.proofs.SoundFacts.{sound-holds, sound-plan-yes, sound-clock}
 use Rattle.orders.proofs.HeadLaws.{task-is, period-is, Looked, none-open, Told, first-open, Read, read-work, read-allowed}
 use Rattle.state.proofs.OpenJobs.{timing-count}

@@ -47,7 +47,7 @@ use Rattle.state.proofs.KeyLaws.{key-below, keyed-after, keyed-on}
 use Rattle.orders.proofs.OrderLaws.{hold-is}
 use Rattle.orders.proofs.SoundLaws.{tested-sound}
 use Rattle.arith.proofs.ArrayLaws.{value-at}
-use Rattle.orders.proofs.NeedTests.{speed-most}
+use Rattle.orders.proofs.LevelSpeeds.{speed-most}
 use Rattle.orders.proofs.SoundFacts.{sound-plan, sound-facts, nominal-small, nominal-above, entries-few, period-some, sound-state, sound-size, count-some}
 
 -- work whose time at some speed is at most the ticks left is done in them at the top speed

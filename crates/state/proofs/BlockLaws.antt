@@ -4,12 +4,13 @@ use Prim.Native.Nat.{ℕ, zero, suc, _+_, _-_, _*_, _%_, _^_, _<_, _≤_}
 use mathlib.Core.Path.{_≡_, refl, sym, subst, ap, ap₂, _∙_}
 use mathlib.Core.Bool.{Bool}
 use mathlib.Core.List.{List, [], _∷_, _++_, append-assoc}
-use native.Mathlib.Nat.{zero-add, add-zero, not-suc-le-zero}
+use native.Mathlib.Nat.{zero-add, not-suc-le-zero}
 use native.Mathlib.Numerals.{add-one}
 use native.Mathlib.Decide.{ℕ-discrete}
 use native.Mathlib.Omega.{arith}
 use borrow.Author.Tests.{eq-eqb, ne-eqb}
 use lib.ListN.{length, getD, take, drop, set, replicate, length-append, length-set, replicate-append-replicate}
+use Rattle.arith.proofs.Stores.{sets-append}
 use lib.Seq.{ext-getD, sets, sets-eq, drop-drop, drop-at, getD-drop, length-take-le, take-at, take-all, take-suc, getD-set-same, getD-set-other, paste, paste-suc}
 use Rattle.arith.specs.Digits.{number, digits}
 use Rattle.arith.specs.Choice.{pick}
@@ -69,13 +70,6 @@ field-read bytes i k n b h =
     (h ∙ field-in bytes k n i, omega arith)
 
 -- one run of stores after another
-sets-append :
-    (l : List ℕ) (i : ℕ) (xs ys : List ℕ) → sets l i (xs ++ ys) ≡ sets (sets l i xs) (i + length xs) ys
-sets-append l i [] ys = ap (λ (k : ℕ). sets l k ys) (sym (add-zero i))
-sets-append l i (x ∷ xs) ys =
-    let e : suc i + length xs ≡ i + suc (length xs) = omega arith in
-    sets-append (set l i x) (suc i) xs ys ∙ ap (λ (k : ℕ). sets (sets (set l i x) (suc i) xs) k ys) e
-
 then :
     (l m n : List ℕ) (i j : ℕ) (xs ys : List ℕ) →
     m ≡ sets l i xs →

@@ -19,7 +19,7 @@ use Rattle.reclaiming.specs.StateBlock.{State, noEntry, workOf, remainingOf, en
 use Rattle.reclaiming.specs.Passes.{workedOf}
 use Rattle.state.specs.Code.{entryIn, changed, withJobs, keyOf, deadlineIn, dueAt}
 use Rattle.ticks.specs.Code.{arrivedState, renewedKeys}
-use Rattle.orders.proofs.NeedTests.{work-short}
+use Rattle.orders.proofs.LevelSpeeds.{work-short}
 use Rattle.state.proofs.BlockLaws.{changed-there, changed-else, encode-worst, encode-work, jobs-count, jobs-worst, jobs-same, jobs-eq, store-work, store-remaining}
 use Rattle.arith.proofs.ArrayLaws.{values-more}
 

@@ -5,7 +5,7 @@ use Prim.Native.Nat.{ℕ}
 use borrow.Author.Needs.{needs}
 use Rattle.arith.specs.Need.{need}
 use Rattle.plan.specs.Levels.{baseSpeeds, speedOf}
-use Rattle.orders.proofs.NeedTests.{speed-positive}
+use Rattle.orders.proofs.LevelSpeeds.{speed-positive}
 use Rattle.orders.proofs.order.running_order.Statement.{statement}
 use Rattle.orders.proofs.order.running_order.Tie as tie
 

@@ -6,7 +6,7 @@ use mathlib.Core.List.{List}
 use native.Mathlib.Omega.{arith}
 use borrow.Author.Needs.{needs}
 use lib.ListN.{getD}
-use Rattle.orders.proofs.NeedTests.{tried-fits}
+use Rattle.orders.proofs.LevelSpeeds.{tried-fits}
 use Rattle.orders.proofs.HeadLaws.{Looked, Told, told-task}
 use Rattle.orders.proofs.SoundLaws.{Weighed, not-idle, idle-level, other-task, level-high, level-tried, level-meets}
 use Rattle.orders.proofs.sound.order_sound.Statement.{statement}
