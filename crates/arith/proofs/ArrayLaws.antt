@@ -6,8 +6,8 @@ use mathlib.Core.List.{List, [], _∷_, _++_}
 use native.Mathlib.Numerals.{add-one}
 use native.Mathlib.Omega.{arith}
 use native.Mathlib.Decide.{decLe}
-use lib.ListN.{length, getD, set, replicate, length-append, length-replicate, getD-replicate, List·getD-append, List·getD-eq-default}
-use lib.Seq.{getD-append-add, set-at, append-snoc}
+use lib.ListN.{length, getD, take, set, replicate, length-append, length-replicate, getD-replicate, List·getD-append, List·getD-eq-default}
+use lib.Seq.{getD-append-add, length-take-le, take-suc, set-at, append-snoc}
 use Rattle.arith.specs.Ranges.{listTo}
 use Rattle.arith.specs.Arrays.{padded}
 use Rattle.arith.proofs.RangeLaws.{length-listTo, getD-listTo}
@@ -63,3 +63,17 @@ module _ {ℓ} {A : Type ℓ} (size : ℕ) (past : A) where
 
   pub value-at : (n : ℕ) (f : ℕ → A) (i : ℕ) → i < n → getD (padded size past (listTo n f)) i past ≡ f i
   value-at n f i h = padded-at (listTo n f) i ∙ getD-listTo n f i past h
+
+  -- an array filled with a list's elements, from the front: a turn of the loop
+  pub taken-more :
+      (src l : List A) (i : ℕ) (x : A) →
+      i < size →
+      i < length src →
+      l ≡ padded size past (take i src) →
+      x ≡ getD src i past →
+      set l i x ≡ padded size past (take (i + 1) src)
+  taken-more src l i x h q inv e =
+      ap₂ (λ (m : List A) (y : A). set m i y) inv e
+      ∙ padded-more (take i src) i (getD src i past) (length-take-le i src (omega arith)) h
+      ∙ ap (λ (m : List A). padded size past m) (sym (take-suc src i past q))
+      ∙ sym (ap (λ (k : ℕ). padded size past (take k src)) (add-one i))

@@ -7,7 +7,7 @@ use mathlib.Core.List.{List, [], _∷_, _++_, map}
 use native.Mathlib.Numerals.{add-one}
 use native.Mathlib.Omega.{arith}
 use native.Mathlib.Decide.{decLe}
-use lib.ListN.{length, getD, take, drop, set, replicate, length-map, length-replicate, length-append}
+use lib.ListN.{length, getD, take, drop, set, replicate, length-map}
 use lib.Seq.{drop-cons, drop-length, getD-take, length-take-le, take-suc, set-at, append-snoc, getD-set-same, getD-set-other}
 use Rattle.arith.specs.Choice.{both, every}
 use Rattle.arith.proofs.ListLaws.{every-at}
@@ -71,12 +71,6 @@ filled-more n d l i h q =
     ∙ set-at (take i l) d (replicate (n - (i + 1)) d) (getD l i d) i (length-take-le i l (omega arith))
     ∙ sym (append-snoc (take i l) (getD l i d) (replicate (n - (i + 1)) d))
     ∙ ap (λ x. x ++ replicate (n - (i + 1)) d) (sym (take-suc l i d q) ∙ ap (λ (k : ℕ). take k l) (sym (add-one i)))
-
-pub length-filled {ℓ} : {A : Type ℓ} (n : ℕ) (d : A) (l : List A) (i : ℕ) → i ≤ n → i ≤ length l → length (filled n d l i) ≡ n
-unfolding filled
-length-filled n d l i h q =
-    length-append (take i l) (replicate (n - i) d)
-    ∙ omega (arith, length-take-le i l q, length-replicate (n - i) d)
 
 -- an array filled with a function's values, from the front
 pub values-more :

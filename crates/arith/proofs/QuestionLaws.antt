@@ -91,3 +91,19 @@ all-yes (q ∷ qs) p h =
 pub yes-all : (qs : List Question) → Yes qs → firstNo qs ≡ 0
 yes-all [] a = refl
 yes-all (q ∷ qs) a = ask-yes (q .number) (a .0) (yes-all qs (a .1))
+
+-- where each question's number is at most some bound, so is the first no
+module _ (most : ℕ) where
+  abbrev pub small : Question → Bool
+  small q = leb (q .number) most
+
+  pub firstNo-most : (qs : List Question) → every small qs ≡ true → firstNo qs ≤ most
+  firstNo-most [] h = omega arith
+  firstNo-most (q ∷ qs) h =
+      step (q .reply) (firstNo qs) (q .number)
+      (firstNo-most qs (both-right (small q) (every small qs) h))
+      (leb-true (q .number) most (both-left (small q) (every small qs) h))
+    where
+      step : (b : Bool) (x m : ℕ) → x ≤ most → m ≤ most → pick b x m ≤ most
+      step true x m f g = f
+      step false x m f g = g

@@ -14,9 +14,11 @@ use Rattle.arith.specs.Asking.{firstNo, within}
 use Rattle.arith.proofs.Tests.{both-left, both-right}
 use Rattle.arith.proofs.ListLaws.{every-at}
 use Rattle.arith.proofs.QuestionLaws.{within-high, within-low, within-true, Yes, all-yes, yes-all}
+use lib.Seq.{length-take-le}
 use Rattle.plan.specs.declared.Task.{Task}
+use Rattle.plan.specs.declared.Plan.{Plan}
 use Rattle.plan.specs.Levels.{hyperperiod, nominal}
-use Rattle.plan.specs.Blocks.{editionIn, countIn, tasksIn, blockLength, closingBits, noTask}
+use Rattle.plan.specs.Blocks.{editionIn, countIn, tasksIn, blockLength, closingBits, noTask, tasksOf}
 use Rattle.plan.specs.Questions.{inRange, taskQuestions, judging, reading}
 use Rattle.plan.proofs.BlockBits.{length-tasksFrom}
 
@@ -136,3 +138,7 @@ pub block-list : (speeds block : List ℕ) → FineBlock speeds block → FineLi
 block-list speeds block f =
     let n : length (tasksIn block) ≡ countIn block = length-tasksFrom (countIn block) (drop 9 (unpacked block)) in
     record { count-low = omega (arith, f .count-low); count-high = omega (arith, f .count-high); tasks = f .tasks }
+
+-- how many tasks a plan has
+pub length-tasksOf : (p : Plan) → length (p .tasks) ≡ 16 → p .count ≤ 16 → length (tasksOf p) ≡ p .count
+length-tasksOf p size most = length-take-le (p .count) (p .tasks) (omega arith)

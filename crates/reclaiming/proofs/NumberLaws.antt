@@ -1,26 +1,22 @@
 -- The dispatcher's calls as C sees them: every answer fits one number.
 -- Assumes nothing.
 use Prim.Native.Nat.{ℕ, zero, suc, _-_, _*_, _%_, _^_, _<_, _≤_}
-use mathlib.Core.Bool.{Bool, true, false}
+use mathlib.Core.Bool.{Bool, true}
 use mathlib.Core.Path.{_≡_, refl, sym, subst}
 use mathlib.Core.List.{List, [], _∷_}
 use native.Mathlib.Omega.{arith}
-use borrow.Author.Tests.{leb-true}
-use lib.Dec.{leb}
 use lib.ListN.{length}
-use Rattle.arith.specs.Choice.{pick, every}
-use Rattle.arith.proofs.Tests.{both-left, both-right}
+use Rattle.arith.proofs.Tests.{both-right}
 use Rattle.plan.specs.declared.Task.{Task}
 use Rattle.plan.specs.declared.Written.{Written}
 use Rattle.plan.specs.Levels.{baseSpeeds}
 use Rattle.plan.specs.Blocks.{tasksIn}
 use Rattle.plan.specs.Questions.{reading, roomQuestion}
-use Rattle.arith.specs.Asking.{Question, firstNo}
 use Rattle.plan.specs.Answers.{writtenBy}
 use Rattle.plan.specs.Numbers.{writtenNumber}
 use Rattle.plan.proofs.Facts.{FineList, fine-block, block-list}
 use Rattle.plan.proofs.LevelLaws.{baseRising}
-use Rattle.arith.proofs.QuestionLaws.{yes-of}
+use Rattle.arith.proofs.QuestionLaws.{yes-of, Yes, all-yes, yes-all, firstNo-most}
 use Rattle.schedule.specs.PlainSchedule.{Timing, Pending}
 use Rattle.schedule.proofs.QueueLaws.{queueOf-length}
 use Rattle.reclaiming.specs.declared.Reply.{Reply}
@@ -39,27 +35,7 @@ use Rattle.reclaiming.proofs.Soundness.{fine-storable, sound-fine, acce
 use Rattle.arith.proofs.RangeLaws.{least-le}
 use Rattle.reclaiming.proofs.PassSound.{start-fine, pass-fine, pass-hold, hold-next}
 
--- refusals have small numbers
-abbrev small : Question → Bool
-small q = leb (q .number) 15
-
-firstNo-most : (qs : List Question) → every small qs ≡ true → firstNo qs ≤ 15
-firstNo-most [] h = omega arith
-firstNo-most (q ∷ qs) h =
-    step (q .reply) (firstNo qs) (q .number)
-    (firstNo-most qs (both-right (small q) (every small qs) h))
-    (leb-true (q .number) 15 (both-left (small q) (every small qs) h))
-  where
-    step : (b : Bool) (x m : ℕ) → x ≤ 15 → m ≤ 15 → pick b x m ≤ 15
-    step true x m f g = f
-    step false x m f g = g
-
--- the first question is answered yes, and so are the rest
-first-yes : (b : Bool) (rest n : ℕ) → pick b rest (suc n) ≡ 0 → (b ≡ true) × (rest ≡ 0)
-first-yes true rest n h = (refl, h)
-first-yes false rest n h = absurd (omega arith)
-
--- so do replies: an order's task and level fit a byte each, and its hold is at most a period
+-- refusals have small numbers, and so do replies: an order's task and level fit a byte each, and its hold is at most a period
 order-most : (s : State) (hold : ℕ) → s .task < 256 → s .level < 256 → hold ≤ 65535 → replyNumber (orderWith s hold) < 2 ^ 64
 order-most s hold t l h =
     elim (viewOrder s hold) as (λ r _. replyNumber r < 2 ^ 64) [ is-idle e ↦ omega arith | is-run e ↦ omega arith ]
@@ -85,7 +61,7 @@ pub start-most : (block : List ℕ) (room : ℕ) (r : Reply) → r ≡ startRepl
 start-most block room r e =
     subst (λ (x : Reply). replyNumber x < 2 ^ 64) (sym e)
     (reply-most (startNumber baseSpeeds block room) (startOrder baseSpeeds (startState baseSpeeds (tasksIn block)))
-    (firstNo-most (starting baseSpeeds block room) refl) order)
+    (firstNo-most 15 (starting baseSpeeds block room) refl) order)
   where
     order : startNumber baseSpeeds block room ≡ 0 → replyNumber (startOrder baseSpeeds (startState baseSpeeds (tasksIn block))) < 2 ^ 64
     order z =
@@ -106,16 +82,16 @@ pub pass-most :
 pass-most bytes d finished r e =
     subst (λ (x : Reply). replyNumber x < 2 ^ 64) (sym e)
     (reply-most (passNumber baseSpeeds bytes d finished) (passOrder baseSpeeds (decode bytes) d finished)
-    (firstNo-most (passing baseSpeeds bytes d finished) refl) order)
+    (firstNo-most 15 (passing baseSpeeds bytes d finished) refl) order)
   where
     order : passNumber baseSpeeds bytes d finished ≡ 0 → replyNumber (passOrder baseSpeeds (decode bytes) d finished) < 2 ^ 64
     order z =
         let s : State = decode bytes in
         let ts : List Task = planIn s in
         let next : State = passedState baseSpeeds (timing baseSpeeds ts) s d finished in
-        let y = first-yes (sound baseSpeeds bytes) (firstNo (passQuestions baseSpeeds s d finished)) 9 z in
-        let f = sound-fine baseSpeeds s (sound-state bytes (y .0)) in
-        let ok = accepted baseSpeeds s d finished (y .1) in
+        let yes : Yes (passing baseSpeeds bytes d finished) = all-yes (passing baseSpeeds bytes d finished) refl z in
+        let f = sound-fine baseSpeeds s (sound-state bytes (yes .0)) in
+        let ok = accepted baseSpeeds s d finished (yes-all (passQuestions baseSpeeds s d finished) (yes .1)) in
         subst (λ (hold : ℕ). replyNumber (orderWith next hold) < 2 ^ 64) (sym (pass-hold baseSpeeds baseRising ts (f .0) s (f .1) d finished ok))
         (fine-most ts next (f .0) (pass-fine baseSpeeds baseRising ts (f .0) s (f .1) d finished ok))
 
@@ -132,13 +108,12 @@ pub show-most : (bytes : List ℕ) (room : ℕ) (w : Written) → w ≡ showRepl
 show-most bytes room w e =
     subst (λ (x : Written). writtenNumber x < 2 ^ 36) (sym e)
     (written-most (showNumber baseSpeeds bytes room) (shownBytes baseSpeeds bytes)
-    (firstNo-most (showing baseSpeeds bytes (length (shownBytes baseSpeeds bytes)) room) refl) long)
+    (firstNo-most 15 (showing baseSpeeds bytes (length (shownBytes baseSpeeds bytes)) room) refl) long)
   where
     long : showNumber baseSpeeds bytes room ≡ 0 → length (shownBytes baseSpeeds bytes) ≤ 48
     long z =
         let s : State = decode bytes in
-        let y = first-yes (sound baseSpeeds bytes) (firstNo (roomQuestion (length (shownBytes baseSpeeds bytes)) room ∷ [])) 9 z in
-        let f = sound-fine baseSpeeds s (sound-state bytes (y .0)) in
+        let f = sound-fine baseSpeeds s (sound-state bytes (all-yes (showing baseSpeeds bytes (length (shownBytes baseSpeeds bytes)) room) refl z .0)) in
         omega (
           arith,
           queueBytes-length (readyQueue baseSpeeds s),
