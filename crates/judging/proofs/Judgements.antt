@@ -1,35 +1,40 @@
--- What each way out of judging a plan says of the questions.
+-- Judging a plan: what each loop has made so far, and what each way out says of the questions.
 -- Assumes nothing.
 use Prim.Native.Nat.{ℕ, zero, suc, _+_, _-_, _*_, _/_, _<_, _≤_, min}
 use mathlib.Core.Path.{_≡_, sym, subst, ap, ap₂, _∙_}
 use mathlib.Core.Bool.{Bool, true, false}
-use mathlib.Core.List.{List, [], _∷_, _++_}
+use mathlib.Core.List.{List, [], _∷_}
 use native.Mathlib.Omega.{arith}
 use native.Mathlib.Numerals.{add-one}
 use borrow.Author.Tests.{le-leb, lt-leb, le-ltb, lt-ltb}
-use native.Mathlib.Nat.{mul-le-mul, le-trans, div-le-self, not-suc-le-zero}
+use native.Mathlib.Nat.{mul-le-mul, div-le-self, not-suc-le-zero}
 use lib.Dec.{leb}
-use lib.ListN.{length, getD, take, drop, replicate}
+use lib.ListN.{length, getD, take, drop, set}
 use lib.Seq.{length-take-le}
+use Rattle.arith.specs.Arrays.{padded}
 use Rattle.arith.specs.Choice.{every, first}
+use Rattle.arith.specs.Need.{need}
+use Rattle.arith.specs.Ranges.{listTo}
+use Rattle.arith.specs.Sum.{sumTo}
+use Rattle.arith.specs.Divisor.{lcm}
+use Rattle.arith.specs.Asking.{firstNo}
 use Rattle.plan.specs.declared.Task.{Task}
 use Rattle.plan.specs.declared.Plan.{Plan}
 use Rattle.plan.specs.declared.Judged.{Judged}
 use Rattle.plan.specs.declared.Verdict.{Verdict}
 use Rattle.plan.specs.declared.Verdict.the-variants as verdict
-use Rattle.plan.specs.Answers.{judgedBy, answered}
-use Rattle.arith.specs.Need.{need}
-use Rattle.arith.specs.Sum.{sumTo}
-use Rattle.arith.proofs.Sums.{sumTo-eq, sumOf-taken}
-use Rattle.arith.specs.Divisor.{lcm}
+use Rattle.plan.specs.Answers.{judgedBy, judgedPlan, answered}
 use Rattle.plan.specs.Levels.{hyperperiod, demandWithin, baseSpeeds, speedOf, nominal, admits}
-use Rattle.plan.specs.Blocks.{noTask, planOf}
+use Rattle.plan.specs.Blocks.{noTask, planOf, tasksOf}
 use Rattle.plan.specs.Questions.{inRange, taskQuestions, judging}
-use Rattle.arith.specs.Asking.{firstNo}
-use Rattle.arith.proofs.Loops.{rest-cons, filled}
-use Rattle.plan.proofs.LevelLaws.{admits-covers, baseRising}
-use Rattle.arith.proofs.Searches.{first-found, first-next, first-none, first-weaker}
+use Rattle.arith.proofs.ArrayLaws.{taken-more, value-at}
+use Rattle.arith.proofs.Loops.{rest-cons, rest-end, every-taken, every-again, every-not, every-end}
+use Rattle.arith.proofs.Needs.{need-le}
+use Rattle.arith.proofs.Searches.{first-found, first-next, first-weaker}
+use Rattle.arith.proofs.Sums.{sumTo-eq, sumOf-taken}
 use Rattle.arith.proofs.Tests.{both-false}
+use Rattle.plan.proofs.Facts.{InRange, in-range}
+use Rattle.plan.proofs.LevelLaws.{admits-covers, baseRising, hyperperiod-drop, range-positive}
 
 pub period-low : (t : Task) → t .period < 1 → false ≡ inRange t
 period-low t h = simp (lt-leb 1 (t .period) h)
@@ -43,144 +48,289 @@ worst-low t a b h = simp (le-leb 1 (t .period) a, le-leb (t .period) 65535 b, lt
 pub worst-high : (t : Task) → 1 ≤ t .period → t .period ≤ 65535 → 1 ≤ t .worst → leb (t .worst) 1048575 ≡ inRange t
 worst-high t a b h = simp (le-leb 1 (t .period) a, le-leb (t .period) 65535 b, le-leb 1 (t .worst) h)
 
--- a loop over the tasks that counts down: what it has taken in is the list from its place on
-module _ (l : List Task) (count i : ℕ) (le : count ≤ length l) (pos : 0 < i) (top : i ≤ count) where
-  down : drop (i - 1) (take count l) ≡ getD l (i - 1) noTask ∷ drop i (take count l)
-  down =
+-- the loop that tests the ranges: the tasks before i are in range
+pub record Scanned (p : Plan) (i : ℕ) : Type 0 where
+  pub within : i ≤ p .count
+  pub rest : every inRange (drop i (tasksOf p)) ≡ every inRange (tasksOf p)
+
+module _ {p : Plan} {i : ℕ} (le : p .count ≤ length (p .tasks)) (at : Scanned p i) where
+  pub scanned-more : i < p .count → inRange (getD (p .tasks) i noTask) ≡ true → Scanned p (i + 1)
+  scanned-more h t =
+      record { within = omega arith; rest = every-again inRange (p .tasks) (p .count) noTask le i h (at .rest) t }
+
+  pub scanned-not : i < p .count → inRange (getD (p .tasks) i noTask) ≡ false → false ≡ every inRange (tasksOf p)
+  scanned-not h t = every-not inRange (p .tasks) (p .count) noTask le i h (at .rest) t
+
+  pub scanned-all : p .count ≤ i → true ≡ every inRange (tasksOf p)
+  scanned-all h = every-end inRange (p .tasks) (p .count) noTask le i (omega arith) (at .rest)
+
+-- a plan whose ranges are tested, as judging holds it
+pub record Ranged (p : Plan) : Type 0 where
+  pub places : length (p .tasks) ≡ 16
+  pub most : p .count ≤ 16
+  pub ranges : every inRange (tasksOf p) ≡ true
+
+module _ {p : Plan} (plan : Ranged p) where
+  listed : p .count ≤ length (p .tasks)
+  listed = omega arith
+
+  pub task-at : (i : ℕ) → i < p .count → InRange (getD (p .tasks) i noTask)
+  task-at i h =
+      in-range (getD (p .tasks) i noTask)
+      (every-taken inRange (p .tasks) (p .count) noTask listed (plan .ranges) i h)
+
+-- the loop that takes the periods in counts down: h is the hyperperiod of the tasks from i on
+pub record Spanned (p : Plan) (i h : ℕ) : Type 0 where
+  pub within : i ≤ p .count
+  pub span : h ≡ hyperperiod (drop i (tasksOf p))
+  pub small : h ≤ 1000000
+
+pub spanned-none : {p : Plan} → Ranged p → Spanned p (p .count) 1
+spanned-none {p} plan =
+    record {
+      within = omega arith;
+      span = ap hyperperiod (sym (rest-end (p .tasks) (p .count) (listed plan)));
+      small = omega arith;
+    }
+
+pub spanned-all : {p : Plan} {i h : ℕ} → Spanned p i h → i ≡ 0 → h ≡ min (hyperperiod (tasksOf p)) 1000001
+spanned-all {p} at e = omega (arith, at .span ∙ ap (λ (n : ℕ). hyperperiod (drop n (tasksOf p))) e)
+
+-- with one period more it is m
+pub record Widened (p : Plan) (i h m : ℕ) : Type 0 where
+  pub plan : Ranged p
+  pub at : Spanned p i h
+  pub positive : 0 < i
+  pub multiple : m ≡ lcm (getD (p .tasks) (i - 1) noTask .period) h
+
+module _ {p : Plan} {i h m : ℕ} (w : Widened p i h m) where
+  widened : m ≡ hyperperiod (drop (i - 1) (tasksOf p))
+  widened =
+      let t : Task = getD (p .tasks) (i - 1) noTask in
       let e : i - 1 + 1 ≡ i = omega arith in
-      rest-cons l count (i - 1) noTask le (omega arith)
-      ∙ ap (λ (k : ℕ). getD l (i - 1) noTask ∷ drop k (take count l)) e
+      w .multiple
+      ∙ ap (λ (x : ℕ). lcm (t .period) x) (w .at .span)
+      ∙ sym (ap hyperperiod
+      (rest-cons (p .tasks) (p .count) (i - 1) noTask (listed (w .plan)) (omega arith)
+      ∙ ap (λ (k : ℕ). t ∷ drop k (tasksOf p)) e))
 
-  pub span-more : (h m : ℕ) → h ≡ hyperperiod (drop i (take count l)) → m ≡ lcm (getD l (i - 1) noTask .period) h → m ≡ hyperperiod (drop (i - 1) (take count l))
-  span-more h m inv e =
-      e
-      ∙ ap (λ (x : ℕ). lcm (getD l (i - 1) noTask .period) x) inv
-      ∙ sym (ap hyperperiod down)
+  pub spanned-more : m ≤ 1000000 → Spanned p (i - 1) m
+  spanned-more le = record { within = omega arith; span = widened; small = le }
 
--- one job's time and the jobs of a task are bounded, so their product is
-pub product-bound : (w ticks n : ℕ) → ticks ≤ w → w ≤ 1048575 → n ≤ 1000000 → ticks * n ≤ 1048575 * 1000000
-product-bound w ticks n a b m = mul-le-mul (le-trans a b) m
+  pub spanned-over : 1000000 < m → 1000001 ≡ min (hyperperiod (tasksOf p)) 1000001
+  spanned-over lt =
+      omega (arith, widened, hyperperiod-drop (tasksOf p) (range-positive (tasksOf p) (w .plan .ranges)) (i - 1))
 
--- one term more of a sum, as a loop takes it
-pub sum-more : (f : ℕ → ℕ) (i total x : ℕ) → total ≡ sumTo i f → x ≡ f i → total + x ≡ sumTo (i + 1) f
-sum-more f i total x e d = rw add-one (ap₂ (λ (y z : ℕ). y + z) e d)
+-- how many jobs task i has within a span, and the time that so many of its jobs take at a speed
+abbrev pub jobsIn : ℕ → Plan → ℕ → ℕ
+jobsIn span p i = span / getD (p .tasks) i noTask .period
 
--- the jobs of each task within a span: how many they are at most, and the time that they all take
-module _ (l : List Task) (jobs : List ℕ) (count span : ℕ)
-    (h : (i : ℕ) → i < count → getD jobs i 0 ≡ span / getD l i noTask .period) where
-  pub jobs-most : span ≤ 1000000 → (i : ℕ) → i < count → getD jobs i 0 ≤ 1000000
-  jobs-most m i k = subst (λ (x : ℕ). x ≤ 1000000) (sym (h i k)) (le-trans (div-le-self span (getD l i noTask .period)) m)
+abbrev pub timeOf : ℕ → Plan → List ℕ → ℕ → ℕ
+timeOf speed p jobs i = need speed (getD (p .tasks) i noTask .worst) * getD jobs i 0
 
-  pub demand-all :
-      (speed total : ℕ) →
-      count ≤ length l →
-      total ≡ sumTo count (λ i. need speed (getD l i noTask .worst) * getD jobs i 0) →
-      total ≡ demandWithin span speed (take count l)
-  demand-all speed total le e =
-      e
-      ∙ sumTo-eq count (λ i. need speed (getD l i noTask .worst) * getD jobs i 0) (λ i. need speed (getD l i noTask .worst) * (span / getD l i noTask .period))
-      (λ i k. ap (λ (x : ℕ). need speed (getD l i noTask .worst) * x) (h i k))
-      ∙ sumOf-taken (λ (t : Task). need speed (t .worst) * (span / t .period)) l noTask count le
+-- what a demand is asked with
+pub record Asked (p : Plan) (jobs : List ℕ) (speed : ℕ) : Type 0 where
+  pub plan : Ranged p
+  pub positive : 0 < speed
+  pub few : (i : ℕ) → i < p .count → getD jobs i 0 ≤ 1000000
 
--- a hyperperiod above the limit, seen on the way, and one that is not
-pub span-over : (whole part : ℕ) → part ≤ whole → 1000000 < part → 1000001 ≡ min whole 1000001
-span-over whole part a b = omega arith
+-- the loop that sums it up
+pub record Summed (p : Plan) (jobs : List ℕ) (speed total i : ℕ) : Type 0 where
+  pub within : i ≤ p .count
+  pub sum : total ≡ sumTo i (timeOf speed p jobs)
+  pub small : total ≤ 1048575000000 * i
 
-pub span-under : (whole h : ℕ) → h ≡ whole → h ≤ 1000000 → h ≡ min whole 1000001
-span-under whole h a b = omega arith
+pub summed-all :
+    {p : Plan} {jobs : List ℕ} {speed total i : ℕ} →
+    Summed p jobs speed total i →
+    p .count ≤ i →
+    total ≡ sumTo (p .count) (timeOf speed p jobs)
+summed-all {p} {jobs} {speed} {total} {i} at h =
+    let e : i ≡ p .count = omega arith in
+    at .sum ∙ ap (λ (n : ℕ). sumTo n (timeOf speed p jobs)) e
 
--- a plan filled from the front with a list's first count tasks
-pub filled-plan :
-    (q : Plan) (l : List Task) (count i : ℕ) →
-    count ≤ length l →
-    i ≡ count →
-    q .count ≡ count →
-    q .tasks ≡ filled 16 noTask l i →
-    q ≡ planOf (take count l)
-unfolding filled
-filled-plan q l count i le e c t =
-    let len : length (take count l) ≡ count = length-take-le count l le in
-    let tasks : q .tasks ≡ take count l ++ replicate (16 - length (take count l)) noTask =
-    t
-    ∙ ap (λ (n : ℕ). take n l ++ replicate (16 - n) noTask) e
-    ∙ ap (λ (n : ℕ). take count l ++ replicate (16 - n) noTask) (sym len) in
-    let counts : q .count ≡ length (take count l) = c ∙ sym len in
-    λ j. record { count = counts j; tasks = tasks j }
+-- a turn of it
+pub record Added (p : Plan) (jobs : List ℕ) (speed i ticks : ℕ) : Type 0 where
+  pub asked : Asked p jobs speed
+  pub below : i < p .count
+  pub needed : ticks ≡ need speed (getD (p .tasks) i noTask .worst)
 
--- the search for the lowest level that does so much work within a span
-module _ (work span : ℕ) where
-  abbrev pub does : ℕ → Bool
-  does speed = leb work (span * speed)
+module _ {p : Plan} {jobs : List ℕ} {speed i ticks : ℕ} (a : Added p jobs speed i ticks) where
+  pub added-small : ticks * getD jobs i 0 ≤ 1048575000000
+  added-small =
+      let worst : ℕ = getD (p .tasks) i noTask .worst in
+      let short : ticks ≤ 1048575 = omega (arith, need-le speed worst (a .asked .positive), task-at (a .asked .plan) i (a .below) .worst-high) in
+      mul-le-mul short (a .asked .few i (a .below))
 
-  pub slowest-found : (level speed : ℕ) → level ≤ first does baseSpeeds → level < 8 → speed ≡ speedOf baseSpeeds level → work ≤ span * speed → level ≡ first does baseSpeeds
-  slowest-found level speed low h s le =
-      first-found does baseSpeeds level 0 low h (ap does (sym s) ∙ le-leb work (span * speed) le)
+  pub summed-more : {total : ℕ} → Summed p jobs speed total i → Summed p jobs speed (total + ticks * getD jobs i 0) (i + 1)
+  summed-more at =
+      record {
+        within = omega arith;
+        sum = rw add-one (ap₂ (λ (y z : ℕ). y + z) (at .sum) (ap (λ (x : ℕ). x * getD jobs i 0) (a .needed)));
+        small = omega (arith, added-small);
+      }
 
-  pub slowest-next : (level speed : ℕ) → level ≤ first does baseSpeeds → level < 8 → speed ≡ speedOf baseSpeeds level → span * speed < work → level + 1 ≤ first does baseSpeeds
-  slowest-next level speed low h s lt =
-      first-next does baseSpeeds level 0 low h (ap does (sym s) ∙ lt-leb work (span * speed) lt)
+-- a search for the lowest level whose speed passes a test: the level that is tried, and its speed
+pub record Trying (test : ℕ → Bool) (level speed : ℕ) : Type 0 where
+  pub low : level ≤ first test baseSpeeds
+  pub below : level < 8
+  pub speed-is : speed ≡ speedOf baseSpeeds level
 
-  pub slowest-none : (level : ℕ) → level ≤ first does baseSpeeds → 8 ≤ level → level ≡ first does baseSpeeds
-  slowest-none level low h = first-none does baseSpeeds level low h
+module _ {test : ℕ → Bool} {level speed : ℕ} (at : Trying test level speed) where
+  pub level-found : test speed ≡ true → level ≡ first test baseSpeeds
+  level-found e = first-found test baseSpeeds level 0 (at .low) (at .below) (ap test (sym (at .speed-is)) ∙ e)
 
--- no level below it admits, where the work is all that a plan has within its hyperperiod
-pub nominal-from :
-    (ts : List Task) (span work level : ℕ) →
-    span ≡ hyperperiod ts →
-    work ≡ demandWithin span 1 ts →
-    level ≡ first (does work span) baseSpeeds →
-    level ≤ nominal baseSpeeds ts
-nominal-from ts span work level e d l =
-    subst (λ (x : ℕ). x ≤ nominal baseSpeeds ts) (sym l)
-    (first-weaker (admits ts) (does work span) baseSpeeds 0
-    (λ k h a. le-leb work (span * getD baseSpeeds k 0) (admits-covers ts span work (getD baseSpeeds k 0) (baseRising .positive k h) e d a)))
+  pub level-next : test speed ≡ false → level + 1 ≤ first test baseSpeeds
+  level-next e = first-next test baseSpeeds level 0 (at .low) (at .below) (ap test (sym (at .speed-is)) ∙ e)
 
--- a level that admits is the nominal one, where none below does; one that does not is below it
-module _ (ts : List Task) (level speed span total : ℕ) (low : level ≤ nominal baseSpeeds ts) (h : level < 8)
-    (s : speed ≡ speedOf baseSpeeds level) (e : span ≡ hyperperiod ts) (d : total ≡ demandWithin span speed ts) where
-  tested-sum : leb total span ≡ admits ts (speedOf baseSpeeds level)
-  tested-sum =
-      ap (λ (x : ℕ). leb x span) d
-      ∙ ap₂ (λ (x y : ℕ). leb (demandWithin x y ts) x) e s
+-- a speed that does so much work within a span
+abbrev pub does : ℕ → ℕ → ℕ → Bool
+does work span speed = leb work (span * speed)
 
-  pub nominal-found : total ≤ span → level ≡ nominal baseSpeeds ts
-  nominal-found le = first-found (admits ts) baseSpeeds level 0 low h (sym tested-sum ∙ le-leb total span le)
+-- the jobs of each task within the hyperperiod, counted
+pub record Counted (p : Plan) (span : ℕ) (jobs : List ℕ) : Type 0 where
+  pub plan : Ranged p
+  pub span-is : span ≡ hyperperiod (tasksOf p)
+  pub small : span ≤ 1000000
+  pub jobs-are : jobs ≡ padded 16 0 (listTo (p .count) (jobsIn span p))
 
-  pub nominal-next : span < total → level + 1 ≤ nominal baseSpeeds ts
-  nominal-next lt = first-next (admits ts) baseSpeeds level 0 low h (sym tested-sum ∙ lt-leb total span lt)
+module _ {p : Plan} {span : ℕ} {jobs : List ℕ} (c : Counted p span jobs) where
+  counted-at : (i : ℕ) → i < p .count → getD jobs i 0 ≡ jobsIn span p i
+  counted-at i h =
+      ap (λ (l : List ℕ). getD l i 0) (c .jobs-are) ∙ value-at 16 0 (p .count) (jobsIn span p) i h
 
-pub nominal-none : (ts : List Task) (level : ℕ) → level ≤ nominal baseSpeeds ts → 8 ≤ level → level ≡ nominal baseSpeeds ts
-nominal-none ts level low h = first-none (admits ts) baseSpeeds level low h
+  pub counted-few : (i : ℕ) → i < p .count → getD jobs i 0 ≤ 1000000
+  counted-few i h = omega (arith, counted-at i h, div-le-self span (getD (p .tasks) i noTask .period))
+
+  -- the demand of them all at a speed: the speed admits the tasks, or it does not
+  module _ (speed : ℕ) {total : ℕ} (e : total ≡ sumTo (p .count) (timeOf speed p jobs)) where
+    demanded : total ≡ demandWithin span speed (tasksOf p)
+    demanded =
+        let time : ℕ → ℕ = λ i. need speed (getD (p .tasks) i noTask .worst) in
+        e
+        ∙ sumTo-eq (p .count) (timeOf speed p jobs) (λ i. time i * jobsIn span p i) (λ i h. ap (λ (n : ℕ). time i * n) (counted-at i h))
+        ∙ sumOf-taken (λ (t : Task). need speed (t .worst) * (span / t .period)) (p .tasks) noTask (p .count) (listed (c .plan))
+
+    compared : leb total span ≡ admits (tasksOf p) speed
+    compared =
+        ap (λ (x : ℕ). leb x span) demanded
+        ∙ ap (λ (x : ℕ). leb (demandWithin x speed (tasksOf p)) x) (c .span-is)
+
+    pub admitted : total ≤ span → admits (tasksOf p) speed ≡ true
+    admitted le = sym compared ∙ le-leb total span le
+
+    pub not-admitted : span < total → admits (tasksOf p) speed ≡ false
+    not-admitted lt = sym compared ∙ lt-leb total span lt
+
+  -- a level that is too slow for the plain work does not admit
+  pub nominal-from :
+      {work level : ℕ} →
+      work ≡ sumTo (p .count) (timeOf 1 p jobs) →
+      level ≡ first (does work span) baseSpeeds →
+      level ≤ nominal baseSpeeds (tasksOf p)
+  nominal-from {work} e l =
+      subst (λ (x : ℕ). x ≤ nominal baseSpeeds (tasksOf p)) (sym l)
+      (first-weaker (admits (tasksOf p)) (does work span) baseSpeeds 0 covers)
+    where
+      covers : (k : ℕ) → k < 8 → admits (tasksOf p) (getD baseSpeeds k 0) ≡ true → does work span (getD baseSpeeds k 0) ≡ true
+      covers k h a =
+          let speed : ℕ = getD baseSpeeds k 0 in
+          le-leb work (span * speed) (admits-covers (tasksOf p) span work speed (baseRising .positive k h) (c .span-is) (demanded 1 e) a)
+
+-- the loop that fills a plan with a list's first count tasks
+pub record Filled (l : List Task) (count : ℕ) (q : Plan) (i : ℕ) : Type 0 where
+  pub within : i ≤ count
+  pub counted : q .count ≡ count
+  pub tasks : q .tasks ≡ padded 16 noTask (take i l)
+
+module _ {l : List Task} {count : ℕ} {q : Plan} {i : ℕ} (at : Filled l count q i) (le : count ≤ length l) where
+  pub filled-more :
+      {t : Task} →
+      count ≤ 16 →
+      i < count →
+      t ≡ getD l i noTask →
+      Filled l count (record { count = q .count; tasks = set (q .tasks) i t }) (i + 1)
+  filled-more most h e =
+      record {
+        within = omega arith;
+        counted = at .counted;
+        tasks = taken-more 16 noTask l (q .tasks) i _ (omega arith) (omega arith) (at .tasks) e;
+      }
+
+  pub filled-all : count ≤ i → q ≡ planOf (take count l)
+  filled-all h =
+      let e : i ≡ count = omega arith in
+      let counts : q .count ≡ length (take count l) = at .counted ∙ sym (length-take-le count l le) in
+      let tasks : q .tasks ≡ padded 16 noTask (take count l) = at .tasks ∙ ap (λ (n : ℕ). padded 16 noTask (take n l)) e in
+      λ j. record { count = counts j; tasks = tasks j }
 
 -- a refusal, whatever the tasks are
-pub refused-is : (n : ℕ) (q : Plan) (speeds : List ℕ) (ts : List Task) → 0 < n → q ≡ planOf [] → _≡_ {A = Judged} (record { verdict = verdict.Refused n; plan = q }) (judgedBy n speeds ts)
+pub refused-is :
+    (n : ℕ) (q : Plan) (speeds : List ℕ) (ts : List Task) →
+    0 < n →
+    q ≡ planOf [] →
+    _≡_ {A = Judged} (record { verdict = verdict.Refused n; plan = q }) (judgedBy n speeds ts)
 refused-is zero q speeds ts h e = absurd (not-suc-le-zero h)
 refused-is (suc n) q speeds ts h e = λ i. record { verdict = verdict.Refused (suc n); plan = e i }
 
--- the first no of the questions 6, 7 and 8
+-- the verdict, by the first no of the questions 6, 7 and 8
+abbrev pub verdictOf : List ℕ → List Task → Verdict
+verdictOf speeds ts = answered (firstNo (taskQuestions speeds ts)) speeds ts
+
 module _ (speeds : List ℕ) (ts : List Task) where
-  pub no-6 : every inRange ts ≡ false → firstNo (taskQuestions speeds ts) ≡ 6
-  no-6 a = simp a
+  told : {n : ℕ} → firstNo (taskQuestions speeds ts) ≡ n → answered n speeds ts ≡ verdictOf speeds ts
+  told e = sym (ap (λ (n : ℕ). answered n speeds ts) e)
 
-  pub no-7 : every inRange ts ≡ true → 1000000 < hyperperiod ts → firstNo (taskQuestions speeds ts) ≡ 7
-  no-7 a b = simp (a, lt-leb (hyperperiod ts) 1000000 b)
+  pub refused-6 : every inRange ts ≡ false → verdict.Refused 6 ≡ verdictOf speeds ts
+  refused-6 a = told {n = 6} (simp a)
 
-  pub no-8 : every inRange ts ≡ true → hyperperiod ts ≤ 1000000 → length speeds ≤ nominal speeds ts → firstNo (taskQuestions speeds ts) ≡ 8
-  no-8 a b c = simp (a, le-leb (hyperperiod ts) 1000000 b, le-ltb (nominal speeds ts) (length speeds) c)
+  pub refused-7 : every inRange ts ≡ true → 1000000 < hyperperiod ts → verdict.Refused 7 ≡ verdictOf speeds ts
+  refused-7 a b = told {n = 7} (simp (a, lt-leb (hyperperiod ts) 1000000 b))
 
-  pub no-no : every inRange ts ≡ true → hyperperiod ts ≤ 1000000 → nominal speeds ts < length speeds → firstNo (taskQuestions speeds ts) ≡ 0
-  no-no a b c = simp (a, le-leb (hyperperiod ts) 1000000 b, lt-ltb (nominal speeds ts) (length speeds) c)
+-- 6 and 7 are answered yes, and the level is known
+pub record Levelled (speeds : List ℕ) (ts : List Task) (span level : ℕ) : Type 0 where
+  pub ranges : every inRange ts ≡ true
+  pub span-is : span ≡ hyperperiod ts
+  pub small : span ≤ 1000000
+  pub level-is : level ≡ nominal speeds ts
 
-  -- the plan beside a verdict
-  pub beside-refused : (n k : ℕ) (v : Verdict) (q : Plan) → v ≡ answered n speeds ts → v ≡ verdict.Refused k → q ≡ planOf [] → _≡_ {A = Judged} (record { verdict = v; plan = q }) (judgedBy n speeds ts)
-  beside-refused zero k v q a r e = let z : _≡_ {A = ℕ} 0 1 = cc in absurd (omega arith)
-  beside-refused (suc n) k v q a r e = λ i. record { verdict = a i; plan = e i }
+module _ {speeds : List ℕ} {ts : List Task} {span level : ℕ} (k : Levelled speeds ts span level) where
+  seven : leb (hyperperiod ts) 1000000 ≡ true
+  seven = ap (λ (x : ℕ). leb x 1000000) (sym (k .span-is)) ∙ le-leb span 1000000 (k .small)
 
-  pub beside-admitted : (n l h : ℕ) (v : Verdict) (q : Plan) → v ≡ answered n speeds ts → v ≡ verdict.Admitted l h → q ≡ planOf ts → _≡_ {A = Judged} (record { verdict = v; plan = q }) (judgedBy n speeds ts)
-  beside-admitted zero l h v q a r e = λ i. record { verdict = a i; plan = e i }
-  beside-admitted (suc n) l h v q a r e = let z : _≡_ {A = ℕ} 0 1 = cc in absurd (omega arith)
+  pub refused-8 : length speeds ≤ level → verdict.Refused 8 ≡ verdictOf speeds ts
+  refused-8 h =
+      told speeds ts {n = 8}
+      (simp (k .ranges, seven, le-ltb (nominal speeds ts) (length speeds) (subst (λ (n : ℕ). length speeds ≤ n) (k .level-is) h)))
 
-  -- the count is out of its range
+  pub admitted-at : level < length speeds → verdict.Admitted level span ≡ verdictOf speeds ts
+  admitted-at h =
+      ap₂ (λ (l x : ℕ). verdict.Admitted l x) (k .level-is) (k .span-is)
+      ∙ told speeds ts {n = 0}
+      (simp (k .ranges, seven, lt-ltb (nominal speeds ts) (length speeds) (subst (λ (n : ℕ). n < length speeds) (k .level-is) h)))
+
+-- a verdict, and the plan beside it
+module _ (speeds : List ℕ) (ts : List Task) {v : Verdict} {q : Plan} where
+  pub beside-refused :
+      (n : ℕ) {k : ℕ} →
+      v ≡ answered n speeds ts →
+      v ≡ verdict.Refused k →
+      q ≡ planOf [] →
+      _≡_ {A = Judged} (record { verdict = v; plan = q }) (judgedBy n speeds ts)
+  beside-refused zero a r e = let z : _≡_ {A = ℕ} 0 1 = cc in absurd (omega arith)
+  beside-refused (suc n) a r e = λ i. record { verdict = a i; plan = e i }
+
+  pub beside-admitted :
+      (n : ℕ) {l h : ℕ} →
+      v ≡ answered n speeds ts →
+      v ≡ verdict.Admitted l h →
+      q ≡ planOf ts →
+      _≡_ {A = Judged} (record { verdict = v; plan = q }) (judgedBy n speeds ts)
+  beside-admitted zero a r e = λ i. record { verdict = a i; plan = e i }
+  beside-admitted (suc n) a r e = let z : _≡_ {A = ℕ} 0 1 = cc in absurd (omega arith)
+
+-- the count is out of its range, or in it
+module _ (speeds : List ℕ) (ts : List Task) where
   pub count-low : (count : ℕ) → count < 1 → firstNo (judging speeds count ts) ≡ 3
   count-low count h = simp (lt-leb 1 count h)
 
@@ -189,3 +339,8 @@ module _ (speeds : List ℕ) (ts : List Task) where
 
   pub count-good : (count : ℕ) → 1 ≤ count → count ≤ 16 → firstNo (judging speeds count ts) ≡ firstNo (taskQuestions speeds ts)
   count-good count a b = simp (le-leb 1 count a, le-leb count 16 b)
+
+-- what judges a plan, where the first no is known
+pub judged-by :
+    (speeds : List ℕ) (p : Plan) {n : ℕ} → firstNo (judging speeds (p .count) (tasksOf p)) ≡ n → judgedBy n speeds (tasksOf p) ≡ judgedPlan speeds p
+judged-by speeds p e = sym (ap (λ (n : ℕ). judgedBy n speeds (tasksOf p)) e)

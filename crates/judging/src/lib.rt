@@ -9,8 +9,10 @@ ghost use mathlib.Core.List.{[]};
 ghost use Prim.Native.Nat.{ℕ, _*_, _/_, _<_, _≤_, min};
 ghost use lib.Dec.{leb};
 ghost use lib.ListN.{getD};
+ghost use Rattle.arith.specs.Arrays.{padded};
 ghost use Rattle.arith.specs.Choice.{every, first};
 ghost use Rattle.arith.specs.Need.{need};
+ghost use Rattle.arith.specs.Ranges.{listTo};
 ghost use Rattle.arith.specs.Sum.{sumTo};
 ghost use Rattle.plan.specs.Levels.{baseSpeeds, speedOf, hyperperiod, nominal};
 ghost use Rattle.plan.specs.Questions.{inRange, taskQuestions};
@@ -78,10 +80,10 @@ fn hyperperiod_of(p: Plan) -> u32
     h
 }
 
-// How many jobs each task has within a span.
+// How many jobs each task has within a span, and 0 past the count.
 fn jobs_within(p: Plan, span: u32) -> [u32; 16]
     requires { ⌜ (p .count ≤ 16) × (every inRange (tasksOf p) ≡ true) ⌝ }
-    ensures { λ r. ⌜ ((i : ℕ) → i < p .count → getD r i 0 ≡ span / getD (p .tasks) i noTask .period) ⌝ }
+    ensures { λ r. ⌜ r ≡ padded 16 0 (listTo (p .count) (λ i. span / getD (p .tasks) i noTask .period)) ⌝ }
 {
     let count = p.count;
     let mut jobs = [0u32; 16];

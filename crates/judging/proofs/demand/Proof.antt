@@ -1,46 +1,38 @@
-use Prim.Native.Nat.{ℕ, _≤_, _-_, _*_}
-use mathlib.Core.Path.{_≡_, refl, sym, ap, _∙_, subst}
+use Prim.Native.Nat.{_-_}
+use mathlib.Core.Path.{refl}
 use native.Mathlib.Omega.{arith}
 use borrow.Author.Needs.{needs}
-use lib.ListN.{length, getD}
-use Rattle.arith.specs.Need.{need}
-use Rattle.arith.specs.Sum.{sumTo}
-use Rattle.arith.proofs.Needs.{need-le}
-use Rattle.plan.specs.declared.Task.{Task}
-use Rattle.plan.specs.Blocks.{noTask}
-use Rattle.plan.specs.Questions.{inRange}
-use Rattle.arith.proofs.Loops.{length-mapped, every-taken}
-use Rattle.plan.proofs.Facts.{in-range}
-use Rattle.judging.proofs.Judgements.{product-bound, sum-more}
+use Rattle.arith.proofs.Loops.{length-mapped}
+use Rattle.judging.proofs.Judgements.{Asked, Added, Summed, added-small, summed-more, summed-all}
 use Rattle.judging.proofs.demand.Statement.{statement}
 use Rattle.judging.proofs.demand.Tie as tie
-use Rattle.judging.proofs.demand.Reads as reads
-use Rattle.judging.proofs.demand.Lts as lts
-use Rattle.numeric.proofs.time_needed.Reads as time-needed-reads
 
 abbrev Inv-loop : tie.InvT-loop
-Inv-loop jobs speed p count total₀ i₀ total i =
-    (i ≤ count) × (total ≡ sumTo i (λ k. need speed (getD (p .tasks) k noTask .worst) * getD jobs k 0)) × (total ≤ 1048575000000 * i)
+Inv-loop jobs speed p count total₀ i₀ total i = Summed p jobs speed total i
 
 abbrev μ-loop : tie.MeasureT-loop
 μ-loop jobs speed p count total₀ i₀ total i = count - i
 
-size : (c : tie.Start Inv-loop μ-loop) → length (c .args .t1 .tasks) ≡ 16
-size c = search (length-mapped, needs)
+asked : (c : tie.Start Inv-loop μ-loop) → Asked (c .args .t1) (c .args .jobs .now) (c .args .speed)
+asked c =
+    record {
+      plan = record { places = search (length-mapped, needs); most = c .pre .0 .0; ranges = c .pre .0 .1 };
+      positive = c .pre .0 .2;
+      few = c .pre .1;
+    }
 
--- the task of this turn, and its part of the sum
-abbrev task : tie.After-n Inv-loop μ-loop → Task
-task c = getD (c .before .before .before .before .before .args .t1 .tasks) (c .before .before .before .before .loop .i) noTask
+-- this turn's part of the sum
+abbrev start : tie.After-time-needed Inv-loop μ-loop → tie.Start Inv-loop μ-loop
+start c = c .before .before .before .before
 
-bound : (c : tie.After-n Inv-loop μ-loop) → c .before .time-needed .result * getD (c .before .before .before .before .before .args .jobs .now) (c .before .before .before .before .loop .i) 0 ≤ 1048575000000
-bound c =
-    product-bound (task c .worst) (c .before .time-needed .result) (getD (c .before .before .before .before .before .args .jobs .now) (c .before .before .before .before .loop .i) 0)
-    (subst (λ (n : ℕ). n ≤ task c .worst) (sym (c .before .time-needed .ensures)) (need-le (c .before .before .before .before .before .args .speed) (task c .worst) (c .before .before .before .before .before .pre .0 .2)))
-    (in-range (task c) (every-taken inRange (c .before .before .before .before .before .args .t1 .tasks) (c .before .before .before .before .before .args .t1 .count) noTask (omega (arith, size (c .before .before .before .before .before))) (c .before .before .before .before .before .pre .0 .1) (c .before .before .before .before .loop .i) (omega arith)) .worst-high)
-    (c .before .before .before .before .before .pre .1 (c .before .before .before .before .loop .i) (omega arith))
+abbrev turn : tie.After-time-needed Inv-loop μ-loop → tie.At-loop Inv-loop μ-loop
+turn c = c .before .before .before
+
+added : (c : tie.After-time-needed Inv-loop μ-loop) → Added (start c .args .t1) (start c .args .jobs .now) (start c .args .speed) (turn c .loop .i) (c .time-needed .result)
+added c = record { asked = asked (start c); below = omega arith; needed = c .time-needed .ensures }
 
 loop-holds : tie.Need-loop-holds Inv-loop μ-loop
-loop-holds c = (omega arith, refl, omega arith)
+loop-holds c = record { within = omega arith; sum = refl; small = omega arith }
 
 mul-t : tie.Need-mul-t Inv-loop μ-loop
 mul-t c = omega arith
@@ -49,7 +41,7 @@ element-copy-out-t : tie.Need-element-copy-out-t Inv-loop μ-loop
 element-copy-out-t c = omega arith
 
 time-needed-requires : tie.Need-time-needed-requires Inv-loop μ-loop
-time-needed-requires c κs = c .before .before .before .pre .0 .2
+time-needed-requires c κs = asked (c .before .before .before) .positive
 
 mul-n : tie.Need-mul-n Inv-loop μ-loop
 mul-n c = omega arith
@@ -61,13 +53,13 @@ cast-total : tie.Need-cast-total Inv-loop μ-loop
 cast-total c = omega (arith, c .before .time-needed .ok)
 
 cast-total-2 : tie.Need-cast-total-2 Inv-loop μ-loop
-cast-total-2 c = omega (arith, c .before .before .before .before .before .pre .1 (c .before .before .before .before .loop .i) (omega arith))
+cast-total-2 c = omega (arith, asked (start (c .before)) .few (turn (c .before) .loop .i) (added (c .before) .below))
 
 mul-total : tie.Need-mul-total Inv-loop μ-loop
-mul-total c = omega (arith, bound c)
+mul-total c = omega (arith, added-small (added (c .before)))
 
 add-total : tie.Need-add-total Inv-loop μ-loop
-add-total c = omega (arith, bound c)
+add-total c = omega (arith, added-small (added (c .before)))
 
 add-i : tie.Need-add-i Inv-loop μ-loop
 add-i c = omega arith
@@ -76,17 +68,10 @@ loop-less : tie.Need-loop-less Inv-loop μ-loop
 loop-less c = omega arith
 
 loop-again : tie.Need-loop-again Inv-loop μ-loop
-loop-again c = (
-  omega arith,
-  sum-more (λ k. need (c .before .before .before .before .before .args .speed) (getD (c .before .before .before .before .before .args .t1 .tasks) k noTask .worst) * getD (c .before .before .before .before .before .args .jobs .now) k 0) (c .before .before .before .before .loop .i) (c .before .before .before .before .loop .total) _ (c .before .before .before .before .loop .inv .1) (ap (λ (x : ℕ). x * getD (c .before .before .before .before .before .args .jobs .now) (c .before .before .before .before .loop .i) 0) (c .before .time-needed .ensures)),
-  omega (arith, bound c),
-)
+loop-again c = summed-more (added (c .before)) (turn (c .before) .loop .inv)
 
 returns : tie.Need-returns Inv-loop μ-loop
-returns c =
-    let e : c .before .loop .i ≡ c .before .before .args .t1 .count = omega arith in
-    c .before .loop .inv .1
-    ∙ ap (λ (n : ℕ). sumTo n (λ k. need (c .before .before .args .speed) (getD (c .before .before .args .t1 .tasks) k noTask .worst) * getD (c .before .before .args .jobs .now) k 0)) e
+returns c = summed-all (c .before .loop .inv) (c .loop-test .left)
 
 pub demand-spec : {M : Type 1} → statement M
 demand-spec =

@@ -1,21 +1,16 @@
-use borrow.Author.Tests.{not-true, not-false}
+use Prim.Native.Nat.{_-_, _≤_}
+use mathlib.Core.Path.{_≡_, refl, sym, _∙_}
 use native.Mathlib.Omega.{arith}
 use borrow.Author.Needs.{needs}
-use lib.ListN.{length, drop}
-use Rattle.arith.specs.Choice.{every}
-use Rattle.plan.specs.Questions.{inRange}
-use Rattle.plan.specs.Blocks.{tasksOf, noTask}
-use Rattle.arith.proofs.Loops.{length-mapped, every-again, every-not, every-end}
-use Prim.Native.Nat.{_≤_, _-_}
-use mathlib.Core.Path.{_≡_, refl, sym, _∙_}
+use borrow.Author.Tests.{not-true, not-false}
+use lib.ListN.{length}
+use Rattle.arith.proofs.Loops.{length-mapped}
+use Rattle.judging.proofs.Judgements.{Scanned, scanned-more, scanned-not, scanned-all}
 use Rattle.judging.proofs.in_range.Statement.{statement}
 use Rattle.judging.proofs.in_range.Tie as tie
-use Rattle.judging.proofs.in_range.Reads as reads
-use Rattle.judging.proofs.in_range.Lts as lts
-use Rattle.judging.proofs.task_in_range.Reads as task-in-range-reads
 
 abbrev Inv-loop : tie.InvT-loop
-Inv-loop p count i₀ i = (i ≤ count) × (every inRange (drop i (tasksOf p)) ≡ every inRange (tasksOf p))
+Inv-loop p count i₀ i = Scanned p i
 
 abbrev μ-loop : tie.MeasureT-loop
 μ-loop p count i₀ i = count - i
@@ -23,8 +18,15 @@ abbrev μ-loop : tie.MeasureT-loop
 size : (c : tie.Start Inv-loop μ-loop) → length (c .args .t1 .tasks) ≡ 16
 size c = search (length-mapped, needs)
 
+-- the plan has so many tasks
+listed : (c : tie.At-loop Inv-loop μ-loop) → c .before .args .t1 .count ≤ length (c .before .args .t1 .tasks)
+listed c = omega (arith, size (c .before))
+
+abbrev turn : tie.After-task-in-range Inv-loop μ-loop → tie.At-loop Inv-loop μ-loop
+turn c = c .before .before .before
+
 loop-holds : tie.Need-loop-holds Inv-loop μ-loop
-loop-holds c = (omega arith, refl)
+loop-holds c = record { within = omega arith; rest = refl }
 
 mul-t : tie.Need-mul-t Inv-loop μ-loop
 mul-t c = omega arith
@@ -37,8 +39,7 @@ task-in-range-requires c κs = search needs
 
 returns : tie.Need-returns Inv-loop μ-loop
 returns c =
-    every-not inRange (c .before .before .before .before .before .args .t1 .tasks) (c .before .before .before .before .before .args .t1 .count) noTask (omega (arith, size (c .before .before .before .before .before), c .before .before .before .before .before .pre))
-    (c .before .before .before .before .loop .i) (c .before .before .before .loop-test .taken) (c .before .before .before .before .loop .inv .1)
+    scanned-not (listed (turn (c .before))) (turn (c .before) .loop .inv) (omega arith)
     (sym (c .before .task-in-range .ensures) ∙ not-true _ (c .if1 .taken))
 
 add-i : tie.Need-add-i Inv-loop μ-loop
@@ -48,15 +49,12 @@ loop-less : tie.Need-loop-less Inv-loop μ-loop
 loop-less c = omega arith
 
 loop-again : tie.Need-loop-again Inv-loop μ-loop
-loop-again c = (
-  omega arith,
-  every-again inRange (c .before .before .before .before .before .args .t1 .tasks) (c .before .before .before .before .before .args .t1 .count) noTask (omega (arith, size (c .before .before .before .before .before), c .before .before .before .before .before .pre))
-      (c .before .before .before .before .loop .i) (c .before .before .before .loop-test .taken) (c .before .before .before .before .loop .inv .1)
-      (sym (c .before .task-in-range .ensures) ∙ not-false _ (c .if1 .left)),
-)
+loop-again c =
+    scanned-more (listed (turn (c .before))) (turn (c .before) .loop .inv) (omega arith)
+    (sym (c .before .task-in-range .ensures) ∙ not-false _ (c .if1 .left))
 
 returns-2 : tie.Need-returns-2 Inv-loop μ-loop
-returns-2 c = every-end inRange (c .before .before .args .t1 .tasks) (c .before .before .args .t1 .count) noTask (omega (arith, size (c .before .before))) (c .before .loop .i) (omega arith) (c .before .loop .inv .1)
+returns-2 c = scanned-all (listed (c .before)) (c .before .loop .inv) (omega arith)
 
 pub in-range-spec : {M : Type 1} → statement M
 in-range-spec =

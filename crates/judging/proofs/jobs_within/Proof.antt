@@ -1,28 +1,33 @@
-use Prim.Native.Nat.{ℕ, _≤_, _<_, _-_, _/_}
-use mathlib.Core.Path.{_≡_, refl}
+use Prim.Native.Nat.{ℕ, _-_, _≤_}
+use mathlib.Core.Path.{_≡_, refl, ap, _∙_}
 use native.Mathlib.Omega.{arith}
 use borrow.Author.Needs.{needs}
-use lib.ListN.{length, getD, length-set}
-use Rattle.plan.specs.Blocks.{noTask}
-use Rattle.plan.specs.Questions.{inRange}
-use Rattle.arith.proofs.Loops.{length-mapped, every-taken, values-more}
-use Rattle.plan.proofs.Facts.{in-range}
+use Rattle.arith.specs.Arrays.{padded}
+use Rattle.arith.specs.Ranges.{listTo}
+use Rattle.arith.proofs.ArrayLaws.{padded-none, values-more}
+use Rattle.arith.proofs.Loops.{length-mapped}
+use Rattle.judging.proofs.Judgements.{Ranged, task-at, jobsIn}
 use Rattle.judging.proofs.jobs_within.Statement.{statement}
 use Rattle.judging.proofs.jobs_within.Tie as tie
-use Rattle.judging.proofs.jobs_within.Reads as reads
-use Rattle.judging.proofs.jobs_within.Lts as lts
 
 abbrev Inv-loop : tie.InvT-loop
-Inv-loop span p count jobs₀ i₀ jobs i = (i ≤ count) × (length jobs ≡ 16) × ((k : ℕ) → k < i → getD jobs k 0 ≡ span / getD (p .tasks) k noTask .period)
+Inv-loop span p count jobs₀ i₀ jobs i = (i ≤ count) × (jobs ≡ padded 16 0 (listTo i (jobsIn span p)))
 
 abbrev μ-loop : tie.MeasureT-loop
 μ-loop span p count jobs₀ i₀ jobs i = count - i
 
-size : (c : tie.Start Inv-loop μ-loop) → length (c .args .t1 .tasks) ≡ 16
-size c = search (length-mapped, needs)
+plan : (c : tie.Start Inv-loop μ-loop) → Ranged (c .args .t1)
+plan c = record { places = search (length-mapped, needs); most = c .pre .0; ranges = c .pre .1 }
+
+-- the jobs of each task
+abbrev jobs : tie.Start Inv-loop μ-loop → ℕ → ℕ
+jobs c = jobsIn (c .args .span) (c .args .t1)
+
+abbrev turn : tie.After-struct-known Inv-loop μ-loop → tie.At-loop Inv-loop μ-loop
+turn c = c .before .before .before
 
 loop-holds : tie.Need-loop-holds Inv-loop μ-loop
-loop-holds c = (omega arith, refl, λ k h. absurd (omega arith))
+loop-holds c = (omega arith, padded-none 16 0)
 
 mul-t : tie.Need-mul-t Inv-loop μ-loop
 mul-t c = omega arith
@@ -31,9 +36,7 @@ element-copy-out-t : tie.Need-element-copy-out-t Inv-loop μ-loop
 element-copy-out-t c = omega arith
 
 div-jobs : tie.Need-div-jobs Inv-loop μ-loop
-div-jobs c =
-    in-range (getD (c .before .before .before .before .args .t1 .tasks) (c .before .before .before .loop .i) noTask)
-    (every-taken inRange (c .before .before .before .before .args .t1 .tasks) (c .before .before .before .before .args .t1 .count) noTask (omega (arith, size (c .before .before .before .before))) (c .before .before .before .before .pre .1) (c .before .before .before .loop .i) (omega arith)) .period-low
+div-jobs c = task-at (plan (turn c .before)) (turn c .loop .i) (omega arith) .period-low
 
 mul-jobs : tie.Need-mul-jobs Inv-loop μ-loop
 mul-jobs c = omega arith
@@ -50,12 +53,13 @@ loop-less c = omega arith
 loop-again : tie.Need-loop-again Inv-loop μ-loop
 loop-again c = (
   omega arith,
-  simp length-set (c .before .before .before .loop .inv .1),
-  values-more (λ k. c .before .before .before .before .args .span / getD (c .before .before .before .before .args .t1 .tasks) k noTask .period) (c .before .before .before .loop .jobs) (c .before .before .before .loop .i) (omega arith) (c .before .before .before .loop .inv .2),
+  values-more 16 0 (jobs (turn c .before)) (turn c .loop .jobs) (turn c .loop .i) _ (omega arith) (turn c .loop .inv .1) refl,
 )
 
 returns : tie.Need-returns Inv-loop μ-loop
-returns c = λ i h. c .before .loop .inv .2 i (omega arith)
+returns c =
+    let e : c .before .loop .i ≡ c .before .before .args .t1 .count = omega arith in
+    c .before .loop .inv .1 ∙ ap (λ (n : ℕ). padded 16 0 (listTo n (jobs (c .before .before)))) e
 
 pub jobs-within-spec : {M : Type 1} → statement M
 jobs-within-spec =

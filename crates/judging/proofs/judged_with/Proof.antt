@@ -1,16 +1,11 @@
+use borrow.Author.Needs.{needs}
+use Rattle.arith.specs.Asking.{firstNo}
 use Rattle.plan.specs.Blocks.{tasksOf}
 use Rattle.plan.specs.Levels.{baseSpeeds}
 use Rattle.plan.specs.Questions.{taskQuestions}
-use Rattle.arith.specs.Asking.{firstNo}
 use Rattle.judging.proofs.Judgements.{beside-refused, beside-admitted}
-use borrow.Author.Needs.{needs}
 use Rattle.judging.proofs.judged_with.Statement.{statement}
 use Rattle.judging.proofs.judged_with.Tie as tie
-use Rattle.judging.proofs.judged_with.Reads as reads
-use Rattle.judging.proofs.judged_with.Lts as lts
-use Rattle.judging.proofs.cleared.Reads as cleared-reads
-use Rattle.judging.proofs.empty_plan.Reads as empty-plan-reads
-use Rattle.judging.proofs.verdict_of.Reads as verdict-of-reads
 
 verdict-of-requires : tie.Need-verdict-of-requires
 verdict-of-requires c κs = search needs
@@ -28,10 +23,16 @@ cleared-requires : tie.Need-cleared-requires
 cleared-requires c κs = search needs
 
 returns : tie.Need-returns
-returns c = beside-refused baseSpeeds (tasksOf (c .before .before .before .before .args .p)) (firstNo (taskQuestions baseSpeeds (tasksOf (c .before .before .before .before .args .p)))) _ (c .before .before .before .verdict-of .result) (c .empty-plan .result) (c .before .before .before .verdict-of .ensures) (c .before .enum-told .given .1) (c .empty-plan .ensures)
+returns c =
+    let judged = c .before .before .before in
+    let ts = tasksOf (judged .before .args .p) in
+    beside-refused baseSpeeds ts (firstNo (taskQuestions baseSpeeds ts)) (judged .verdict-of .ensures) (c .before .enum-told .given .1) (c .empty-plan .ensures)
 
 returns-2 : tie.Need-returns-2
-returns-2 c = beside-admitted baseSpeeds (tasksOf (c .before .before .before .before .args .p)) (firstNo (taskQuestions baseSpeeds (tasksOf (c .before .before .before .before .args .p)))) _ _ (c .before .before .before .verdict-of .result) (c .cleared .result) (c .before .before .before .verdict-of .ensures) (c .before .enum-told2 .given .1) (c .cleared .ensures)
+returns-2 c =
+    let judged = c .before .before .before in
+    let ts = tasksOf (judged .before .args .p) in
+    beside-admitted baseSpeeds ts (firstNo (taskQuestions baseSpeeds ts)) (judged .verdict-of .ensures) (c .before .enum-told2 .given .1) (c .cleared .ensures)
 
 pub judged-with-spec : {M : Type 1} → statement M
 judged-with-spec =

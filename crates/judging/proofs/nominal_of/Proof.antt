@@ -1,21 +1,17 @@
-use Prim.Native.Nat.{ℕ, _≤_, _<_, _-_}
-use mathlib.Core.Path.{_≡_, sym, subst}
+use Prim.Native.Nat.{ℕ, _<_, _≤_, _-_}
+use mathlib.Core.Path.{sym, subst}
+use mathlib.Core.List.{List}
 use native.Mathlib.Omega.{arith}
-use lib.ListN.{length}
 use borrow.Author.Needs.{needs}
+use Rattle.plan.specs.declared.Task.{Task}
 use Rattle.plan.specs.Blocks.{tasksOf}
-use Rattle.plan.specs.Levels.{baseSpeeds, demandWithin, nominal}
+use Rattle.plan.specs.Levels.{admits, baseSpeeds, nominal}
 use Rattle.arith.proofs.Loops.{length-mapped}
+use Rattle.arith.proofs.Searches.{first-none}
 use Rattle.plan.proofs.LevelLaws.{baseRising}
-use Rattle.judging.proofs.Judgements.{jobs-most, demand-all, nominal-from, nominal-found, nominal-next, nominal-none}
+use Rattle.judging.proofs.Judgements.{Counted, Trying, counted-few, admitted, not-admitted, nominal-from, level-found, level-next}
 use Rattle.judging.proofs.nominal_of.Statement.{statement}
 use Rattle.judging.proofs.nominal_of.Tie as tie
-use Rattle.judging.proofs.nominal_of.Reads as reads
-use Rattle.judging.proofs.nominal_of.Lts as lts
-use Rattle.judging.proofs.demand.Reads as demand-reads
-use Rattle.judging.proofs.jobs_within.Reads as jobs-within-reads
-use Rattle.judging.proofs.slowest_for.Reads as slowest-for-reads
-use Rattle.judging.proofs.speed_of.Reads as speed-of-reads
 
 abbrev Inv-loop : tie.InvT-loop
 Inv-loop p span jobs work level₀ level = level ≤ nominal baseSpeeds (tasksOf p)
@@ -23,44 +19,56 @@ Inv-loop p span jobs work level₀ level = level ≤ nominal baseSpeeds (tasksOf
 abbrev μ-loop : tie.MeasureT-loop
 μ-loop p span jobs work level₀ level = 8 - level
 
-size : (c : tie.Start Inv-loop μ-loop) → length (c .args .p .tasks) ≡ 16
-size c = search (length-mapped, needs)
+counted : (c : tie.After-jobs-within Inv-loop μ-loop) → Counted (c .before .args .p) (c .before .args .span) (c .jobs-within .result)
+counted c =
+    record {
+      plan = record { places = search (length-mapped, needs); most = c .before .pre .0 .0; ranges = c .before .pre .0 .1 };
+      span-is = c .before .pre .1 .0;
+      small = c .before .pre .1 .1;
+      jobs-are = c .jobs-within .ensures;
+    }
 
--- the demand at this turn's level
-sum : (c : tie.After-demand2 Inv-loop μ-loop) → c .demand2 .result ≡ demandWithin (c .before .before .before .before .before .before .before .before .before .args .span) (c .before .before .speed-of .result) (tasksOf (c .before .before .before .before .before .before .before .before .before .args .p))
-sum c =
-    demand-all (c .before .before .before .before .before .before .before .before .before .args .p .tasks) (c .before .before .before .before .before .before .before .before .jobs-within .result) (c .before .before .before .before .before .before .before .before .before .args .p .count) (c .before .before .before .before .before .before .before .before .before .args .span) (c .before .before .before .before .before .before .before .before .jobs-within .ensures) (c .before .before .speed-of .result) (c .demand2 .result) (omega (arith, size (c .before .before .before .before .before .before .before .before .before))) (c .demand2 .ensures)
+-- the place before the loop, from a turn's speed on, and the plan's tasks there
+abbrev jobs : tie.At-loop Inv-loop μ-loop → tie.After-jobs-within Inv-loop μ-loop
+jobs c = c .before .before .before .before
+
+abbrev tasks : tie.At-loop Inv-loop μ-loop → List Task
+tasks c = tasksOf (jobs c .before .args .p)
+
+-- the level of a turn, and its speed
+abbrev turn : tie.After-speed-of Inv-loop μ-loop → tie.At-loop Inv-loop μ-loop
+turn c = c .before .before
+
+trying : (c : tie.After-speed-of Inv-loop μ-loop) → Trying (admits (tasks (turn c))) (turn c .loop .level) (c .speed-of .result)
+trying c = record { low = turn c .loop .inv; below = omega arith; speed-is = c .speed-of .ensures }
 
 jobs-within-requires : tie.Need-jobs-within-requires Inv-loop μ-loop
 jobs-within-requires c κs = c .pre .0
 
 demand-requires : tie.Need-demand-requires Inv-loop μ-loop
-demand-requires c κs = (
-  (c .before .before .pre .0 .0, c .before .before .pre .0 .1, omega arith),
-  jobs-most (c .before .before .args .p .tasks) (c .before .jobs-within .result) (c .before .before .args .p .count) (c .before .before .args .span) (c .before .jobs-within .ensures) (c .before .before .pre .1 .1),
-)
+demand-requires c κs =
+    let n = counted (c .before) in
+    ((n .plan .most, n .plan .ranges, omega arith), counted-few n)
 
 slowest-for-requires : tie.Need-slowest-for-requires Inv-loop μ-loop
 slowest-for-requires c κs = search needs
 
 loop-holds : tie.Need-loop-holds Inv-loop μ-loop
-loop-holds c =
-    nominal-from (tasksOf (c .before .before .before .before .args .p)) (c .before .before .before .before .args .span) (c .before .demand .result) (c .slowest-for .result) (c .before .before .before .before .pre .1 .0)
-    (demand-all (c .before .before .before .before .args .p .tasks) (c .before .before .before .jobs-within .result) (c .before .before .before .before .args .p .count) (c .before .before .before .before .args .span) (c .before .before .before .jobs-within .ensures) 1 (c .before .demand .result) (omega (arith, size (c .before .before .before .before))) (c .before .demand .ensures))
-    (c .slowest-for .ensures)
+loop-holds c = nominal-from (counted (c .before .before .before)) (c .before .demand .ensures) (c .slowest-for .ensures)
 
 speed-of-requires : tie.Need-speed-of-requires Inv-loop μ-loop
 speed-of-requires c κs = omega arith
 
 demand-requires-2 : tie.Need-demand-requires-2 Inv-loop μ-loop
-demand-requires-2 c κs = (
-  (c .before .before .before .before .before .before .before .before .pre .0 .0, c .before .before .before .before .before .before .before .before .pre .0 .1, subst (λ (s : ℕ). 0 < s) (sym (c .before .speed-of .ensures)) (baseRising .positive (c .before .before .before .loop .level) (omega arith))),
-  jobs-most (c .before .before .before .before .before .before .before .before .args .p .tasks) (c .before .before .before .before .before .before .before .jobs-within .result) (c .before .before .before .before .before .before .before .before .args .p .count) (c .before .before .before .before .before .before .before .before .args .span) (c .before .before .before .before .before .before .before .jobs-within .ensures) (c .before .before .before .before .before .before .before .before .pre .1 .1),
-)
+demand-requires-2 c κs =
+    let n = counted (jobs (turn (c .before))) in
+    let t = trying (c .before) in
+    ((n .plan .most, n .plan .ranges, subst (λ (s : ℕ). 0 < s) (sym (t .speed-is)) (baseRising .positive _ (t .below))), counted-few n)
 
 returns : tie.Need-returns Inv-loop μ-loop
 returns c =
-    nominal-found (tasksOf (c .before .before .before .before .before .before .before .before .before .before .args .p)) (c .before .before .before .before .before .loop .level) (c .before .before .before .speed-of .result) (c .before .before .before .before .before .before .before .before .before .before .args .span) (c .before .demand2 .result) (c .before .before .before .before .before .loop .inv) (omega arith) (c .before .before .before .speed-of .ensures) (c .before .before .before .before .before .before .before .before .before .before .pre .1 .0) (sum (c .before)) (omega (arith, c .if1 .taken))
+    let at = c .before .before .before in
+    level-found (trying at) (admitted (counted (jobs (turn at))) (at .speed-of .result) (c .before .demand2 .ensures) (omega (arith, c .if1 .taken)))
 
 add-level : tie.Need-add-level Inv-loop μ-loop
 add-level c = omega arith
@@ -70,10 +78,11 @@ loop-less c = omega arith
 
 loop-again : tie.Need-loop-again Inv-loop μ-loop
 loop-again c =
-    nominal-next (tasksOf (c .before .before .before .before .before .before .before .before .before .before .args .p)) (c .before .before .before .before .before .loop .level) (c .before .before .before .speed-of .result) (c .before .before .before .before .before .before .before .before .before .before .args .span) (c .before .demand2 .result) (c .before .before .before .before .before .loop .inv) (omega arith) (c .before .before .before .speed-of .ensures) (c .before .before .before .before .before .before .before .before .before .before .pre .1 .0) (sum (c .before)) (c .if1 .left)
+    let at = c .before .before .before in
+    level-next (trying at) (not-admitted (counted (jobs (turn at))) (at .speed-of .result) (c .before .demand2 .ensures) (c .if1 .left))
 
 returns-2 : tie.Need-returns-2 Inv-loop μ-loop
-returns-2 c = nominal-none (tasksOf (c .before .before .before .before .before .before .args .p)) (c .before .loop .level) (c .before .loop .inv) (c .loop-test .left)
+returns-2 c = first-none (admits (tasks (c .before))) baseSpeeds (c .before .loop .level) (c .before .loop .inv) (c .loop-test .left)
 
 pub nominal-of-spec : {M : Type 1} → statement M
 nominal-of-spec =

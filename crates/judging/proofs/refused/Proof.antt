@@ -4,9 +4,6 @@ use Rattle.judging.proofs.Judgements.{refused-is}
 use borrow.Author.Needs.{needs}
 use Rattle.judging.proofs.refused.Statement.{statement}
 use Rattle.judging.proofs.refused.Tie as tie
-use Rattle.judging.proofs.refused.Reads as reads
-use Rattle.judging.proofs.refused.Lts as lts
-use Rattle.judging.proofs.empty_plan.Reads as empty-plan-reads
 
 empty-plan-requires : tie.Need-empty-plan-requires
 empty-plan-requires c κs = search needs

@@ -2,8 +2,6 @@ use native.Mathlib.Omega.{arith}
 use Rattle.judging.proofs.Judgements.{period-low, period-high, worst-low, worst-high}
 use Rattle.judging.proofs.task_in_range.Statement.{statement}
 use Rattle.judging.proofs.task_in_range.Tie as tie
-use Rattle.judging.proofs.task_in_range.Reads as reads
-use Rattle.judging.proofs.task_in_range.Lts as lts
 
 returns : tie.Need-returns
 returns c = period-low (c .before .before .args .t) (c .if1 .taken)

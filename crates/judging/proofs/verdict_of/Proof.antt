@@ -1,58 +1,60 @@
-use Prim.Native.Nat.{ℕ, _≤_, _<_}
-use mathlib.Core.Path.{_≡_, sym, ap, ap₂, _∙_, subst}
+use mathlib.Core.Path.{_≡_, sym, _∙_}
+use mathlib.Core.Bool.{true}
 use native.Mathlib.Omega.{arith}
+use borrow.Author.Needs.{needs}
 use borrow.Author.Tests.{not-true, not-false}
-use Rattle.plan.specs.declared.Verdict.the-variants as verdict
+use mathlib.Core.List.{List}
+use Rattle.arith.specs.Choice.{every}
+use Rattle.plan.specs.declared.Task.{Task}
 use Rattle.plan.specs.Blocks.{tasksOf}
 use Rattle.plan.specs.Levels.{baseSpeeds, hyperperiod}
-use Rattle.plan.specs.Answers.{answered}
-use Rattle.judging.proofs.Judgements.{no-6, no-7, no-8, no-no}
-use borrow.Author.Needs.{needs}
+use Rattle.plan.specs.Questions.{inRange}
+use Rattle.judging.proofs.Judgements.{Levelled, refused-6, refused-7, refused-8, admitted-at}
 use Rattle.judging.proofs.verdict_of.Statement.{statement}
 use Rattle.judging.proofs.verdict_of.Tie as tie
-use Rattle.judging.proofs.verdict_of.Reads as reads
-use Rattle.judging.proofs.verdict_of.Lts as lts
-use Rattle.judging.proofs.hyperperiod_of.Reads as hyperperiod-of-reads
-use Rattle.judging.proofs.in_range.Reads as in-range-reads
-use Rattle.judging.proofs.nominal_of.Reads as nominal-of-reads
+
+abbrev tasks : tie.After-in-range → List Task
+tasks c = tasksOf (c .before .args .p)
+
+ranges : (c : tie.Else1) → every inRange (tasks (c .before)) ≡ true
+ranges c = sym (c .before .in-range .ensures) ∙ not-false _ (c .if1 .left)
+
+span : (c : tie.Else2) → c .before .hyperperiod-of .result ≡ hyperperiod (tasks (c .before .before .before))
+span c = omega (arith, c .before .hyperperiod-of .ensures)
+
+levelled : (c : tie.After-nominal-of) → Levelled baseSpeeds (tasks (c .before .before .before .before)) (c .before .before .hyperperiod-of .result) (c .nominal-of .result)
+levelled c =
+    record {
+      ranges = ranges (c .before .before .before);
+      span-is = span (c .before);
+      small = omega arith;
+      level-is = c .nominal-of .ensures;
+    }
 
 in-range-requires : tie.Need-in-range-requires
 in-range-requires c κs = search needs
 
 returns : tie.Need-returns
-returns c =
-    sym (ap (λ (n : ℕ). answered n baseSpeeds (tasksOf (c .before .before .args .p))) (no-6 baseSpeeds (tasksOf (c .before .before .args .p)) (sym (c .before .in-range .ensures) ∙ not-true _ (c .if1 .taken))))
+returns c = refused-6 baseSpeeds (tasks (c .before)) (sym (c .before .in-range .ensures) ∙ not-true _ (c .if1 .taken))
 
 hyperperiod-of-requires : tie.Need-hyperperiod-of-requires
-hyperperiod-of-requires c κs = (c .before .before .pre, sym (c .before .in-range .ensures) ∙ not-false _ (c .if1 .left))
+hyperperiod-of-requires c κs = (c .before .before .pre, ranges c)
 
 returns-2 : tie.Need-returns-2
 returns-2 c =
-    sym (ap (λ (n : ℕ). answered n baseSpeeds (tasksOf (c .before .before .before .before .args .p))) (no-7 baseSpeeds (tasksOf (c .before .before .before .before .args .p)) (sym (c .before .before .before .in-range .ensures) ∙ not-false _ (c .before .before .if1 .left)) (omega (arith, c .before .hyperperiod-of .ensures))))
+    let else = c .before .before in
+    refused-7 baseSpeeds (tasks (else .before)) (ranges else) (omega (arith, c .before .hyperperiod-of .ensures))
 
 nominal-of-requires : tie.Need-nominal-of-requires
-nominal-of-requires c κs = (
-  (c .before .before .before .before .pre, sym (c .before .before .before .in-range .ensures) ∙ not-false _ (c .before .before .if1 .left)),
-  (omega (arith, c .before .hyperperiod-of .ensures), omega (arith, c .before .hyperperiod-of .ensures)),
-)
+nominal-of-requires c κs =
+    let else = c .before .before in
+    ((else .before .before .pre, ranges else), (span c, omega arith))
 
 returns-3 : tie.Need-returns-3
-returns-3 c =
-    sym (ap (λ (n : ℕ). answered n baseSpeeds (tasksOf (c .before .before .before .before .before .before .args .p)))
-    (no-8 baseSpeeds (tasksOf (c .before .before .before .before .before .before .args .p)) (sym (c .before .before .before .before .before .in-range .ensures) ∙ not-false _ (c .before .before .before .before .if1 .left))
-    (omega (arith, c .before .before .before .hyperperiod-of .ensures))
-    (subst (λ (n : ℕ). 8 ≤ n) (c .before .nominal-of .ensures) (c .if3 .taken))))
-
-span : (c : tie.Else3) → c .before .before .before .hyperperiod-of .result ≡ hyperperiod (tasksOf (c .before .before .before .before .before .before .args .p))
-span c = omega (arith, c .before .before .before .hyperperiod-of .ensures)
+returns-3 c = refused-8 (levelled (c .before)) (c .if3 .taken)
 
 returns-4 : tie.Need-returns-4
-returns-4 c =
-    ap₂ (λ (l h : ℕ). verdict.Admitted l h) (c .before .nominal-of .ensures) (span c)
-    ∙ sym (ap (λ (n : ℕ). answered n baseSpeeds (tasksOf (c .before .before .before .before .before .before .args .p)))
-    (no-no baseSpeeds (tasksOf (c .before .before .before .before .before .before .args .p)) (sym (c .before .before .before .before .before .in-range .ensures) ∙ not-false _ (c .before .before .before .before .if1 .left))
-    (omega (arith, c .before .before .before .hyperperiod-of .ensures))
-    (subst (λ (n : ℕ). n < 8) (c .before .nominal-of .ensures) (c .if3 .left))))
+returns-4 c = admitted-at (levelled (c .before)) (c .if3 .left)
 
 pub verdict-of-spec : {M : Type 1} → statement M
 verdict-of-spec =
