@@ -184,3 +184,22 @@ number-regrouped b w (suc n) ds es h =
     ap₂ (λ (x y : ℕ). x * b ^ w + y) (number-regrouped b w n ds es (λ k l. h k (omega arith))) (h n (omega arith))
     ∙ sym (number-split b (w * n) w es)
     ∙ ap (λ (k : ℕ). number b k es) e
+
+-- a number read digit by digit, as a loop does: acc is the number of the first i digits from a place on
+pub record ReadTo (b : ℕ) (ds : List ℕ) (at acc i : ℕ) : Type 0 where
+  pub is : acc ≡ number b i (drop at ds)
+  pub below : acc < b ^ i
+
+module _ {b : ℕ} {ds : List ℕ} {at acc i : ℕ} (r : ReadTo b ds at acc i) where
+  pub read-more : {d : ℕ} → d ≡ getD ds (at + i) 0 → d < b → ReadTo b ds at (acc * b + d) (i + 1)
+  read-more {d} e h =
+      record {
+        is = ap (λ (x : ℕ). acc * b + x) e ∙ number-more b i at acc ds (r .is);
+        below = below-more b i acc d (r .below) h;
+      }
+
+  pub read-cap : (m : ℕ) → 0 < b → i ≤ m → acc < b ^ m
+  read-cap m p h = below-cap b i m acc p h (r .below)
+
+  pub read-all : (n : ℕ) → i ≡ n → acc ≡ number b n (drop at ds)
+  read-all n e = r .is ∙ ap (λ (k : ℕ). number b k (drop at ds)) e

@@ -8,8 +8,8 @@ use native.Mathlib.Numerals.{add-one}
 use native.Mathlib.Omega.{arith}
 use borrow.Author.Tests.{le-leb, lt-leb, eq-eqb, ne-eqb}
 use lib.Dec.{eqb}
-use lib.ListN.{length, getD, take, drop, set, length-take}
-use lib.Seq.{drop-drop, getD-take, length-take-le, take-all, take-at, paste, paste-suc}
+use lib.ListN.{length, getD, take, drop, set, length-set, length-take}
+use lib.Seq.{drop-drop, getD-take, take-all, take-at, paste, paste-zero, paste-suc}
 use Rattle.arith.specs.Choice.{every}
 use Rattle.arith.specs.Digits.{number}
 use Rattle.arith.specs.Bits.{unpacked}
@@ -25,20 +25,20 @@ use Rattle.plan.specs.Questions.{countQuestion, taskQuestions, judging, reading
 use Rattle.arith.specs.Asking.{Question, ask, firstNo}
 use Rattle.plan.specs.Answers.{answered, beside, judgedBy, readBlock, writeNumber, writtenBy, storedBy, writePlan, writeBuffer}
 use Rattle.plan.specs.Laws.{Bytes}
-use Rattle.arith.proofs.Loops.{filled, filled-more}
-use Rattle.judging.proofs.Judgements.{filled-plan, count-low, count-high, count-good}
-use Rattle.plan.proofs.Facts.{FineBlock, fine-block, list-yes}
+use Rattle.judging.proofs.Judgements.{Filled, filled-all, count-low, count-high, count-good}
+use Rattle.plan.proofs.Facts.{FineBlock, fine-block, list-yes, length-tasksOf}
 use Rattle.arith.proofs.QuestionLaws.{within-true, ask-no, ask-yes, no-before, within-over, within-under, yes-before, yes-of}
-use Rattle.plan.proofs.BlockBits.{planBits-edition, planBits-count, planBits-period, planBits-worst, planBits-past, length-tasksFrom, tasksFrom-at, length-planBlock, planBlock-at, closing-zero}
+use Rattle.plan.proofs.BlockBits.{planBits-edition, planBits-count, planBits-period, planBits-worst, planBits-past}
+use Rattle.plan.proofs.BlockBits.{length-tasksFrom, tasksFrom-at, length-planBlock, planBlock-at, closing-zero}
 use Rattle.plan.proofs.RoundTrip.{written-reads-back, accepted-block, tasksOf-planOf}
 
 -- a task read at its place
 pub task-read :
-    (bits : List ℕ) (i p w : ℕ) →
+    (bits : List ℕ) (i : ℕ) {p w : ℕ} →
     p ≡ number 2 16 (drop (9 + 36 * i) bits) →
     w ≡ number 2 20 (drop (25 + 36 * i) bits) →
     _≡_ {A = Task} (record { period = p; worst = w }) (taskFrom (drop (bitCount i) bits))
-task-read bits i p w a b =
+task-read bits i {p} {w} a b =
     let e : 25 + 36 * i ≡ 9 + 36 * i + 16 = omega arith in
     let later : w ≡ number 2 20 (drop 16 (drop (9 + 36 * i) bits)) =
     b
@@ -47,41 +47,33 @@ task-read bits i p w a b =
     λ j. record { period = a j; worst = later j }
 
 -- a plan filled from the front with the tasks of a block
-module _ (bits : List ℕ) (count : ℕ) (most : count ≤ 16) where
-  pub task-filled :
-      (q : List Task) (t : Task) (i : ℕ) →
-      i < count →
-      q ≡ filled 16 noTask (tasksFrom count (drop 9 bits)) i →
-      t ≡ taskFrom (drop (bitCount i) bits) →
-      set q i t ≡ filled 16 noTask (tasksFrom count (drop 9 bits)) (i + 1)
-  task-filled q t i h inv e =
-      let l : List Task = tasksFrom count (drop 9 bits) in
-      let same : t ≡ getD l i noTask =
+module _ (bits : List ℕ) (count : ℕ) where
+  abbrev pub tasksAt : List Task
+  tasksAt = tasksFrom count (drop 9 bits)
+
+  pub tasks-listed : count ≤ length tasksAt
+  tasks-listed = omega (arith, length-tasksFrom count (drop 9 bits))
+
+  pub task-from : {i : ℕ} {t : Task} → i < count → t ≡ taskFrom (drop (bitCount i) bits) → t ≡ getD tasksAt i noTask
+  task-from {i} h e =
       e
       ∙ ap (λ (x : List ℕ). taskFrom x) (sym (drop-drop (36 * i) 9 bits))
-      ∙ sym (tasksFrom-at count (drop 9 bits) i h) in
-      ap₂ (λ (x : List Task) (y : Task). set x i y) inv same
-      ∙ filled-more 16 noTask l i (omega arith) (omega (arith, length-tasksFrom count (drop 9 bits)))
+      ∙ sym (tasksFrom-at count (drop 9 bits) i h)
 
-  pub plan-read :
-      (q : Plan) (i : ℕ) →
-      i ≡ count →
-      q .count ≡ count →
-      q .tasks ≡ filled 16 noTask (tasksFrom count (drop 9 bits)) i →
-      q ≡ planOf (tasksFrom count (drop 9 bits))
-  plan-read q i e c t =
-      let l : List Task = tasksFrom count (drop 9 bits) in
-      let len : length l ≡ count = length-tasksFrom count (drop 9 bits) in
-      filled-plan q l count i (omega arith) e c t
-      ∙ ap (λ (x : List Task). planOf x) (take-all count l (omega arith))
+  pub plan-read : {q : Plan} {i : ℕ} → Filled tasksAt count q i → count ≤ i → q ≡ planOf tasksAt
+  plan-read at h =
+      filled-all at tasks-listed h
+      ∙ ap (λ (x : List Task). planOf x) (take-all count tasksAt (omega (arith, length-tasksFrom count (drop 9 bits))))
 
--- a block refused: the first no is known, and the plan beside it is empty
-pub read-refused :
-    (speeds block : List ℕ) (n : ℕ) (r : Judged) →
-    r ≡ judgedBy (suc n) speeds [] →
-    firstNo (reading speeds block) ≡ suc n →
-    r ≡ readBlock speeds block
-read-refused speeds block n r a e = a ∙ sym (ap (λ (m : ℕ). judgedBy m speeds (tasksIn block)) e)
+-- a refusal's number is all that is told, whatever the tasks are
+pub refused-as :
+    (speeds : List ℕ) (ts us : List Task) {r : Judged} {number n : ℕ} →
+    r ≡ judgedBy n speeds ts →
+    0 < n →
+    number ≡ n →
+    r ≡ judgedBy number speeds us
+refused-as speeds ts us {n = zero} a h e = absurd (omega arith)
+refused-as speeds ts us {n = suc n} a h e = a ∙ sym (ap (λ (k : ℕ). judgedBy k speeds us) e)
 
 -- the questions that a block is asked past its count
 abbrev sized : List ℕ → List ℕ → List Question
@@ -90,163 +82,198 @@ sized speeds block =
     ∷ ask 5 (every (eqb 0) (closingBits block))
     ∷ taskQuestions speeds (tasksIn block)
 
--- the first no of the questions that a block is asked
-module _ (speeds block : List ℕ) where
-  pub read-no-1 : length block < 2 → firstNo (reading speeds block) ≡ 1
-  read-no-1 a = ask-no 1 _ (lt-leb 2 (length block) a)
+-- each way out of reading a block, by the first no of its questions
+module _ (speeds block : List ℕ) {r : Judged} where
+  refused-at : (n : ℕ) → r ≡ judgedBy (suc n) speeds [] → firstNo (reading speeds block) ≡ suc n → r ≡ readBlock speeds block
+  refused-at n a e = refused-as speeds [] (tasksIn block) a (omega arith) e
 
-  pub read-no-2 : (x : ℕ) → x ≡ editionIn block → 2 ≤ length block → (x ≡ 1 → ⊥) → firstNo (reading speeds block) ≡ 2
-  read-no-2 x e a b =
-      ask-yes 1 (le-leb 2 (length block) a) (ask-no 2 _ (ne-eqb (editionIn block) 1 (λ h. b (e ∙ h))))
+  pub read-short : r ≡ judgedBy 1 speeds [] → length block < 2 → r ≡ readBlock speeds block
+  read-short a h = refused-at 0 a (ask-no 1 _ (lt-leb 2 (length block) h))
 
--- the same once the edition and the count are read
-module _ (speeds block : List ℕ) (count : ℕ) (long : 2 ≤ length block) (edition : editionIn block ≡ 1) (e : count ≡ countIn block) where
-  counted : (m : ℕ) → firstNo (countQuestion (countIn block) ∷ sized speeds block) ≡ m → firstNo (reading speeds block) ≡ m
-  counted m h = ask-yes 1 (le-leb 2 (length block) long) (ask-yes 2 (eq-eqb (editionIn block) 1 edition) h)
+  pub read-edition :
+      {x : ℕ} →
+      r ≡ judgedBy 2 speeds [] →
+      2 ≤ length block →
+      x ≡ editionIn block →
+      (x ≡ 1 → ⊥) →
+      r ≡ readBlock speeds block
+  read-edition a l e h =
+      refused-at 1 a (ask-yes 1 (le-leb 2 (length block) l) (ask-no 2 _ (ne-eqb (editionIn block) 1 (λ q. h (e ∙ q)))))
 
-  pub read-low : count < 1 → firstNo (reading speeds block) ≡ 3
-  read-low h = counted 3 (ask-no 3 _ (within-under 1 16 (countIn block) (subst (λ (k : ℕ). k < 1) e h)))
+-- 1 and 2 are answered yes, and the count is read
+pub record Opened (block : List ℕ) (count : ℕ) : Type 0 where
+  pub long : 2 ≤ length block
+  pub edition : editionIn block ≡ 1
+  pub counted : count ≡ countIn block
 
-  pub read-high : 16 < count → firstNo (reading speeds block) ≡ 3
-  read-high h = counted 3 (ask-no 3 _ (within-over 1 16 (countIn block) (subst (λ (k : ℕ). 16 < k) e h)))
+module _ (speeds : List ℕ) {block : List ℕ} {count : ℕ} (o : Opened block count) where
+  opened : (m : ℕ) → firstNo (countQuestion (countIn block) ∷ sized speeds block) ≡ m → firstNo (reading speeds block) ≡ m
+  opened m h = ask-yes 1 (le-leb 2 (length block) (o .long)) (ask-yes 2 (eq-eqb (editionIn block) 1 (o .edition)) h)
 
-  -- and the count is in its range
-  module _ (low : 1 ≤ count) (high : count ≤ 16) where
-    sizes : (m : ℕ) → firstNo (sized speeds block) ≡ m → firstNo (reading speeds block) ≡ m
-    sizes m h =
-        counted m
-        (ask-yes 3 (within-true 1 16 (countIn block) (subst (λ (k : ℕ). 1 ≤ k) e low) (subst (λ (k : ℕ). k ≤ 16) e high)) h)
+  pub read-low : {r : Judged} → r ≡ judgedBy 3 speeds [] → count < 1 → r ≡ readBlock speeds block
+  read-low a h = refused-at speeds block 2 a (opened 3 (ask-no 3 _ (within-under 1 16 (countIn block) (omega arith))))
 
-    pub read-size : (n : ℕ) → n ≡ blockLength count → (length block ≡ n → ⊥) → firstNo (reading speeds block) ≡ 4
-    read-size n b h =
-        sizes 4
-        (ask-no 4 _
-        (ne-eqb (length block) (blockLength (countIn block))
-        (λ q. h (q ∙ sym (b ∙ ap (λ (k : ℕ). blockLength k) e)))))
+  pub read-high : {r : Judged} → r ≡ judgedBy 3 speeds [] → 16 < count → r ≡ readBlock speeds block
+  read-high a h = refused-at speeds block 2 a (opened 3 (ask-no 3 _ (within-over 1 16 (countIn block) (omega arith))))
 
-    -- and the length is the count's
-    module _ (size : length block ≡ blockLength count) (x : ℕ)
-        (closing : x ≡ number 2 (8 * length block - bitCount count) (drop (bitCount count) (unpacked block))) where
-      tested : every (eqb 0) (closingBits block) ≡ eqb x 0
-      tested =
-          closing-zero block
-          ∙ sym (ap (λ (m : ℕ). eqb m 0)
-          (closing ∙ ap (λ (k : ℕ). number 2 (8 * length block - bitCount k) (drop (bitCount k) (unpacked block))) e))
+-- 3 is answered yes too
+pub record Counted (block : List ℕ) (count : ℕ) : Type 0 where
+  pub opens : Opened block count
+  pub low : 1 ≤ count
+  pub high : count ≤ 16
 
-      same-size : eqb (length block) (blockLength (countIn block)) ≡ true
-      same-size = eq-eqb (length block) (blockLength (countIn block)) (size ∙ ap (λ (k : ℕ). blockLength k) e)
+module _ (speeds : List ℕ) {block : List ℕ} {count : ℕ} (c : Counted block count) where
+  counted : (m : ℕ) → firstNo (sized speeds block) ≡ m → firstNo (reading speeds block) ≡ m
+  counted m h = opened speeds (c .opens) m (ask-yes 3 (within-true 1 16 (countIn block) (omega arith) (omega arith)) h)
 
-      pub read-closing : (x ≡ 0 → ⊥) → firstNo (reading speeds block) ≡ 5
-      read-closing h = sizes 5 (ask-yes 4 same-size (ask-no 5 _ (tested ∙ ne-eqb x 0 h)))
+  pub read-size :
+      {r : Judged} {n : ℕ} →
+      r ≡ judgedBy 4 speeds [] →
+      n ≡ blockLength count →
+      (length block ≡ n → ⊥) →
+      r ≡ readBlock speeds block
+  read-size a b h =
+      let e = ap (λ (k : ℕ). blockLength k) (c .opens .counted) in
+      refused-at speeds block 3 a
+      (counted 4 (ask-no 4 _ (ne-eqb (length block) (blockLength (countIn block)) (λ q. h (q ∙ sym (b ∙ e))))))
 
-      pub read-tasks :
-          (q : Plan) (r : Judged) →
-          x ≡ 0 →
-          q ≡ planOf (tasksFrom count (drop 9 (unpacked block))) →
-          r ≡ judgedBy (firstNo (taskQuestions speeds (tasksOf q))) speeds (tasksOf q) →
-          r ≡ readBlock speeds block
-      read-tasks q r h p a =
-          let bits : List ℕ = drop 9 (unpacked block) in
-          let ts : tasksOf q ≡ tasksIn block =
-          ap (λ (z : Plan). tasksOf z) p
-          ∙ tasksOf-planOf (tasksFrom count bits)
-          ∙ ap (λ (k : ℕ). tasksFrom k bits) e in
-          let n : firstNo (reading speeds block) ≡ firstNo (taskQuestions speeds (tasksIn block)) =
-          sizes (firstNo (taskQuestions speeds (tasksIn block))) (ask-yes 4 same-size (ask-yes 5 (tested ∙ eq-eqb x 0 h) refl)) in
-          a
-          ∙ ap (λ (l : List Task). judgedBy (firstNo (taskQuestions speeds l)) speeds l) ts
-          ∙ sym (ap (λ (m : ℕ). judgedBy m speeds (tasksIn block)) n)
+-- 4 is answered yes too, and x is the number of the closing bits
+pub record Closing (block : List ℕ) (count x : ℕ) : Type 0 where
+  pub counts : Counted block count
+  pub size : length block ≡ blockLength count
+  pub closing : x ≡ number 2 (8 * length block - bitCount count) (drop (bitCount count) (unpacked block))
 
--- bit k of a plan's block, past the count: by the task that it stands in
-module _ (p : Plan) (k : ℕ) (len : length (p .tasks) ≡ 16) (most : p .count ≤ 16) (low : 9 ≤ k) where
-  listed : length (tasksOf p) ≡ p .count
-  listed = length-take-le (p .count) (p .tasks) (omega arith)
+module _ (speeds : List ℕ) {block : List ℕ} {count x : ℕ} (c : Closing block count x) where
+  four : eqb (length block) (blockLength (countIn block)) ≡ true
+  four = eq-eqb (length block) (blockLength (countIn block)) (c .size ∙ ap (λ (k : ℕ). blockLength k) (c .counts .opens .counted))
 
-  pub bit-past : p .count ≤ (k - 9) / 36 → 0 ≡ getD (planBits (tasksOf p)) k 0
-  bit-past h = sym (planBits-past (tasksOf p) k low (subst (λ (n : ℕ). n ≤ (k - 9) / 36) (sym listed) h))
+  five : every (eqb 0) (closingBits block) ≡ eqb x 0
+  five =
+      let bits : ℕ → ℕ = λ k. number 2 (8 * length block - bitCount k) (drop (bitCount k) (unpacked block)) in
+      closing-zero block ∙ sym (ap (λ (m : ℕ). eqb m 0) (c .closing ∙ ap bits (c .counts .opens .counted)))
 
-  module _ (h : (k - 9) / 36 < p .count) where
-    here : getD (tasksOf p) ((k - 9) / 36) noTask ≡ getD (p .tasks) ((k - 9) / 36) noTask
-    here = getD-take (p .count) (p .tasks) ((k - 9) / 36) noTask h
+  pub read-closing : {r : Judged} → r ≡ judgedBy 5 speeds [] → (x ≡ 0 → ⊥) → r ≡ readBlock speeds block
+  read-closing a h =
+      refused-at speeds block 4 a (counted speeds (c .counts) 5 (ask-yes 4 four (ask-no 5 _ (five ∙ ne-eqb x 0 h))))
 
-    inside : (k - 9) / 36 < length (tasksOf p)
-    inside = subst (λ (n : ℕ). (k - 9) / 36 < n) (sym listed) h
+  pub read-tasks :
+      {q : Plan} {r : Judged} →
+      x ≡ 0 →
+      q ≡ planOf (tasksFrom count (drop 9 (unpacked block))) →
+      r ≡ judgedBy (firstNo (taskQuestions speeds (tasksOf q))) speeds (tasksOf q) →
+      r ≡ readBlock speeds block
+  read-tasks {q} h p a =
+      let bits : List ℕ = drop 9 (unpacked block) in
+      let rest : ℕ = firstNo (taskQuestions speeds (tasksIn block)) in
+      let ts : tasksOf q ≡ tasksIn block =
+      ap (λ (z : Plan). tasksOf z) p
+      ∙ tasksOf-planOf (tasksFrom count bits)
+      ∙ ap (λ (k : ℕ). tasksFrom k bits) (c .counts .opens .counted) in
+      let n : firstNo (reading speeds block) ≡ rest = counted speeds (c .counts) rest (ask-yes 4 four (ask-yes 5 (five ∙ eq-eqb x 0 h) refl)) in
+      a
+      ∙ ap (λ (l : List Task). judgedBy (firstNo (taskQuestions speeds l)) speeds l) ts
+      ∙ sym (ap (λ (m : ℕ). judgedBy m speeds (tasksIn block)) n)
 
-    pub bit-period :
-        (x : ℕ) →
-        (k - 9) % 36 < 16 →
-        x ≡ getD (p .tasks) ((k - 9) / 36) noTask .period / 2 ^ (15 - (k - 9) % 36) % 2 →
-        x ≡ getD (planBits (tasksOf p)) k 0
-    bit-period x r e =
-        e
-        ∙ sym (ap (λ (t : Task). t .period / 2 ^ (15 - (k - 9) % 36) % 2) here)
-        ∙ sym (planBits-period (tasksOf p) k low inside r)
+-- a plan as the code holds it
+pub record Held (p : Plan) : Type 0 where
+  pub places : length (p .tasks) ≡ 16
+  pub most : p .count ≤ 16
 
-    pub bit-worst :
-        (x : ℕ) →
-        16 ≤ (k - 9) % 36 →
-        x ≡ getD (p .tasks) ((k - 9) / 36) noTask .worst / 2 ^ (35 - (k - 9) % 36) % 2 →
-        x ≡ getD (planBits (tasksOf p)) k 0
-    bit-worst x r e =
-        e
-        ∙ sym (ap (λ (t : Task). t .worst / 2 ^ (35 - (k - 9) % 36) % 2) here)
-        ∙ sym (planBits-worst (tasksOf p) k low inside r)
+-- its count, its block's length and the block's byte j
+module _ {p : Plan} (plan : Held p) where
+  count-is : length (tasksOf p) ≡ p .count
+  count-is = length-tasksOf p (plan .places) (plan .most)
 
--- bit k of the edition and of the count
-pub bit-edition : (ts : List Task) (k x : ℕ) → k < 4 → x ≡ 1 / 2 ^ (3 - k) % 2 → x ≡ getD (planBits ts) k 0
-bit-edition ts k x h e = e ∙ sym (planBits-edition ts k h)
-
-pub bit-count :
-    (p : Plan) (k x : ℕ) →
-    length (p .tasks) ≡ 16 →
-    p .count ≤ 16 →
-    4 ≤ k →
-    k < 9 →
-    x ≡ p .count / 2 ^ (8 - k) % 2 →
-    x ≡ getD (planBits (tasksOf p)) k 0
-bit-count p k x len most low high e =
-    e
-    ∙ sym (ap (λ (n : ℕ). n / 2 ^ (8 - k) % 2) (length-take-le (p .count) (p .tasks) (omega arith)))
-    ∙ sym (planBits-count (tasksOf p) k low high)
-
--- bytes stored from the front, one a turn
-module _ (bytes buffer : List ℕ) (room : length bytes ≤ length buffer) where
-  pub store-more :
-      (m : List ℕ) (j x : ℕ) →
-      j < length bytes →
-      m ≡ paste buffer 0 bytes j →
-      x ≡ getD bytes j 0 →
-      set m j x ≡ paste buffer 0 bytes (j + 1)
-  store-more m j x h e v =
-      let z : j ≡ 0 + j = omega arith in
-      ap₂ (λ (l : List ℕ) (y : ℕ). set l j y) e v
-      ∙ ap (λ (i : ℕ). set (paste buffer 0 bytes j) i (getD bytes j 0)) z
-      ∙ paste-suc buffer 0 bytes j 0 (omega arith) h
-      ∙ sym (ap (λ (i : ℕ). paste buffer 0 bytes i) (add-one j))
-
-  pub store-all : (m : List ℕ) (j : ℕ) → j ≡ length bytes → m ≡ paste buffer 0 bytes j → m ≡ storedBy 0 bytes buffer
-  store-all m j h e =
-      let z : 0 + length bytes ≡ length bytes = omega arith in
-      e
-      ∙ ap (λ (i : ℕ). paste buffer 0 bytes i) h
-      ∙ ap₂ (λ (l : List ℕ) (i : ℕ). l ++ drop i buffer) (take-all (length bytes) bytes (omega arith)) z
-
--- how many bytes the block of a plan has, and byte j of it
-module _ (p : Plan) (len : length (p .tasks) ≡ 16) (most : p .count ≤ 16) where
   pub planBlock-length : length (planBlock (tasksOf p)) ≡ blockLength (p .count)
-  planBlock-length =
-      length-planBlock (tasksOf p)
-      ∙ ap (λ (n : ℕ). blockLength n) (length-take-le (p .count) (p .tasks) (omega arith))
+  planBlock-length = length-planBlock (tasksOf p) ∙ ap (λ (n : ℕ). blockLength n) count-is
 
   pub planBlock-byte :
-      (j x : ℕ) →
+      {j x : ℕ} →
       j < blockLength (p .count) →
       x ≡ number 2 8 (drop (8 * j) (planBits (tasksOf p))) →
       x ≡ getD (planBlock (tasksOf p)) j 0
-  planBlock-byte j x h e =
+  planBlock-byte {j} h e =
+      e ∙ sym (planBlock-at (tasksOf p) j (subst (λ (n : ℕ). j < blockLength n) (sym count-is) h))
+
+  -- bit k of its block: of the count, and past the last task
+  pub bit-count : {k x : ℕ} → 4 ≤ k → k < 9 → x ≡ p .count / 2 ^ (8 - k) % 2 → x ≡ getD (planBits (tasksOf p)) k 0
+  bit-count {k} low high e =
       e
-      ∙ sym (planBlock-at (tasksOf p) j
-      (subst (λ (n : ℕ). j < blockLength n) (sym (length-take-le (p .count) (p .tasks) (omega arith))) h))
+      ∙ sym (ap (λ (n : ℕ). n / 2 ^ (8 - k) % 2) count-is)
+      ∙ sym (planBits-count (tasksOf p) k low high)
+
+  pub bit-past : {k : ℕ} → 9 ≤ k → p .count ≤ (k - 9) / 36 → 0 ≡ getD (planBits (tasksOf p)) k 0
+  bit-past {k} low h = sym (planBits-past (tasksOf p) k low (omega (arith, count-is)))
+
+pub bit-edition : (ts : List Task) {k x : ℕ} → k < 4 → x ≡ 1 / 2 ^ (3 - k) % 2 → x ≡ getD (planBits ts) k 0
+bit-edition ts {k} h e = e ∙ sym (planBits-edition ts k h)
+
+-- bit k stands in a task
+pub record InTask (p : Plan) (k : ℕ) : Type 0 where
+  pub plan : Held p
+  pub low : 9 ≤ k
+  pub below : (k - 9) / 36 < p .count
+
+module _ {p : Plan} {k : ℕ} (b : InTask p k) where
+  here : getD (tasksOf p) ((k - 9) / 36) noTask ≡ getD (p .tasks) ((k - 9) / 36) noTask
+  here = getD-take (p .count) (p .tasks) ((k - 9) / 36) noTask (b .below)
+
+  inside : (k - 9) / 36 < length (tasksOf p)
+  inside = omega (arith, count-is (b .plan))
+
+  pub bit-period :
+      {x : ℕ} →
+      (k - 9) % 36 < 16 →
+      x ≡ getD (p .tasks) ((k - 9) / 36) noTask .period / 2 ^ (15 - (k - 9) % 36) % 2 →
+      x ≡ getD (planBits (tasksOf p)) k 0
+  bit-period r e =
+      e
+      ∙ sym (ap (λ (t : Task). t .period / 2 ^ (15 - (k - 9) % 36) % 2) here)
+      ∙ sym (planBits-period (tasksOf p) k (b .low) inside r)
+
+  pub bit-worst :
+      {x : ℕ} →
+      16 ≤ (k - 9) % 36 →
+      x ≡ getD (p .tasks) ((k - 9) / 36) noTask .worst / 2 ^ (35 - (k - 9) % 36) % 2 →
+      x ≡ getD (planBits (tasksOf p)) k 0
+  bit-worst r e =
+      e
+      ∙ sym (ap (λ (t : Task). t .worst / 2 ^ (35 - (k - 9) % 36) % 2) here)
+      ∙ sym (planBits-worst (tasksOf p) k (b .low) inside r)
+
+-- bytes stored from the front, one a turn
+pub record Stored (bytes buffer m : List ℕ) (j : ℕ) : Type 0 where
+  pub room : length bytes ≤ length buffer
+  pub within : j ≤ length bytes
+  pub same : length m ≡ length buffer
+  pub pasted : m ≡ paste buffer 0 bytes j
+
+pub stored-none : {bytes buffer : List ℕ} → length bytes ≤ length buffer → Stored bytes buffer buffer 0
+stored-none {bytes} {buffer} h =
+    record { room = h; within = omega arith; same = refl; pasted = paste-zero buffer 0 bytes }
+
+module _ {bytes buffer m : List ℕ} {j : ℕ} (at : Stored bytes buffer m j) where
+  pub stored-more : {x : ℕ} → j < length bytes → x ≡ getD bytes j 0 → Stored bytes buffer (set m j x) (j + 1)
+  stored-more {x} h v =
+      let z : j ≡ 0 + j = omega arith in
+      record {
+        room = at .room;
+        within = omega arith;
+        same = length-set m j x ∙ at .same;
+        pasted =
+            ap₂ (λ (l : List ℕ) (y : ℕ). set l j y) (at .pasted) v
+            ∙ ap (λ (i : ℕ). set (paste buffer 0 bytes j) i (getD bytes j 0)) z
+            ∙ paste-suc buffer 0 bytes j 0 (omega arith) h
+            ∙ sym (ap (λ (i : ℕ). paste buffer 0 bytes i) (add-one j));
+      }
+
+  pub stored-all : length bytes ≤ j → m ≡ storedBy 0 bytes buffer
+  stored-all h =
+      let all : j ≡ length bytes = omega arith in
+      let z : 0 + length bytes ≡ length bytes = omega arith in
+      at .pasted
+      ∙ ap (λ (i : ℕ). paste buffer 0 bytes i) all
+      ∙ ap₂ (λ (l : List ℕ) (i : ℕ). l ++ drop i buffer) (take-all (length bytes) bytes (omega arith)) z
 
 -- what an answer tells of its number
 module _ (speeds : List ℕ) (ts : List Task) (v : Verdict) where
@@ -258,14 +285,19 @@ module _ (speeds : List ℕ) (ts : List Task) (v : Verdict) where
   told-admitted zero l h a b = refl
   told-admitted (suc m) l h a b = let z : _≡_ {A = ℕ} 0 1 = cc in absurd (omega arith)
 
-module _ (bytes : List ℕ) (w : Written) where
-  pub told-unwritten : (m n : ℕ) → w ≡ writtenBy m bytes → w ≡ written.Refused n → (0 < n) × (m ≡ n)
-  told-unwritten zero n a b = let z : _≡_ {A = ℕ} 0 1 = cc in absurd (omega arith)
-  told-unwritten (suc m) n a b = let e : suc m ≡ n = cc in (omega arith, e)
+-- a refusal: its number is n
+pub record Refusal (number n : ℕ) : Type 0 where
+  pub positive : 0 < n
+  pub is : number ≡ n
 
-  pub told-written : (m n : ℕ) → w ≡ writtenBy m bytes → w ≡ written.Bytes n → (m ≡ 0) × (n ≡ length bytes)
-  told-written zero n a b = let e : n ≡ length bytes = cc in (refl, e)
-  told-written (suc m) n a b = let z : _≡_ {A = ℕ} 0 1 = cc in absurd (omega arith)
+module _ (bytes : List ℕ) {w : Written} where
+  pub told-unwritten : (number : ℕ) {n : ℕ} → w ≡ writtenBy number bytes → w ≡ written.Refused n → Refusal number n
+  told-unwritten zero a b = let z : _≡_ {A = ℕ} 0 1 = cc in absurd (omega arith)
+  told-unwritten (suc m) {n} a b = let e : suc m ≡ n = cc in record { positive = omega arith; is = e }
+
+  pub told-written : (number : ℕ) {n : ℕ} → w ≡ writtenBy number bytes → w ≡ written.Bytes n → (number ≡ 0) × (n ≡ length bytes)
+  told-written zero {n} a b = let e : n ≡ length bytes = cc in (refl, e)
+  told-written (suc m) a b = let z : _≡_ {A = ℕ} 0 1 = cc in absurd (omega arith)
 
 -- an answer, and what it leaves in the buffer
 abbrev pub Leaves : ℕ → List ℕ → List ℕ → Written → List ℕ → Type 0
@@ -289,173 +321,184 @@ pub leaves-written :
 leaves-written number n bytes buffer m e l s =
     (ap written.Bytes l ∙ sym (ap (λ (k : ℕ). writtenBy k bytes) e), s ∙ sym (ap (λ (k : ℕ). storedBy k bytes buffer) e))
 
--- the number of writing a plan into so much room
-module _ (speeds : List ℕ) (p : Plan) (room : ℕ) where
-  pub write-no : (n : ℕ) → 0 < n → firstNo (judging speeds (p .count) (tasksOf p)) ≡ n → writeNumber speeds p room ≡ n
-  write-no n h e =
-      no-before (judging speeds (p .count) (tasksOf p)) (roomQuestion (length (planBlock (tasksOf p))) room ∷ []) n h e
+-- the questions of writing a plan into so much room: those of judging it, and the room
+module _ (speeds : List ℕ) (p : Plan) where
+  abbrev asked : List Question
+  asked = judging speeds (p .count) (tasksOf p)
 
-  module _ (e : firstNo (judging speeds (p .count) (tasksOf p)) ≡ 0) where
-    write-last : writeNumber speeds p room ≡ firstNo (roomQuestion (length (planBlock (tasksOf p))) room ∷ [])
-    write-last =
-        yes-before (judging speeds (p .count) (tasksOf p)) (roomQuestion (length (planBlock (tasksOf p))) room ∷ []) refl e
+  abbrev last : ℕ → List Question
+  last room = roomQuestion (length (planBlock (tasksOf p))) room ∷ []
 
-    pub write-short : room < length (planBlock (tasksOf p)) → writeNumber speeds p room ≡ 9
-    write-short h = write-last ∙ ask-no 9 0 (lt-leb (length (planBlock (tasksOf p))) room h)
+  write-last : (room : ℕ) → firstNo asked ≡ 0 → writeNumber speeds p room ≡ firstNo (last room)
+  write-last room e = yes-before asked (last room) refl e
 
-    pub write-fits : length (planBlock (tasksOf p)) ≤ room → writeNumber speeds p room ≡ 0
-    write-fits h = write-last ∙ ask-yes 9 (le-leb (length (planBlock (tasksOf p))) room h) refl
+  write-short : (room : ℕ) → firstNo asked ≡ 0 → room < length (planBlock (tasksOf p)) → writeNumber speeds p room ≡ 9
+  write-short room e h = write-last room e ∙ ask-no 9 0 (lt-leb (length (planBlock (tasksOf p))) room h)
+
+  write-fits : (room : ℕ) → firstNo asked ≡ 0 → length (planBlock (tasksOf p)) ≤ room → writeNumber speeds p room ≡ 0
+  write-fits room e h = write-last room e ∙ ask-yes 9 (le-leb (length (planBlock (tasksOf p))) room h) refl
 
 -- each way out of writing a plan
+abbrev Wrote : List ℕ → Plan → List ℕ → Written → List ℕ → Type 0
+Wrote speeds p buffer r m = Leaves (writeNumber speeds p (length buffer)) (planBlock (tasksOf p)) buffer r m
+
 module _ (speeds : List ℕ) (p : Plan) (buffer : List ℕ) where
-  abbrev Wrote : Written → List ℕ → Type 0
-  Wrote r m = Leaves (writeNumber speeds p (length buffer)) (planBlock (tasksOf p)) buffer r m
-
-  refusal : (n : ℕ) → 0 < n → firstNo (judging speeds (p .count) (tasksOf p)) ≡ n → Wrote (written.Refused n) buffer
-  refusal n h e =
+  wrote-no : (n : ℕ) → 0 < n → firstNo (asked speeds p) ≡ n → Wrote speeds p buffer (written.Refused n) buffer
+  wrote-no n h e =
       leaves-refused (writeNumber speeds p (length buffer)) n (planBlock (tasksOf p)) buffer h
-      (write-no speeds p (length buffer) n h e)
+      (no-before (asked speeds p) (last speeds p (length buffer)) n h e)
 
-  pub wrote-low : p .count < 1 → Wrote (written.Refused 3) buffer
-  wrote-low h = refusal 3 (omega arith) (count-low speeds (tasksOf p) (p .count) h)
+  pub wrote-low : p .count < 1 → Wrote speeds p buffer (written.Refused 3) buffer
+  wrote-low h = wrote-no 3 (omega arith) (count-low speeds (tasksOf p) (p .count) h)
 
-  pub wrote-high : 16 < p .count → Wrote (written.Refused 3) buffer
-  wrote-high h = refusal 3 (omega arith) (count-high speeds (tasksOf p) (p .count) h)
+  pub wrote-high : 16 < p .count → Wrote speeds p buffer (written.Refused 3) buffer
+  wrote-high h = wrote-no 3 (omega arith) (count-high speeds (tasksOf p) (p .count) h)
 
-  -- the count is in its range, and the tasks are judged
-  module _ (low : 1 ≤ p .count) (high : p .count ≤ 16) (v : Verdict)
-      (a : v ≡ answered (firstNo (taskQuestions speeds (tasksOf p))) speeds (tasksOf p)) where
-    pub wrote-refused : (n : ℕ) → v ≡ verdict.Refused n → Wrote (written.Refused n) buffer
-    wrote-refused n b =
-        let t : (0 < n) × (firstNo (taskQuestions speeds (tasksOf p)) ≡ n) =
-        told-refused speeds (tasksOf p) v (firstNo (taskQuestions speeds (tasksOf p))) n a b in
-        refusal n (t .0) (count-good speeds (tasksOf p) (p .count) low high ∙ t .1)
+-- the count is in its range, and the tasks are judged
+pub record Rated (speeds : List ℕ) (p : Plan) (v : Verdict) : Type 0 where
+  pub low : 1 ≤ p .count
+  pub high : p .count ≤ 16
+  pub verdict-is : v ≡ answered (firstNo (taskQuestions speeds (tasksOf p))) speeds (tasksOf p)
 
-    module _ (level span : ℕ) (b : v ≡ verdict.Admitted level span) where
-      fine : firstNo (judging speeds (p .count) (tasksOf p)) ≡ 0
-      fine =
-          count-good speeds (tasksOf p) (p .count) low high
-          ∙ told-admitted speeds (tasksOf p) v (firstNo (taskQuestions speeds (tasksOf p))) level span a b
+module _ {speeds : List ℕ} {p : Plan} {v : Verdict} (r : Rated speeds p v) where
+  asked-is : firstNo (asked speeds p) ≡ firstNo (taskQuestions speeds (tasksOf p))
+  asked-is = count-good speeds (tasksOf p) (p .count) (r .low) (r .high)
 
-      pub wrote-short : length buffer < length (planBlock (tasksOf p)) → Wrote (written.Refused 9) buffer
-      wrote-short h =
-          leaves-refused (writeNumber speeds p (length buffer)) 9 (planBlock (tasksOf p)) buffer (omega arith)
-          (write-short speeds p (length buffer) fine h)
+  pub wrote-refused : (buffer : List ℕ) {n : ℕ} → v ≡ verdict.Refused n → Wrote speeds p buffer (written.Refused n) buffer
+  wrote-refused buffer {n} b =
+      let t = told-refused speeds (tasksOf p) v (firstNo (taskQuestions speeds (tasksOf p))) n (r .verdict-is) b in
+      wrote-no speeds p buffer n (t .0) (asked-is ∙ t .1)
 
-      pub wrote-block :
-          (n : ℕ) (m : List ℕ) →
-          n ≡ length (planBlock (tasksOf p)) →
-          n ≤ length buffer →
-          m ≡ storedBy 0 (planBlock (tasksOf p)) buffer →
-          Wrote (written.Bytes n) m
-      wrote-block n m e h s =
-          leaves-written (writeNumber speeds p (length buffer)) n (planBlock (tasksOf p)) buffer m
-          (write-fits speeds p (length buffer) fine (subst (λ (k : ℕ). k ≤ length buffer) e h))
-          e
-          s
+  pub rated-fine : {level span : ℕ} → v ≡ verdict.Admitted level span → firstNo (asked speeds p) ≡ 0
+  rated-fine {level} {span} b =
+      asked-is
+      ∙ told-admitted speeds (tasksOf p) v (firstNo (taskQuestions speeds (tasksOf p))) level span (r .verdict-is) b
 
--- an accepted block, read and written again
-module _ (speeds block : List ℕ) (bytes : Bytes block) (p : Plan)
-    (accepted : firstNo (reading speeds block) ≡ 0) (e : p ≡ planOf (tasksIn block)) where
-  copied : planBlock (tasksOf p) ≡ block
-  copied =
-      ap (λ (q : Plan). planBlock (tasksOf q)) e
-      ∙ ap (λ (ts : List Task). planBlock ts) (tasksOf-planOf (tasksIn block))
-      ∙ accepted-block speeds block bytes (fine-block speeds block accepted)
+-- the tasks are admitted, and n bytes are wanted
+pub record Wanted (speeds : List ℕ) (p : Plan) (n : ℕ) : Type 0 where
+  pub fine : firstNo (asked speeds p) ≡ 0
+  pub wanted : n ≡ length (planBlock (tasksOf p))
 
-  judged : firstNo (judging speeds (p .count) (tasksOf p)) ≡ 0
-  judged =
-      let ts : List Task = tasksIn block in
-      let f : FineBlock speeds block = fine-block speeds block accepted in
-      let n : length ts ≡ countIn block = length-tasksFrom (countIn block) (drop 9 (unpacked block)) in
-      ap (λ (q : Plan). firstNo (judging speeds (q .count) (tasksOf q))) e
-      ∙ ap (λ (l : List Task). firstNo (judging speeds (length ts) l)) (tasksOf-planOf ts)
-      ∙ list-yes speeds (length ts) ts
-      record {
-        count-low = subst (λ (k : ℕ). 1 ≤ k) (sym n) (f .count-low);
-        count-high = subst (λ (k : ℕ). k ≤ 16) (sym n) (f .count-high);
-        tasks = f .tasks;
-      }
+module _ {speeds : List ℕ} {p : Plan} {n : ℕ} (w : Wanted speeds p n) (buffer : List ℕ) where
+  pub wrote-short : length buffer < n → Wrote speeds p buffer (written.Refused 9) buffer
+  wrote-short h =
+      leaves-refused (writeNumber speeds p (length buffer)) 9 (planBlock (tasksOf p)) buffer (omega arith)
+      (write-short speeds p (length buffer) (w .fine) (subst (λ (k : ℕ). length buffer < k) (w .wanted) h))
 
-  copy-number : (room : ℕ) → writeNumber speeds p room ≡ firstNo (reading speeds block ++ (roomQuestion (length block) room ∷ []))
-  copy-number room =
-      write-last speeds p room judged
-      ∙ ap (λ (l : List ℕ). firstNo (roomQuestion (length l) room ∷ [])) copied
-      ∙ sym (yes-before (reading speeds block) (roomQuestion (length block) room ∷ []) refl accepted)
+  pub wrote-block : {m : List ℕ} → n ≤ length buffer → m ≡ storedBy 0 (planBlock (tasksOf p)) buffer → Wrote speeds p buffer (written.Bytes n) m
+  wrote-block {m} h s =
+      leaves-written (writeNumber speeds p (length buffer)) n (planBlock (tasksOf p)) buffer m
+      (write-fits speeds p (length buffer) (w .fine) (subst (λ (k : ℕ). k ≤ length buffer) (w .wanted) h))
+      (w .wanted)
+      s
 
-  leaves-copy :
-      (buffer : List ℕ) (r : Written) (m : List ℕ) →
-      r ≡ writePlan speeds p (length buffer) →
-      m ≡ writeBuffer speeds p buffer →
-      Leaves (firstNo (reading speeds block ++ (roomQuestion (length block) (length buffer) ∷ []))) block buffer r m
-  leaves-copy buffer r m a b = (
-    a ∙ ap₂ (λ (k : ℕ) (l : List ℕ). writtenBy k l) (copy-number (length buffer)) copied,
-    b ∙ ap₂ (λ (k : ℕ) (l : List ℕ). storedBy k l buffer) (copy-number (length buffer)) copied,
-  )
+-- a block read, and what writes it again
+module _ (speeds block : List ℕ) where
+  abbrev room-asked : ℕ → List Question
+  room-asked room = roomQuestion (length block) room ∷ []
 
-pub leaves-read :
-    (speeds block : List ℕ) →
-    Bytes block →
-    (j : Judged) (level span : ℕ) →
-    j ≡ readBlock speeds block →
-    j .verdict ≡ verdict.Admitted level span →
-    (buffer : List ℕ) (r : Written) (m : List ℕ) →
-    r ≡ writePlan speeds (j .plan) (length buffer) →
-    m ≡ writeBuffer speeds (j .plan) buffer →
-    Leaves (firstNo (reading speeds block ++ (roomQuestion (length block) (length buffer) ∷ []))) block buffer r m
-leaves-read speeds block bytes j level span a b =
-    let n : firstNo (reading speeds block) ≡ 0 =
-    told-admitted speeds (tasksIn block) (j .verdict) (firstNo (reading speeds block)) level span (ap (λ (x : Judged). x .verdict) a) b in
-    leaves-copy speeds block bytes (j .plan) n
-    (ap (λ (x : Judged). x .plan) a ∙ ap (λ (k : ℕ). beside k (tasksIn block)) n)
+  abbrev Copied : List ℕ → Written → List ℕ → Type 0
+  Copied buffer r m = Leaves (firstNo (reading speeds block ++ room-asked (length buffer))) block buffer r m
 
--- a block that is refused leaves its number
-pub leaves-unread :
-    (speeds block buffer : List ℕ) (j : Judged) (n : ℕ) →
-    j ≡ readBlock speeds block →
-    j .verdict ≡ verdict.Refused n →
-    Leaves (firstNo (reading speeds block ++ (roomQuestion (length block) (length buffer) ∷ []))) block buffer (written.Refused n) buffer
-leaves-unread speeds block buffer j n a b =
-    let t : (0 < n) × (firstNo (reading speeds block) ≡ n) =
-    told-refused speeds (tasksIn block) (j .verdict) (firstNo (reading speeds block)) n (ap (λ (x : Judged). x .verdict) a) b in
-    leaves-refused (firstNo (reading speeds block ++ (roomQuestion (length block) (length buffer) ∷ []))) n block buffer (t .0)
-    (no-before (reading speeds block) (roomQuestion (length block) (length buffer) ∷ []) n (t .0) (t .1))
+  -- accepted: its plan's block is the block itself, and its plan is accepted too
+  module _ (bytes : Bytes block) {p : Plan} (accepted : firstNo (reading speeds block) ≡ 0) (e : p ≡ planOf (tasksIn block)) where
+    copied : planBlock (tasksOf p) ≡ block
+    copied =
+        ap (λ (q : Plan). planBlock (tasksOf q)) e
+        ∙ ap (λ (ts : List Task). planBlock ts) (tasksOf-planOf (tasksIn block))
+        ∙ accepted-block speeds block bytes (fine-block speeds block accepted)
 
--- a plan written and read back
-pub refused-as :
-    (speeds : List ℕ) (ts us : List Task) (number n : ℕ) →
-    0 < n →
-    number ≡ n →
-    judgedBy n speeds ts ≡ judgedBy number speeds us
-refused-as speeds ts us number zero h e = absurd (omega arith)
-refused-as speeds ts us number (suc n) h e = sym (ap (λ (k : ℕ). judgedBy k speeds us) e)
+    judged : firstNo (asked speeds p) ≡ 0
+    judged =
+        let ts : List Task = tasksIn block in
+        let f : FineBlock speeds block = fine-block speeds block accepted in
+        let n : length ts ≡ countIn block = length-tasksFrom (countIn block) (drop 9 (unpacked block)) in
+        ap (λ (q : Plan). firstNo (asked speeds q)) e
+        ∙ ap (λ (l : List Task). firstNo (judging speeds (length ts) l)) (tasksOf-planOf ts)
+        ∙ list-yes speeds (length ts) ts
+        record {
+          count-low = subst (λ (k : ℕ). 1 ≤ k) (sym n) (f .count-low);
+          count-high = subst (λ (k : ℕ). k ≤ 16) (sym n) (f .count-high);
+          tasks = f .tasks;
+        }
 
-pub stored-front :
-    (number n : ℕ) (bytes buffer m : List ℕ) →
-    number ≡ 0 →
-    n ≡ length bytes →
-    m ≡ storedBy number bytes buffer →
-    take n m ≡ bytes
-stored-front number n bytes buffer m e l s =
-    ap (λ (x : List ℕ). take n x) (s ∙ ap (λ (k : ℕ). storedBy k bytes buffer) e)
-    ∙ take-at bytes (drop (length bytes) buffer) n (sym l)
+    copy-number : (room : ℕ) → writeNumber speeds p room ≡ firstNo (reading speeds block ++ room-asked room)
+    copy-number room =
+        write-last speeds p room judged
+        ∙ ap (λ (l : List ℕ). firstNo (roomQuestion (length l) room ∷ [])) copied
+        ∙ sym (yes-before (reading speeds block) (room-asked room) refl accepted)
 
-pub front-length : (n : ℕ) (bytes m : List ℕ) → n ≡ length bytes → take n m ≡ bytes → n ≡ length (take n m)
-front-length n bytes m l e = l ∙ sym (ap (λ (x : List ℕ). length x) e)
+    leaves-copy :
+        (buffer : List ℕ) {r : Written} {m : List ℕ} →
+        r ≡ writePlan speeds p (length buffer) →
+        m ≡ writeBuffer speeds p buffer →
+        Copied buffer r m
+    leaves-copy buffer a b = (
+      a ∙ ap₂ (λ (k : ℕ) (l : List ℕ). writtenBy k l) (copy-number (length buffer)) copied,
+      b ∙ ap₂ (λ (k : ℕ) (l : List ℕ). storedBy k l buffer) (copy-number (length buffer)) copied,
+    )
 
-pub front-fits : (n : ℕ) (bytes m : List ℕ) → n ≡ length bytes → take n m ≡ bytes → n ≤ length m
-front-fits n bytes m l e = omega (arith, length-take n m, front-length n bytes m l e)
+  pub leaves-read :
+      (buffer : List ℕ) {j : Judged} {level span : ℕ} {r : Written} {m : List ℕ} →
+      Bytes block →
+      j ≡ readBlock speeds block →
+      j .verdict ≡ verdict.Admitted level span →
+      r ≡ writePlan speeds (j .plan) (length buffer) →
+      m ≡ writeBuffer speeds (j .plan) buffer →
+      Copied buffer r m
+  leaves-read buffer {j} {level} {span} bytes a b =
+      let n : firstNo (reading speeds block) ≡ 0 =
+      told-admitted speeds (tasksIn block) (j .verdict) (firstNo (reading speeds block)) level span (ap (λ (x : Judged). x .verdict) a) b in
+      leaves-copy bytes n (ap (λ (x : Judged). x .plan) a ∙ ap (λ (k : ℕ). beside k (tasksIn block)) n) buffer
 
-pub reads-back :
-    (speeds : List ℕ) (p : Plan) (room : ℕ) (s : List ℕ) (r : Judged) →
-    length (p .tasks) ≡ 16 →
-    writeNumber speeds p room ≡ 0 →
-    s ≡ planBlock (tasksOf p) →
-    r ≡ readBlock speeds s →
-    r ≡ judgedBy (writeNumber speeds p room) speeds (tasksOf p)
-reads-back speeds p room s r len e f a =
-    let z : firstNo (judging speeds (p .count) (tasksOf p)) ≡ 0 = yes-of (judging speeds (p .count) (tasksOf p)) (roomQuestion (length (planBlock (tasksOf p))) room ∷ []) e in
-    a
-    ∙ ap (λ (l : List ℕ). readBlock speeds l) f
-    ∙ written-reads-back speeds p len z
-    ∙ ap (λ (k : ℕ). judgedBy k speeds (tasksOf p)) (z ∙ sym e)
+  -- refused: its number is all that is left
+  pub leaves-unread :
+      (buffer : List ℕ) {j : Judged} {n : ℕ} →
+      j ≡ readBlock speeds block →
+      j .verdict ≡ verdict.Refused n →
+      Copied buffer (written.Refused n) buffer
+  leaves-unread buffer {j} {n} a b =
+      let t = told-refused speeds (tasksIn block) (j .verdict) (firstNo (reading speeds block)) n (ap (λ (x : Judged). x .verdict) a) b in
+      leaves-refused (firstNo (reading speeds block ++ room-asked (length buffer))) n block buffer (t .0)
+      (no-before (reading speeds block) (room-asked (length buffer)) n (t .0) (t .1))
+
+-- a plan written: the front of the buffer is its block, which reads back
+pub record Rewritten (speeds : List ℕ) (p : Plan) (buffer m : List ℕ) (n : ℕ) : Type 0 where
+  pub number : writeNumber speeds p (length buffer) ≡ 0
+  pub wanted : n ≡ length (planBlock (tasksOf p))
+  pub stored : m ≡ writeBuffer speeds p buffer
+
+pub rewritten :
+    {speeds : List ℕ} {p : Plan} {buffer m : List ℕ} {n : ℕ} {w : Written} →
+    w ≡ writePlan speeds p (length buffer) →
+    w ≡ written.Bytes n →
+    m ≡ writeBuffer speeds p buffer →
+    Rewritten speeds p buffer m n
+rewritten {speeds} {p} {buffer} a b s =
+    let t = told-written (planBlock (tasksOf p)) (writeNumber speeds p (length buffer)) a b in
+    record { number = t .0; wanted = t .1; stored = s }
+
+module _ {speeds : List ℕ} {p : Plan} {buffer m : List ℕ} {n : ℕ} (w : Rewritten speeds p buffer m n) where
+  front : take n m ≡ planBlock (tasksOf p)
+  front =
+      let bytes : List ℕ = planBlock (tasksOf p) in
+      ap (λ (x : List ℕ). take n x) (w .stored ∙ ap (λ (k : ℕ). storedBy k bytes buffer) (w .number))
+      ∙ take-at bytes (drop (length bytes) buffer) n (sym (w .wanted))
+
+  pub front-length : n ≡ length (take n m)
+  front-length = w .wanted ∙ sym (ap (λ (x : List ℕ). length x) front)
+
+  pub front-fits : n ≤ length m
+  front-fits = omega (arith, length-take n m, front-length)
+
+  pub reads-back :
+      {r : Judged} →
+      length (p .tasks) ≡ 16 →
+      r ≡ readBlock speeds (take n m) →
+      r ≡ judgedBy (writeNumber speeds p (length buffer)) speeds (tasksOf p)
+  reads-back places a =
+      let z : firstNo (asked speeds p) ≡ 0 = yes-of (asked speeds p) (last speeds p (length buffer)) (w .number) in
+      a
+      ∙ ap (λ (l : List ℕ). readBlock speeds l) front
+      ∙ written-reads-back speeds p places z
+      ∙ ap (λ (k : ℕ). judgedBy k speeds (tasksOf p)) (z ∙ sym (w .number))

@@ -9,6 +9,9 @@ use Rattle.plan_block.proofs.copy.Tie as tie
 bytes : (c : tie.After-shared-slice-known) → Bytes (c .before .args .block .now)
 bytes c k h = omega (arith, c .shared-slice-known .given k)
 
+abbrev start : tie.After-read → tie.Start
+start c = c .before .before .before
+
 read-requires : tie.Need-read-requires
 read-requires c κs = search needs
 
@@ -17,8 +20,8 @@ enum-known-v c = search needs
 
 returns : tie.Need-returns
 returns c =
-    leaves-unread baseSpeeds (c .before .before .before .before .before .before .args .block .now) (c .before .before .before .before .before .before .args .buffer .now) (c .before .before .before .read .result)
-    (c .before .v .given .0 .0) (c .before .before .before .read .ensures) (c .before .v .given .1)
+    let j = c .before .before .before in
+    leaves-unread baseSpeeds (start j .args .block .now) (start j .args .buffer .now) (j .read .ensures) (c .before .v .given .1)
 
 enum-told : tie.Need-enum-told
 enum-told c = search needs
@@ -31,9 +34,11 @@ same-length c = search needs
 
 returns-2 : tie.Need-returns-2
 returns-2 c =
-    leaves-read baseSpeeds (c .before .before .before .before .before .before .before .before .before .before .args .block .now) (bytes (c .before .before .before .before .before .before .before .before .before)) (c .before .before .before .before .before .before .before .read .result)
-    (c .before .before .before .before .before .enum-told .given .0 .0) (c .before .before .before .before .before .enum-told .given .0 .1 .0) (c .before .before .before .before .before .before .before .read .ensures) (c .before .before .before .before .before .enum-told .given .1)
-    (c .before .before .before .before .before .before .before .before .before .before .args .buffer .now) (c .before .before .write .result) (c .before .before .write .last .1 .0) (c .before .before .write .ensures .0) (c .before .before .write .ensures .1)
+    let wrote = c .before .before in
+    let told = wrote .before .before .before in
+    let j = told .before .before in
+    leaves-read baseSpeeds (start j .args .block .now) (start j .args .buffer .now) (bytes (j .before .before))
+    (j .read .ensures) (told .enum-told .given .1) (wrote .write .ensures .0) (wrote .write .ensures .1)
 
 pub copy-spec : {M : Type 1} → statement M
 copy-spec =

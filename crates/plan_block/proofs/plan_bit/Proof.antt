@@ -1,14 +1,12 @@
-use mathlib.Core.Path.{_≡_}
-use lib.ListN.{length}
+use borrow.Author.Needs.{needs}
 use Rattle.plan.specs.Blocks.{tasksOf}
 use Rattle.arith.proofs.Loops.{length-mapped}
-use Rattle.plan_block.proofs.Codec.{bit-edition, bit-count}
-use borrow.Author.Needs.{needs}
+use Rattle.plan_block.proofs.Codec.{Held, bit-edition, bit-count}
 use Rattle.plan_block.proofs.plan_bit.Statement.{statement}
 use Rattle.plan_block.proofs.plan_bit.Tie as tie
 
-size : (c : tie.Start) → length (c .args .p .tasks) ≡ 16
-size c = search (length-mapped, needs)
+plan : (c : tie.Start) → Held (c .args .p)
+plan c = record { places = search (length-mapped, needs); most = c .pre .0 }
 
 sub-bit-of : tie.Need-sub-bit-of
 sub-bit-of c = search needs
@@ -17,7 +15,7 @@ bit-of-requires : tie.Need-bit-of-requires
 bit-of-requires c κs = search needs
 
 returns : tie.Need-returns
-returns c = bit-edition (tasksOf (c .before .before .args .p)) (c .before .before .args .k) (c .bit-of .result) (c .before .if1 .taken) (c .bit-of .ensures)
+returns c = bit-edition (tasksOf (c .before .before .args .p)) (c .before .if1 .taken) (c .bit-of .ensures)
 
 cast-bit-of : tie.Need-cast-bit-of
 cast-bit-of c = search needs
@@ -30,7 +28,8 @@ bit-of-requires-2 c κs = search needs
 
 returns-2 : tie.Need-returns-2
 returns-2 c =
-    bit-count (c .before .before .before .before .args .p) (c .before .before .before .before .args .k) (c .bit-of2 .result) (size (c .before .before .before .before)) (c .before .before .before .before .pre .0) (c .before .before .before .if1 .left) (c .before .before .if2 .taken) (c .bit-of2 .ensures)
+    let else = c .before .before .before in
+    bit-count (plan (else .before)) (else .if1 .left) (c .before .before .if2 .taken) (c .bit-of2 .ensures)
 
 task-bit-requires : tie.Need-task-bit-requires
 task-bit-requires c κs = search needs

@@ -1,33 +1,28 @@
-use Prim.Native.Nat.{_≤_, _-_}
-use mathlib.Core.Path.{_≡_, refl, ap, _∙_}
+use Prim.Native.Nat.{_-_}
+use mathlib.Core.Path.{refl, ap}
 use native.Mathlib.Omega.{arith}
-use lib.ListN.{drop}
 use borrow.Author.Needs.{needs}
 use Rattle.arith.specs.Bits.{unpacked}
 use Rattle.plan.specs.declared.Plan.{Plan}
-use Rattle.plan.specs.Blocks.{tasksFrom, noTask}
-use Rattle.arith.proofs.Loops.{filled, filled-none}
-use Rattle.plan_block.proofs.Codec.{task-filled, plan-read}
+use Rattle.judging.proofs.Judgements.{Filled, filled-more}
+use Rattle.plan_block.proofs.Codec.{tasksAt, tasks-listed, task-from, plan-read}
 use Rattle.plan_block.proofs.plan_in.Statement.{statement}
 use Rattle.plan_block.proofs.plan_in.Tie as tie
 
 abbrev Inv-loop : tie.InvT-loop
-Inv-loop block count q₀ i₀ q i =
-    (i ≤ count) × (q .count ≡ count) × (q .tasks ≡ filled 16 noTask (tasksFrom count (drop 9 (unpacked block))) i)
+Inv-loop block count q₀ i₀ q i = Filled (tasksAt (unpacked block) count) count q i
 
 abbrev μ-loop : tie.MeasureT-loop
 μ-loop block count q₀ i₀ q i = count - i
+
+abbrev start : tie.At-loop Inv-loop μ-loop → tie.Start Inv-loop μ-loop
+start c = c .before .before .before
 
 empty-plan-requires : tie.Need-empty-plan-requires Inv-loop μ-loop
 empty-plan-requires c κs = search needs
 
 loop-holds : tie.Need-loop-holds Inv-loop μ-loop
-loop-holds c = (
-  omega arith,
-  refl,
-  ap (λ (x : Plan). x .tasks) (c .empty-plan .ensures)
-      ∙ filled-none 16 noTask (tasksFrom (c .before .before .args .count) (drop 9 (unpacked (c .before .before .args .block .now)))),
-)
+loop-holds c = record { within = omega arith; counted = refl; tasks = ap (λ (x : Plan). x .tasks) (c .empty-plan .ensures) }
 
 task-in-requires : tie.Need-task-in-requires Inv-loop μ-loop
 task-in-requires c κs = omega arith
@@ -45,15 +40,16 @@ loop-less : tie.Need-loop-less Inv-loop μ-loop
 loop-less c = omega arith
 
 loop-again : tie.Need-loop-again Inv-loop μ-loop
-loop-again c = (
-  omega arith,
-  c .before .before .loop .inv .1,
-  task-filled (unpacked (c .before .before .before .before .before .args .block .now)) (c .before .before .before .before .before .args .count) (c .before .before .before .before .before .pre .0) (c .before .before .loop .q .tasks) (c .task-in .result) (c .before .before .loop .i) (c .before .loop-test .taken) (c .before .before .loop .inv .2) (c .task-in .ensures),
-)
+loop-again c =
+    let turn = c .before .before in
+    let bits = unpacked (start turn .args .block .now) in
+    let count = start turn .args .count in
+    filled-more (turn .loop .inv) (tasks-listed bits count) (omega arith) (omega arith) (task-from bits count (c .before .loop-test .taken) (c .task-in .ensures))
 
 returns : tie.Need-returns Inv-loop μ-loop
 returns c =
-    plan-read (unpacked (c .before .before .before .before .args .block .now)) (c .before .before .before .before .args .count) (c .before .before .before .before .pre .0) (c .before .loop .q) (c .before .loop .i) (omega arith) (c .before .loop .inv .1) (c .before .loop .inv .2)
+    let s = start (c .before) in
+    plan-read (unpacked (s .args .block .now)) (s .args .count) (c .before .loop .inv) (omega arith)
 
 pub plan-in-spec : {M : Type 1} → statement M
 plan-in-spec =

@@ -1,14 +1,32 @@
 use mathlib.Core.Path.{ap}
 use native.Mathlib.Omega.{arith}
+use borrow.Author.Needs.{needs}
 use lib.ListN.{drop}
 use Rattle.arith.specs.Bits.{unpacked}
 use Rattle.plan.specs.declared.Plan.{Plan}
 use Rattle.plan.specs.Levels.{baseSpeeds}
 use Rattle.plan.proofs.BlockBits.{blockLength-most, blockLength-covers, blockLength-tight, length-tasksFrom}
-use Rattle.plan_block.proofs.Codec.{read-refused, read-closing, read-tasks}
-use borrow.Author.Needs.{needs}
+use Rattle.plan_block.proofs.Codec.{Closing, read-closing, read-tasks}
 use Rattle.plan_block.proofs.read_counted.Statement.{statement}
 use Rattle.plan_block.proofs.read_counted.Tie as tie
+
+abbrev start : tie.After-bits-at → tie.Start
+start c = c .before .before
+
+-- the block up to its closing bits
+closing : (c : tie.After-bits-at) → Closing (start c .args .block .now) (start c .args .count) (c .bits-at .result)
+closing c =
+    let s = start c in
+    record {
+      counts =
+          record {
+            opens = record { long = omega (arith, blockLength-covers (s .args .count)); edition = s .pre .0 .0; counted = s .pre .0 .1 };
+            low = s .pre .1 .0;
+            high = s .pre .1 .1;
+          };
+      size = s .pre .1 .2;
+      closing = c .bits-at .ensures;
+    }
 
 mul-used : tie.Need-mul-used
 mul-used c = search needs
@@ -30,31 +48,23 @@ refused-requires : tie.Need-refused-requires
 refused-requires c κs = search needs
 
 returns : tie.Need-returns
-returns c =
-    read-refused baseSpeeds (c .before .before .before .before .args .block .now) 4 (c .refused .result) (c .refused .ensures)
-    (read-closing baseSpeeds (c .before .before .before .before .args .block .now) (c .before .before .before .before .args .count)
-    (omega (arith, blockLength-covers (c .before .before .before .before .args .count))) (c .before .before .before .before .pre .0 .0) (c .before .before .before .before .pre .0 .1)
-    (c .before .before .before .before .pre .1 .0) (c .before .before .before .before .pre .1 .1) (c .before .before .before .before .pre .1 .2)
-    (c .before .before .bits-at .result) (c .before .before .bits-at .ensures) (c .before .if1 .taken))
+returns c = read-closing baseSpeeds (closing (c .before .before)) (c .refused .ensures) (c .before .if1 .taken)
 
 plan-in-requires : tie.Need-plan-in-requires
-plan-in-requires c κs = omega (arith, blockLength-covers (c .before .before .before .args .count))
+plan-in-requires c κs = omega (arith, blockLength-covers (start (c .before) .args .count))
 
 judged-with-requires : tie.Need-judged-with-requires
 judged-with-requires c κs =
+    let s = start (c .before .before) in
     omega (
       arith,
       ap (λ (q : Plan). q .count) (c .plan-in .ensures),
-      length-tasksFrom (c .before .before .before .before .args .count) (drop 9 (unpacked (c .before .before .before .before .args .block .now))),
+      length-tasksFrom (s .args .count) (drop 9 (unpacked (s .args .block .now))),
     )
 
 returns-2 : tie.Need-returns-2
 returns-2 c =
-    read-tasks baseSpeeds (c .before .before .before .before .before .args .block .now) (c .before .before .before .before .before .args .count)
-    (omega (arith, blockLength-covers (c .before .before .before .before .before .args .count))) (c .before .before .before .before .before .pre .0 .0) (c .before .before .before .before .before .pre .0 .1)
-    (c .before .before .before .before .before .pre .1 .0) (c .before .before .before .before .before .pre .1 .1) (c .before .before .before .before .before .pre .1 .2)
-    (c .before .before .before .bits-at .result) (c .before .before .before .bits-at .ensures)
-    (c .before .plan-in .result) (c .judged-with .result) (c .before .before .if1 .left) (c .before .plan-in .ensures) (c .judged-with .ensures)
+    read-tasks baseSpeeds (closing (c .before .before .before)) (c .before .before .if1 .left) (c .before .plan-in .ensures) (c .judged-with .ensures)
 
 pub read-counted-spec : {M : Type 1} → statement M
 read-counted-spec =

@@ -1,13 +1,15 @@
-use mathlib.Core.Path.{_≡_}
-use lib.ListN.{length}
-use Rattle.arith.proofs.Loops.{length-mapped}
-use Rattle.plan_block.proofs.Codec.{bit-past, bit-period, bit-worst}
 use borrow.Author.Needs.{needs}
+use Rattle.arith.proofs.Loops.{length-mapped}
+use Rattle.plan_block.proofs.Codec.{Held, InTask, bit-past, bit-period, bit-worst}
 use Rattle.plan_block.proofs.task_bit.Statement.{statement}
 use Rattle.plan_block.proofs.task_bit.Tie as tie
 
-size : (c : tie.Start) → length (c .args .t1 .tasks) ≡ 16
-size c = search (length-mapped, needs)
+plan : (c : tie.Start) → Held (c .args .t1)
+plan c = record { places = search (length-mapped, needs); most = c .pre .0 }
+
+-- the bit stands in a task
+in-task : (c : tie.Else1) → InTask (c .before .args .t1) (c .before .args .k)
+in-task c = record { plan = plan (c .before); low = c .before .pre .1; below = c .if1 .left }
 
 sub-i : tie.Need-sub-i
 sub-i c = search needs
@@ -16,7 +18,7 @@ sub-r : tie.Need-sub-r
 sub-r c = search needs
 
 returns : tie.Need-returns
-returns c = bit-past (c .before .args .t1) (c .before .args .k) (size (c .before)) (c .before .pre .0) (c .before .pre .1) (c .if1 .taken)
+returns c = bit-past (plan (c .before)) (c .before .pre .1) (c .if1 .taken)
 
 mul-t : tie.Need-mul-t
 mul-t c = search needs
@@ -31,9 +33,7 @@ bit-of-requires : tie.Need-bit-of-requires
 bit-of-requires c κs = search needs
 
 returns-2 : tie.Need-returns-2
-returns-2 c =
-    bit-period (c .before .before .before .before .args .t1) (c .before .before .before .before .args .k) (size (c .before .before .before .before)) (c .before .before .before .before .pre .0) (c .before .before .before .before .pre .1) (c .before .before .before .if1 .left)
-    (c .bit-of .result) (c .before .if2 .taken) (c .bit-of .ensures)
+returns-2 c = bit-period (in-task (c .before .before .before)) (c .before .if2 .taken) (c .bit-of .ensures)
 
 sub-bit-of-2 : tie.Need-sub-bit-of-2
 sub-bit-of-2 c = search needs
@@ -42,9 +42,7 @@ bit-of-requires-2 : tie.Need-bit-of-requires-2
 bit-of-requires-2 c κs = search needs
 
 returns-3 : tie.Need-returns-3
-returns-3 c =
-    bit-worst (c .before .before .before .before .args .t1) (c .before .before .before .before .args .k) (size (c .before .before .before .before)) (c .before .before .before .before .pre .0) (c .before .before .before .before .pre .1) (c .before .before .before .if1 .left)
-    (c .bit-of2 .result) (c .before .if2 .left) (c .bit-of2 .ensures)
+returns-3 c = bit-worst (in-task (c .before .before .before)) (c .before .if2 .left) (c .bit-of2 .ensures)
 
 pub task-bit-spec : {M : Type 1} → statement M
 task-bit-spec =

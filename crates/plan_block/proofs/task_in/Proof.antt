@@ -24,7 +24,8 @@ bits-at-requires-2 c κs = search needs
 
 returns : tie.Need-returns
 returns c =
-    task-read (unpacked (c .before .before .before .args .block .now)) (c .before .before .before .args .i) (c .before .bits-at .result) (c .bits-at2 .result) (c .before .bits-at .ensures) (c .bits-at2 .ensures)
+    let s = c .before .before .before in
+    task-read (unpacked (s .args .block .now)) (s .args .i) (c .before .bits-at .ensures) (c .bits-at2 .ensures)
 
 pub task-in-spec : {M : Type 1} → statement M
 task-in-spec =

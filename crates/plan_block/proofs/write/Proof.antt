@@ -1,25 +1,44 @@
-use Prim.Native.Nat.{ℕ, _<_}
-use mathlib.Core.Path.{_≡_, sym, subst, _∙_}
-use lib.ListN.{length}
-use Rattle.plan.specs.Levels.{baseSpeeds}
-use Rattle.plan.specs.Blocks.{tasksOf, planBlock}
-use Rattle.arith.proofs.Loops.{length-mapped}
-use Rattle.plan_block.proofs.Codec.{planBlock-length, wrote-low, wrote-high, wrote-refused, wrote-short, wrote-block}
+use Prim.Native.Nat.{ℕ}
+use mathlib.Core.Path.{sym, _∙_}
+use mathlib.Core.List.{List}
 use borrow.Author.Needs.{needs}
+use Rattle.plan.specs.Levels.{baseSpeeds}
+use Rattle.arith.proofs.Loops.{length-mapped}
+use Rattle.plan_block.proofs.Codec.{Held, Rated, Wanted, planBlock-length, rated-fine, wrote-low, wrote-high, wrote-refused, wrote-short, wrote-block}
 use Rattle.plan_block.proofs.write.Statement.{statement}
 use Rattle.plan_block.proofs.write.Tie as tie
 
-size : (c : tie.Start) → length (c .args .p .tasks) ≡ 16
-size c = search (length-mapped, needs)
+abbrev start : tie.Else2 → tie.Start
+start c = c .before .before .before
 
-wanted : (c : tie.After-block-length) → c .block-length .result ≡ length (planBlock (tasksOf (c .before .before .before .before .before .before .before .args .p)))
-wanted c = c .block-length .ensures ∙ sym (planBlock-length (c .before .before .before .before .before .before .before .args .p) (size (c .before .before .before .before .before .before .before)) (c .before .before .before .before .if2 .left))
+plan : (c : tie.Else2) → Held (start c .args .p)
+plan c = record { places = search (length-mapped, needs); most = c .if2 .left }
+
+-- the plan's tasks are judged
+rated : (c : tie.After-verdict-of) → Rated baseSpeeds (start (c .before) .args .p) (c .verdict-of .result)
+rated c = record { low = c .before .before .if1 .left; high = c .before .if2 .left; verdict-is = c .verdict-of .ensures }
+
+-- they are admitted
+abbrev judged : tie.After-block-length → tie.After-verdict-of
+judged c = c .before .before .before
+
+abbrev buffer : tie.After-block-length → List ℕ
+buffer c = start (judged c .before) .args .buffer .now
+
+wanted : (c : tie.After-block-length) → Wanted baseSpeeds (start (judged c .before) .args .p) (c .block-length .result)
+wanted c =
+    record {
+      fine = rated-fine (rated (judged c)) (c .before .enum-told .given .1);
+      wanted = c .block-length .ensures ∙ sym (planBlock-length (plan (judged c .before)));
+    }
 
 returns : tie.Need-returns
 returns c = wrote-low baseSpeeds (c .before .before .args .p) (c .before .before .args .buffer .now) (c .if1 .taken)
 
 returns-2 : tie.Need-returns-2
-returns-2 c = wrote-high baseSpeeds (c .before .before .before .args .p) (c .before .before .before .args .buffer .now) (c .if2 .taken)
+returns-2 c =
+    let s = c .before .before .before in
+    wrote-high baseSpeeds (s .args .p) (s .args .buffer .now) (c .if2 .taken)
 
 verdict-of-requires : tie.Need-verdict-of-requires
 verdict-of-requires c κs = search needs
@@ -29,8 +48,8 @@ enum-known-v c = search needs
 
 returns-3 : tie.Need-returns-3
 returns-3 c =
-    wrote-refused baseSpeeds (c .before .before .before .before .before .before .before .args .p) (c .before .before .before .before .before .before .before .args .buffer .now) (c .before .before .before .before .before .if1 .left) (c .before .before .before .before .if2 .left)
-    (c .before .before .before .verdict-of .result) (c .before .before .before .verdict-of .ensures) (c .before .v .given .0 .0) (c .before .v .given .1)
+    let v = c .before .before .before in
+    wrote-refused (rated v) (start (v .before) .args .buffer .now) (c .before .v .given .1)
 
 enum-told : tie.Need-enum-told
 enum-told c = search needs
@@ -39,10 +58,7 @@ block-length-requires : tie.Need-block-length-requires
 block-length-requires c κs = search needs
 
 returns-4 : tie.Need-returns-4
-returns-4 c =
-    wrote-short baseSpeeds (c .before .before .before .before .before .before .before .before .args .p) (c .before .before .before .before .before .before .before .before .args .buffer .now) (c .before .before .before .before .before .before .if1 .left) (c .before .before .before .before .before .if2 .left)
-    (c .before .before .before .before .verdict-of .result) (c .before .before .before .before .verdict-of .ensures) (c .before .before .enum-told .given .0 .0) (c .before .before .enum-told .given .0 .1 .0) (c .before .before .enum-told .given .1)
-    (subst (λ (n : ℕ). length (c .before .before .before .before .before .before .before .before .args .buffer .now) < n) (wanted (c .before)) (c .if3 .taken))
+returns-4 c = wrote-short (wanted (c .before)) (buffer (c .before)) (c .if3 .taken)
 
 put-block-requires : tie.Need-put-block-requires
 put-block-requires c κs = search needs
@@ -52,9 +68,8 @@ same-length c = search needs
 
 returns-5 : tie.Need-returns-5
 returns-5 c =
-    wrote-block baseSpeeds (c .before .before .before .before .before .before .before .before .before .before .before .before .args .p) (c .before .before .before .before .before .before .before .before .before .before .before .before .args .buffer .now) (c .before .before .before .before .before .before .before .before .before .before .if1 .left) (c .before .before .before .before .before .before .before .before .before .if2 .left)
-    (c .before .before .before .before .before .before .before .before .verdict-of .result) (c .before .before .before .before .before .before .before .before .verdict-of .ensures) (c .before .before .before .before .before .before .enum-told .given .0 .0) (c .before .before .before .before .before .before .enum-told .given .0 .1 .0) (c .before .before .before .before .before .before .enum-told .given .1)
-    (c .before .before .before .before .before .block-length .result) (c .before .before .put-block .last .1 .0) (wanted (c .before .before .before .before .before)) (c .before .before .before .before .if3 .left) (c .before .before .put-block .ensures)
+    let fits = c .before .before .before .before in
+    wrote-block (wanted (fits .before)) (buffer (fits .before)) (fits .if3 .left) (c .before .before .put-block .ensures)
 
 pub write-spec : {M : Type 1} → statement M
 write-spec =
