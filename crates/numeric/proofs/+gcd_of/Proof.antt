@@ -32,7 +32,9 @@ gcd-of-rem-gcd-of t c = omega arith
 gcd-of-gcd-of-requires :
     (t : ℕ) →
     gcd-of-lts.Need-gcd-of-requires (gcd-of-below t, gcd-of.Post) (gcd-of-at t) gcd-of.Post
-gcd-of-gcd-of-requires t c κs = (subst (λ (m : ℕ). c .before .args .a % c .before .args .b < m) (c .before .pre .0) (mod-lt (c .before .args .a) (omega arith)), tt)
+gcd-of-gcd-of-requires t c κs =
+    let s = c .before in
+    (subst (λ (m : ℕ). s .args .a % s .args .b < m) (s .pre .0) (mod-lt (s .args .a) (omega arith)), tt)
 
 gcd-of-returns-2 :
     (t : ℕ) → gcd-of-lts.Need-returns-2 (gcd-of-below t, gcd-of.Post) (gcd-of-at t) gcd-of.Post

@@ -4,9 +4,6 @@ use lib.Pow.{pow-pos, pow-mono}
 use borrow.Author.Needs.{needs}
 use Rattle.numeric.proofs.bits_at.Statement.{statement}
 use Rattle.numeric.proofs.bits_at.Tie as tie
-use Rattle.numeric.proofs.bits_at.Reads as reads
-use Rattle.numeric.proofs.bits_at.Lts as lts
-use Rattle.numeric.proofs.get_number.Reads as get-number-reads
 
 add-bytes : tie.Need-add-bytes
 add-bytes c = search needs
@@ -45,10 +42,15 @@ shl-result : tie.Need-shl-result
 shl-result c = search needs
 
 rem-result : tie.Need-rem-result
-rem-result c = omega (arith, pow-pos (c .before .before .args .n), pow-mono {i = c .before .before .args .n} {j = 20} (c .before .before .pre .0))
+rem-result c =
+    let s = c .before .before in
+    omega (arith, pow-pos (s .args .n), pow-mono {i = s .args .n} {j = 20} (s .pre .0))
 
 returns : tie.Need-returns
-returns c = bits-read (c .before .before .args .s .now) (λ k l. omega (arith, c .before .shared-slice-known .given k)) (c .before .before .args .at) (c .before .before .args .n) (c .get-number .result) (c .before .before .pre .0) (c .before .before .pre .2) (c .get-number .ensures)
+returns c =
+    let s = c .before .before in
+    bits-read (s .args .s .now) (λ k l. omega (arith, c .before .shared-slice-known .given k)) (s .args .at) (s .args .n)
+    (c .get-number .result) (s .pre .0) (s .pre .2) (c .get-number .ensures)
 
 pub bits-at-spec : {M : Type 1} → statement M
 bits-at-spec =

@@ -8,8 +8,6 @@ use Rattle.arith.specs.Digits.{digits}
 use Rattle.arith.proofs.Stores.{digits-stored}
 use Rattle.numeric.proofs.put_number.Statement.{statement}
 use Rattle.numeric.proofs.put_number.Tie as tie
-use Rattle.numeric.proofs.put_number.Reads as reads
-use Rattle.numeric.proofs.put_number.Lts as lts
 
 abbrev Inv-loop : tie.InvT-loop
 Inv-loop s₀ at n x i₀ rest₀ s i rest = (i ≤ n) × (length s ≡ length s₀) × (sets s at (digits 256 i rest) ≡ sets s₀ at (digits 256 n x))
@@ -36,19 +34,21 @@ loop-less : tie.Need-loop-less Inv-loop μ-loop
 loop-less c = omega arith
 
 loop-again : tie.Need-loop-again Inv-loop μ-loop
-loop-again c = (
-  omega arith,
-  simp length-set (c .before .loop .inv .1),
-  sym (digits-stored 256 (c .before .loop .i) (c .before .before .args .at) (c .before .loop .rest) (c .before .loop .s) (omega arith)) ∙ c .before .loop .inv .2,
-)
+loop-again c =
+    let turn = c .before in (
+      omega arith,
+      simp length-set (turn .loop .inv .1),
+      sym (digits-stored 256 (turn .loop .i) (turn .before .args .at) (turn .loop .rest) (turn .loop .s) (omega arith)) ∙ turn .loop .inv .2,
+    )
 
 same-length : tie.Need-same-length Inv-loop μ-loop
 same-length c = c .before .loop .inv .1
 
 returns : tie.Need-returns Inv-loop μ-loop
 returns c =
-    let done : c .before .loop .i ≡ 0 = omega arith in
-    ap (λ (k : ℕ). sets (c .before .loop .s) (c .before .before .args .at) (digits 256 k (c .before .loop .rest))) (sym done) ∙ c .before .loop .inv .2
+    let turn = c .before in
+    let done : turn .loop .i ≡ 0 = omega arith in
+    ap (λ (k : ℕ). sets (turn .loop .s) (turn .before .args .at) (digits 256 k (turn .loop .rest))) (sym done) ∙ turn .loop .inv .2
 
 pub put-number-spec : {M : Type 1} → statement M
 put-number-spec =
