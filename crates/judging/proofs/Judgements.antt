@@ -48,36 +48,39 @@ worst-low t a b h = simp (le-leb 1 (t .period) a, le-leb (t .period) 65535 b, lt
 pub worst-high : (t : Task) → 1 ≤ t .period → t .period ≤ 65535 → 1 ≤ t .worst → leb (t .worst) 1048575 ≡ inRange t
 worst-high t a b h = simp (le-leb 1 (t .period) a, le-leb (t .period) 65535 b, le-leb 1 (t .worst) h)
 
+-- a plan as the code holds it
+pub record Held (p : Plan) : Type 0 where
+  pub places : length (p .tasks) ≡ 16
+  pub most : p .count ≤ 16
+
+pub listed : {p : Plan} → Held p → p .count ≤ length (p .tasks)
+listed h = omega arith
+
 -- the loop that tests the ranges: the tasks before i are in range
 pub record Scanned (p : Plan) (i : ℕ) : Type 0 where
   pub within : i ≤ p .count
   pub rest : every inRange (drop i (tasksOf p)) ≡ every inRange (tasksOf p)
 
-module _ {p : Plan} {i : ℕ} (le : p .count ≤ length (p .tasks)) (at : Scanned p i) where
+module _ {p : Plan} {i : ℕ} (held : Held p) (at : Scanned p i) where
   pub scanned-more : i < p .count → inRange (getD (p .tasks) i noTask) ≡ true → Scanned p (i + 1)
   scanned-more h t =
-      record { within = omega arith; rest = every-again inRange (p .tasks) (p .count) noTask le i h (at .rest) t }
+      record { within = omega arith; rest = every-again inRange (p .tasks) (p .count) noTask (listed held) i h (at .rest) t }
 
   pub scanned-not : i < p .count → inRange (getD (p .tasks) i noTask) ≡ false → false ≡ every inRange (tasksOf p)
-  scanned-not h t = every-not inRange (p .tasks) (p .count) noTask le i h (at .rest) t
+  scanned-not h t = every-not inRange (p .tasks) (p .count) noTask (listed held) i h (at .rest) t
 
   pub scanned-all : p .count ≤ i → true ≡ every inRange (tasksOf p)
-  scanned-all h = every-end inRange (p .tasks) (p .count) noTask le i (omega arith) (at .rest)
+  scanned-all h = every-end inRange (p .tasks) (p .count) noTask (listed held) i (omega arith) (at .rest)
 
--- a plan whose ranges are tested, as judging holds it
+-- a plan whose tasks are in range
 pub record Ranged (p : Plan) : Type 0 where
-  pub places : length (p .tasks) ≡ 16
-  pub most : p .count ≤ 16
+  pub held : Held p
   pub ranges : every inRange (tasksOf p) ≡ true
 
-module _ {p : Plan} (plan : Ranged p) where
-  listed : p .count ≤ length (p .tasks)
-  listed = omega arith
-
-  pub task-at : (i : ℕ) → i < p .count → InRange (getD (p .tasks) i noTask)
-  task-at i h =
-      in-range (getD (p .tasks) i noTask)
-      (every-taken inRange (p .tasks) (p .count) noTask listed (plan .ranges) i h)
+pub task-at : {p : Plan} → Ranged p → (i : ℕ) → i < p .count → InRange (getD (p .tasks) i noTask)
+task-at {p} plan i h =
+    in-range (getD (p .tasks) i noTask)
+    (every-taken inRange (p .tasks) (p .count) noTask (listed (plan .held)) (plan .ranges) i h)
 
 -- the loop that takes the periods in counts down: h is the hyperperiod of the tasks from i on
 pub record Spanned (p : Plan) (i h : ℕ) : Type 0 where
@@ -89,7 +92,7 @@ pub spanned-none : {p : Plan} → Ranged p → Spanned p (p .count) 1
 spanned-none {p} plan =
     record {
       within = omega arith;
-      span = ap hyperperiod (sym (rest-end (p .tasks) (p .count) (listed plan)));
+      span = ap hyperperiod (sym (rest-end (p .tasks) (p .count) (listed (plan .held))));
       small = omega arith;
     }
 
@@ -111,7 +114,7 @@ module _ {p : Plan} {i h m : ℕ} (w : Widened p i h m) where
       w .multiple
       ∙ ap (λ (x : ℕ). lcm (t .period) x) (w .at .span)
       ∙ sym (ap hyperperiod
-      (rest-cons (p .tasks) (p .count) (i - 1) noTask (listed (w .plan)) (omega arith)
+      (rest-cons (p .tasks) (p .count) (i - 1) noTask (listed (w .plan .held)) (omega arith)
       ∙ ap (λ (k : ℕ). t ∷ drop k (tasksOf p)) e))
 
   pub spanned-more : m ≤ 1000000 → Spanned p (i - 1) m
@@ -204,16 +207,16 @@ module _ {p : Plan} {span : ℕ} {jobs : List ℕ} (c : Counted p span jobs) whe
 
   -- the demand of them all at a speed: the speed admits the tasks, or it does not
   module _ (speed : ℕ) {total : ℕ} (e : total ≡ sumTo (p .count) (timeOf speed p jobs)) where
-    demanded : total ≡ demandWithin span speed (tasksOf p)
-    demanded =
+    pub demand-all : total ≡ demandWithin span speed (tasksOf p)
+    demand-all =
         let time : ℕ → ℕ = λ i. need speed (getD (p .tasks) i noTask .worst) in
         e
         ∙ sumTo-eq (p .count) (timeOf speed p jobs) (λ i. time i * jobsIn span p i) (λ i h. ap (λ (n : ℕ). time i * n) (counted-at i h))
-        ∙ sumOf-taken (λ (t : Task). need speed (t .worst) * (span / t .period)) (p .tasks) noTask (p .count) (listed (c .plan))
+        ∙ sumOf-taken (λ (t : Task). need speed (t .worst) * (span / t .period)) (p .tasks) noTask (p .count) (listed (c .plan .held))
 
     compared : leb total span ≡ admits (tasksOf p) speed
     compared =
-        ap (λ (x : ℕ). leb x span) demanded
+        ap (λ (x : ℕ). leb x span) demand-all
         ∙ ap (λ (x : ℕ). leb (demandWithin x speed (tasksOf p)) x) (c .span-is)
 
     pub admitted : total ≤ span → admits (tasksOf p) speed ≡ true
@@ -235,7 +238,7 @@ module _ {p : Plan} {span : ℕ} {jobs : List ℕ} (c : Counted p span jobs) whe
       covers : (k : ℕ) → k < 8 → admits (tasksOf p) (getD baseSpeeds k 0) ≡ true → does work span (getD baseSpeeds k 0) ≡ true
       covers k h a =
           let speed : ℕ = getD baseSpeeds k 0 in
-          le-leb work (span * speed) (admits-covers (tasksOf p) span work speed (baseRising .positive k h) (c .span-is) (demanded 1 e) a)
+          le-leb work (span * speed) (admits-covers (tasksOf p) span work speed (baseRising .positive k h) (c .span-is) (demand-all 1 e) a)
 
 -- the loop that fills a plan with a list's first count tasks
 pub record Filled (l : List Task) (count : ℕ) (q : Plan) (i : ℕ) : Type 0 where

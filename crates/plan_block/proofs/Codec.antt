@@ -25,7 +25,7 @@ use Rattle.plan.specs.Questions.{countQuestion, taskQuestions, judging, reading
 use Rattle.arith.specs.Asking.{Question, ask, firstNo}
 use Rattle.plan.specs.Answers.{answered, beside, judgedBy, readBlock, writeNumber, writtenBy, storedBy, writePlan, writeBuffer}
 use Rattle.plan.specs.Laws.{Bytes}
-use Rattle.judging.proofs.Judgements.{Filled, filled-all, count-low, count-high, count-good}
+use Rattle.judging.proofs.Judgements.{Held, Filled, filled-all, count-low, count-high, count-good}
 use Rattle.plan.proofs.Facts.{FineBlock, fine-block, list-yes, length-tasksOf}
 use Rattle.arith.proofs.QuestionLaws.{within-true, ask-no, ask-yes, no-before, within-over, within-under, yes-before, yes-of}
 use Rattle.plan.proofs.BlockBits.{planBits-edition, planBits-count, planBits-period, planBits-worst, planBits-past}
@@ -174,12 +174,7 @@ module _ (speeds : List ℕ) {block : List ℕ} {count x : ℕ} (c : Closing blo
       ∙ ap (λ (l : List Task). judgedBy (firstNo (taskQuestions speeds l)) speeds l) ts
       ∙ sym (ap (λ (m : ℕ). judgedBy m speeds (tasksIn block)) n)
 
--- a plan as the code holds it
-pub record Held (p : Plan) : Type 0 where
-  pub places : length (p .tasks) ≡ 16
-  pub most : p .count ≤ 16
-
--- its count, its block's length and the block's byte j
+-- a plan's count, its block's length and the block's byte j
 module _ {p : Plan} (plan : Held p) where
   count-is : length (tasksOf p) ≡ p .count
   count-is = length-tasksOf p (plan .places) (plan .most)

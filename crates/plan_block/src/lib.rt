@@ -184,8 +184,12 @@ pub fn write(p: Plan, buffer: &mut [u8]) -> Written
 
 // A block read and written again: the very same bytes, where the reading accepts it and there is room.
 pub fn copy(block: &[u8], buffer: &mut [u8]) -> Written
-    ensures { λ r. ⌜ r ≡ writtenBy (firstNo (reading baseSpeeds (now (block .entry)) ++ (roomQuestion (length (now (block .entry))) (length (now (buffer .entry))) ∷ []))) (now (block .entry)) ⌝ }
-    ensures { λ _. ⌜ now (buffer .exit) ≡ storedBy (firstNo (reading baseSpeeds (now (block .entry)) ++ (roomQuestion (length (now (block .entry))) (length (now (buffer .entry))) ∷ []))) (now (block .entry)) (now (buffer .entry)) ⌝ }
+    ensures { λ r. ⌜ r ≡ writtenBy
+        (firstNo (reading baseSpeeds (now (block .entry)) ++ (roomQuestion (length (now (block .entry))) (length (now (buffer .entry))) ∷ [])))
+        (now (block .entry)) ⌝ }
+    ensures { λ _. ⌜ now (buffer .exit) ≡ storedBy
+        (firstNo (reading baseSpeeds (now (block .entry)) ++ (roomQuestion (length (now (block .entry))) (length (now (buffer .entry))) ∷ [])))
+        (now (block .entry)) (now (buffer .entry)) ⌝ }
 {
     let j = read(block);
     let v = j.verdict;

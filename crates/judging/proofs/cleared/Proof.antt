@@ -1,11 +1,10 @@
-use Prim.Native.Nat.{_-_, _≤_}
-use mathlib.Core.Path.{_≡_, refl, ap}
+use Prim.Native.Nat.{_-_}
+use mathlib.Core.Path.{refl, ap}
 use native.Mathlib.Omega.{arith}
 use borrow.Author.Needs.{needs}
-use lib.ListN.{length}
 use Rattle.plan.specs.declared.Plan.{Plan}
 use Rattle.arith.proofs.Loops.{length-mapped}
-use Rattle.judging.proofs.Judgements.{Filled, filled-more, filled-all}
+use Rattle.judging.proofs.Judgements.{Held, listed, Filled, filled-more, filled-all}
 use Rattle.judging.proofs.cleared.Statement.{statement}
 use Rattle.judging.proofs.cleared.Tie as tie
 
@@ -15,12 +14,8 @@ Inv-loop p count q₀ i₀ q i = Filled (p .tasks) count q i
 abbrev μ-loop : tie.MeasureT-loop
 μ-loop p count q₀ i₀ q i = count - i
 
-size : (c : tie.Start Inv-loop μ-loop) → length (c .args .t1 .tasks) ≡ 16
-size c = search (length-mapped, needs)
-
--- the plan has so many tasks
-listed : (c : tie.At-loop Inv-loop μ-loop) → c .before .before .args .t1 .count ≤ length (c .before .before .args .t1 .tasks)
-listed c = omega (arith, size (c .before .before))
+plan : (c : tie.Start Inv-loop μ-loop) → Held (c .args .t1)
+plan c = record { places = search (length-mapped, needs); most = c .pre }
 
 empty-plan-requires : tie.Need-empty-plan-requires Inv-loop μ-loop
 empty-plan-requires c κs = search needs
@@ -47,10 +42,12 @@ loop-less : tie.Need-loop-less Inv-loop μ-loop
 loop-less c = omega arith
 
 loop-again : tie.Need-loop-again Inv-loop μ-loop
-loop-again c = filled-more (c .before .before .loop .inv) (listed (c .before .before)) (omega arith) (omega arith) refl
+loop-again c =
+    let turn = c .before .before in
+    filled-more (turn .loop .inv) (listed (plan (turn .before .before))) (omega arith) (omega arith) refl
 
 returns : tie.Need-returns Inv-loop μ-loop
-returns c = filled-all (c .before .loop .inv) (listed (c .before)) (omega arith)
+returns c = filled-all (c .before .loop .inv) (listed (plan (c .before .before .before))) (omega arith)
 
 pub cleared-spec : {M : Type 1} → statement M
 cleared-spec =

@@ -16,7 +16,7 @@ abbrev μ-loop : tie.MeasureT-loop
 asked : (c : tie.Start Inv-loop μ-loop) → Asked (c .args .t1) (c .args .jobs .now) (c .args .speed)
 asked c =
     record {
-      plan = record { places = search (length-mapped, needs); most = c .pre .0 .0; ranges = c .pre .0 .1 };
+      plan = record { held = record { places = search (length-mapped, needs); most = c .pre .0 .0 }; ranges = c .pre .0 .1 };
       positive = c .pre .0 .2;
       few = c .pre .1;
     }

@@ -13,7 +13,7 @@ abbrev μ-loop : tie.MeasureT-loop
 μ-loop p i₀ h₀ i h = i
 
 plan : (c : tie.Start Inv-loop μ-loop) → Ranged (c .args .t1)
-plan c = record { places = search (length-mapped, needs); most = c .pre .0; ranges = c .pre .1 }
+plan c = record { held = record { places = search (length-mapped, needs); most = c .pre .0 }; ranges = c .pre .1 }
 
 -- this turn's task taken in
 abbrev turn : tie.After-lcm-of Inv-loop μ-loop → tie.At-loop Inv-loop μ-loop

@@ -1,11 +1,10 @@
-use Prim.Native.Nat.{_-_, _≤_}
-use mathlib.Core.Path.{_≡_, refl, sym, _∙_}
+use Prim.Native.Nat.{_-_}
+use mathlib.Core.Path.{refl, sym, _∙_}
 use native.Mathlib.Omega.{arith}
 use borrow.Author.Needs.{needs}
 use borrow.Author.Tests.{not-true, not-false}
-use lib.ListN.{length}
 use Rattle.arith.proofs.Loops.{length-mapped}
-use Rattle.judging.proofs.Judgements.{Scanned, scanned-more, scanned-not, scanned-all}
+use Rattle.judging.proofs.Judgements.{Held, Scanned, scanned-more, scanned-not, scanned-all}
 use Rattle.judging.proofs.in_range.Statement.{statement}
 use Rattle.judging.proofs.in_range.Tie as tie
 
@@ -15,12 +14,8 @@ Inv-loop p count i₀ i = Scanned p i
 abbrev μ-loop : tie.MeasureT-loop
 μ-loop p count i₀ i = count - i
 
-size : (c : tie.Start Inv-loop μ-loop) → length (c .args .t1 .tasks) ≡ 16
-size c = search (length-mapped, needs)
-
--- the plan has so many tasks
-listed : (c : tie.At-loop Inv-loop μ-loop) → c .before .args .t1 .count ≤ length (c .before .args .t1 .tasks)
-listed c = omega (arith, size (c .before))
+plan : (c : tie.Start Inv-loop μ-loop) → Held (c .args .t1)
+plan c = record { places = search (length-mapped, needs); most = c .pre }
 
 abbrev turn : tie.After-task-in-range Inv-loop μ-loop → tie.At-loop Inv-loop μ-loop
 turn c = c .before .before .before
@@ -39,7 +34,7 @@ task-in-range-requires c κs = search needs
 
 returns : tie.Need-returns Inv-loop μ-loop
 returns c =
-    scanned-not (listed (turn (c .before))) (turn (c .before) .loop .inv) (omega arith)
+    scanned-not (plan (turn (c .before) .before)) (turn (c .before) .loop .inv) (omega arith)
     (sym (c .before .task-in-range .ensures) ∙ not-true _ (c .if1 .taken))
 
 add-i : tie.Need-add-i Inv-loop μ-loop
@@ -50,11 +45,11 @@ loop-less c = omega arith
 
 loop-again : tie.Need-loop-again Inv-loop μ-loop
 loop-again c =
-    scanned-more (listed (turn (c .before))) (turn (c .before) .loop .inv) (omega arith)
+    scanned-more (plan (turn (c .before) .before)) (turn (c .before) .loop .inv) (omega arith)
     (sym (c .before .task-in-range .ensures) ∙ not-false _ (c .if1 .left))
 
 returns-2 : tie.Need-returns-2 Inv-loop μ-loop
-returns-2 c = scanned-all (listed (c .before)) (c .before .loop .inv) (omega arith)
+returns-2 c = scanned-all (plan (c .before .before)) (c .before .loop .inv) (omega arith)
 
 pub in-range-spec : {M : Type 1} → statement M
 in-range-spec =

@@ -17,7 +17,7 @@ abbrev μ-loop : tie.MeasureT-loop
 μ-loop span p count jobs₀ i₀ jobs i = count - i
 
 plan : (c : tie.Start Inv-loop μ-loop) → Ranged (c .args .t1)
-plan c = record { places = search (length-mapped, needs); most = c .pre .0; ranges = c .pre .1 }
+plan c = record { held = record { places = search (length-mapped, needs); most = c .pre .0 }; ranges = c .pre .1 }
 
 -- the jobs of each task
 abbrev jobs : tie.Start Inv-loop μ-loop → ℕ → ℕ

@@ -22,7 +22,7 @@ abbrev μ-loop : tie.MeasureT-loop
 counted : (c : tie.After-jobs-within Inv-loop μ-loop) → Counted (c .before .args .p) (c .before .args .span) (c .jobs-within .result)
 counted c =
     record {
-      plan = record { places = search (length-mapped, needs); most = c .before .pre .0 .0; ranges = c .before .pre .0 .1 };
+      plan = record { held = record { places = search (length-mapped, needs); most = c .before .pre .0 .0 }; ranges = c .before .pre .0 .1 };
       span-is = c .before .pre .1 .0;
       small = c .before .pre .1 .1;
       jobs-are = c .jobs-within .ensures;
@@ -48,7 +48,7 @@ jobs-within-requires c κs = c .pre .0
 demand-requires : tie.Need-demand-requires Inv-loop μ-loop
 demand-requires c κs =
     let n = counted (c .before) in
-    ((n .plan .most, n .plan .ranges, omega arith), counted-few n)
+    ((n .plan .held .most, n .plan .ranges, omega arith), counted-few n)
 
 slowest-for-requires : tie.Need-slowest-for-requires Inv-loop μ-loop
 slowest-for-requires c κs = search needs
@@ -63,7 +63,7 @@ demand-requires-2 : tie.Need-demand-requires-2 Inv-loop μ-loop
 demand-requires-2 c κs =
     let n = counted (jobs (turn (c .before))) in
     let t = trying (c .before) in
-    ((n .plan .most, n .plan .ranges, subst (λ (s : ℕ). 0 < s) (sym (t .speed-is)) (baseRising .positive _ (t .below))), counted-few n)
+    ((n .plan .held .most, n .plan .ranges, subst (λ (s : ℕ). 0 < s) (sym (t .speed-is)) (baseRising .positive _ (t .below))), counted-few n)
 
 returns : tie.Need-returns Inv-loop μ-loop
 returns c =

@@ -1,7 +1,8 @@
 use borrow.Author.Needs.{needs}
 use Rattle.plan.specs.Blocks.{tasksOf}
 use Rattle.arith.proofs.Loops.{length-mapped}
-use Rattle.plan_block.proofs.Codec.{Held, bit-edition, bit-count}
+use Rattle.judging.proofs.Judgements.{Held}
+use Rattle.plan_block.proofs.Codec.{bit-edition, bit-count}
 use Rattle.plan_block.proofs.plan_bit.Statement.{statement}
 use Rattle.plan_block.proofs.plan_bit.Tie as tie
 

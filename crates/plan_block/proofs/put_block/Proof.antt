@@ -6,7 +6,8 @@ use lib.ListN.{length}
 use Rattle.plan.specs.Blocks.{tasksOf, planBlock}
 use Rattle.arith.proofs.Loops.{length-mapped}
 use Rattle.plan.proofs.BlockBits.{blockLength-most}
-use Rattle.plan_block.proofs.Codec.{Held, Stored, planBlock-length, planBlock-byte, stored-none, stored-more, stored-all}
+use Rattle.judging.proofs.Judgements.{Held}
+use Rattle.plan_block.proofs.Codec.{Stored, planBlock-length, planBlock-byte, stored-none, stored-more, stored-all}
 use Rattle.plan_block.proofs.put_block.Statement.{statement}
 use Rattle.plan_block.proofs.put_block.Tie as tie
 

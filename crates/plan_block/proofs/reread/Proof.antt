@@ -39,6 +39,11 @@ done-write c = c .before .before .before .before .before
 block : (c : tie.After-known-told2) → Rewritten baseSpeeds (start (done-write c) .args .p) (buffer (done-write c)) (done-write c .write .last .1 .0) (c .before .w2 .given .0 .0)
 block c = rewritten (done-write c .write .ensures .0) (c .before .w2 .given .1) (done-write c .write .ensures .1)
 
+returns-2 : tie.Need-returns-2
+returns-2 c =
+    let w = done-write (c .before .before) in
+    (reads-back (block (c .before .before)) (size (start w)) (c .read .ensures), w .write .ensures .1)
+
 write-requires : tie.Need-write-requires
 write-requires c κs = search needs
 
@@ -71,11 +76,6 @@ returns c =
 
 same-length-2 : tie.Need-same-length-2
 same-length-2 c = search needs
-
-returns-2 : tie.Need-returns-2
-returns-2 c =
-    let w = done-write (c .before .before) in
-    (reads-back (block (c .before .before)) (size (start w)) (c .read .ensures), w .write .ensures .1)
 
 pub reread-spec : {M : Type 1} → statement M
 reread-spec =

@@ -1,6 +1,7 @@
 use borrow.Author.Needs.{needs}
 use Rattle.arith.proofs.Loops.{length-mapped}
-use Rattle.plan_block.proofs.Codec.{Held, InTask, bit-past, bit-period, bit-worst}
+use Rattle.judging.proofs.Judgements.{Held}
+use Rattle.plan_block.proofs.Codec.{InTask, bit-past, bit-period, bit-worst}
 use Rattle.plan_block.proofs.task_bit.Statement.{statement}
 use Rattle.plan_block.proofs.task_bit.Tie as tie
 

@@ -4,7 +4,8 @@ use mathlib.Core.List.{List}
 use borrow.Author.Needs.{needs}
 use Rattle.plan.specs.Levels.{baseSpeeds}
 use Rattle.arith.proofs.Loops.{length-mapped}
-use Rattle.plan_block.proofs.Codec.{Held, Rated, Wanted, planBlock-length, rated-fine, wrote-low, wrote-high, wrote-refused, wrote-short, wrote-block}
+use Rattle.judging.proofs.Judgements.{Held}
+use Rattle.plan_block.proofs.Codec.{Rated, Wanted, planBlock-length, rated-fine, wrote-low, wrote-high, wrote-refused, wrote-short, wrote-block}
 use Rattle.plan_block.proofs.write.Statement.{statement}
 use Rattle.plan_block.proofs.write.Tie as tie
 
