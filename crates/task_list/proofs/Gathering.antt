@@ -1,25 +1,19 @@
 -- A list of tasks put into a plan, one after the other.
 -- Assumes nothing.
-use Prim.Native.Nat.{ℕ, zero, suc, _+_, _-_, _*_, _^_, _<_, _≤_, min}
+use Prim.Native.Nat.{ℕ, suc, _+_, _-_, _*_, _^_, _<_, _≤_, min}
 use mathlib.Core.Path.{_≡_, refl, sym, ap, ap₂, _∙_}
 use mathlib.Core.List.{List, [], _∷_, _++_, append-nil}
 use native.Mathlib.Numerals.{add-one}
 use native.Mathlib.Omega.{arith}
 use native.Mathlib.Decide.{decLe}
 use lib.ListN.{length, set, getD, take, drop, length-set}
-use lib.Seq.{drop-cons, drop-length, take-suc-set, append-snoc}
+use lib.Seq.{drop-cons, drop-length, set-out, take-suc-set, append-snoc}
 use Rattle.plan.specs.declared.Task.{Task}
 use Rattle.plan.specs.declared.Plan.{Plan}
 use Rattle.plan.specs.Blocks.{tasksOf, planOf}
 use Rattle.plan.specs.Answers.{judgedBy, judgedList, judgedPlan}
 use Rattle.task_list.specs.Lists.{putTask, gatheredFrom}
 use Rattle.judging.proofs.Judgements.{count-high}
-
--- past its end a list is not stored into
-set-past {ℓ} : {A : Type ℓ} (l : List A) (i : ℕ) (x : A) → length l ≤ i → set l i x ≡ l
-set-past [] i x h = refl
-set-past (y ∷ l) zero x h = absurd (omega arith)
-set-past (y ∷ l) (suc i) x h = ap (λ m. y ∷ m) (set-past l i x (omega arith))
 
 -- the two ways out of `put`
 pub put-stored : (p : Plan) (t : Task) → p .count < 16 → _≡_ {A = Plan} (record { count = p .count + 1; tasks = set (p .tasks) (p .count) t }) (putTask p t)
@@ -30,7 +24,7 @@ put-stored p t h =
 pub put-counted : (p : Plan) (t : Task) → length (p .tasks) ≡ 16 → 16 ≤ p .count → _≡_ {A = Plan} (record { count = 17; tasks = p .tasks }) (putTask p t)
 put-counted p t size h =
     let e : 17 ≡ min (suc (p .count)) 17 = omega arith in
-    let s : p .tasks ≡ set (p .tasks) (p .count) t = sym (set-past (p .tasks) (p .count) t (omega arith)) in
+    let s : p .tasks ≡ set (p .tasks) (p .count) t = sym (set-out (p .tasks) (p .count) t (omega arith)) in
     λ i. record { count = e i; tasks = s i }
 
 -- ---- the loop of `gathered`

@@ -1,5 +1,6 @@
 -- A function over a lent list of tasks that gathers the list and passes the plan to a covered function: one walk, by hand, for each such function.
--- R is the type of the result and τ its MIR type, f what the covered function makes of a plan, and F what the function makes of the list; g and k are the keys of `gathered` and of the covered function.
+-- R is the type of the result and τ its MIR type, f what the covered function makes of a plan, and F what the function makes of the list;
+-- g and k are the keys of `gathered` and of the covered function.
 -- All that the walk knows of `gathered` and of the covered function is that each meets its contract.
 -- A comment [a; b; …] lists a context from place 0 on. `_k` is local k with a value in it, and `room _k` the same without.
 -- Assumes nothing.
@@ -53,7 +54,10 @@ spelled τ g k = record {
 -- the contracts: of a function over a lent list, as `gathered` itself is, and of one over a plan
 module _ (R : RattleType) where
   abbrev pub listed : Ended
-  listed = record { signature = record { lifetimes = 1; outlives = []; params = SliceRefOf (0 ∷ []) tt (plain (λ _. K.the-row)) (λ _. tt) ∷ []; result = plain (λ _. R) }; kept = (yes, tt) }
+  listed = record {
+    signature = record { lifetimes = 1; outlives = []; params = SliceRefOf (0 ∷ []) tt (plain (λ _. K.the-row)) (λ _. tt) ∷ []; result = plain (λ _. R) };
+    kept = (yes, tt);
+  }
 
   abbrev pub list-clauses : (List Task → R .Denot) → {M : Type 1} (𝓤 : URA M) → Clauses 𝓤 listed
   list-clauses F 𝓤 κs a = record { ghost = Unit {0}; requires = λ _. emp 𝓤; ensures = λ _ r _. fact 𝓤 (r ≡ F (now (a .0))) }
@@ -105,7 +109,9 @@ module _ (R : RattleType) (τ : Ty) (F : List Task → R .Denot) (f : Plan → R
     goes-gathered =
         qed W ((‵ (flft κ q) ⊛ ‵ ftrue) ∷ ‵ (owns (ShrSlice (named 0) κ K.the-row ∷ []) (x, tt) (v ∷ [], tt)) ∷ []) ∵
         move ! (1 ∷ []) $ fsplit ! $ use1 W (‵ Own ⊛ ‵ Own) (shr-slice-copy 𝓤 H A W (named 0) κ K.the-row .twice x (v ∷ [])) $ split ! $
-        move ! (0 ∷ 2 ∷ []) $ fjoin ! $ move ! (2 ∷ 0 ∷ []) $ use2 W (raw (Gathered 𝓤 H A .pre to-gathered)) (qed W ((‵ (flft κ q) ⊛ ‵ ftrue) ∷ ‵ (owns (ShrSlice (named 0) κ K.the-row ∷ []) (x, tt) (v ∷ [], tt)) ∷ []) ∵ join ! $ frame ! $ done !) $ frame ! $ done !
+        move ! (0 ∷ 2 ∷ []) $ fjoin ! $ move ! (2 ∷ 0 ∷ []) $
+        use2 W (raw (Gathered 𝓤 H A .pre to-gathered))
+        (qed W ((‵ (flft κ q) ⊛ ‵ ftrue) ∷ ‵ (owns (ShrSlice (named 0) κ K.the-row ∷ []) (x, tt) (v ∷ [], tt)) ∷ []) ∵ join ! $ frame ! $ done !) $ frame ! $ done !
 
     gathered-said : (p : Plan) → ent 𝓤 (ensured 𝓤 H A (listed P.the-row) (list-clauses P.the-row (gatheredFrom (planOf [])) 𝓤) (κ, tt) (x, tt) tt p) (fact 𝓤 (p ≡ all))
     gathered-said p = exE 𝓤 _ (λ ws. snd∗ 𝓤 (sem 𝓤 H A (lasts (listed P.the-row) (κ, tt) (x, tt) ws)) (fact 𝓤 (p ≡ all)))
@@ -131,18 +137,22 @@ module _ (R : RattleType) (τ : Ty) (F : List Task → R .Denot) (f : Plan → R
         → ent 𝓤 (onEntry 𝓤 H A (listed R .signature) (κ, tt) (q, tt) (x, tt) (v ∷ [], tt)) (WpFn 𝓤 H (𝓣 .C) (𝓣 .Λ) (spelled τ g k) (v ∷ []) Post)
     walk 𝓣 known-gathered known-then is =
         qed W (raw (onEntry 𝓤 H A (listed R .signature) (κ, tt) (q, tt) (x, tt) (v ∷ [], tt)) ∷ []) ∵ enter ! (𝓣 .C) (𝓣 .Λ) (spelled τ g k) (v ∷ []) _ $
-        alloc1 ! (λ l₀. alloc1 ! (λ l₁. alloc1 ! (λ l₂. alloc0 ! $ params1 ! $ pass1 ! (init ! 2 refl (shr-slice-lawful 𝓤 H A W (named 0) κ K.the-row .typed x (v ∷ []) is .0)) $ pass0 ! $
+        alloc1 ! (λ l₀. alloc1 ! (λ l₁. alloc1 ! (λ l₂. alloc0 ! $ params1 ! $
+        pass1 ! (init ! 2 refl (shr-slice-lawful 𝓤 H A W (named 0) κ K.the-row .typed x (v ∷ []) is .0)) $ pass0 ! $
         -- [room _2; -; _1; -; room _0; -; what is had on entry], where - is that the local before it dies
         move ! (6 ∷ []) $ use1 W (raw (Gathered 𝓤 H A .pre to-gathered) ⊛ ‵ Own) goes-gathered $ split ! $
         calls-at ! (fmOf 𝓤 H (W .laws) 𝓣) (Gathered 𝓤 H A) known-gathered to-gathered (and-then ! (load ! (from ! (stop !)) (look ! 4 refl)) (no-more !)) (λ u.
-        use1 W (later (some (λ (p : Plan). ((‵ (flft κ q) ⊛ ‵ ftrue) ⊛ ‵ (P.the-row .own p (u ∷ []))) ⊛ raw (ensured 𝓤 H A (listed P.the-row) (list-clauses P.the-row (gatheredFrom (planOf [])) 𝓤) (κ, tt) (x, tt) tt p)))) (id⊢ 𝓤 _) $ await ! tt $ pick ! (λ p.
+        use1 W (later (some (λ (p : Plan). ((‵ (flft κ q) ⊛ ‵ ftrue) ⊛ ‵ (P.the-row .own p (u ∷ [])))
+        ⊛ raw (ensured 𝓤 H A (listed P.the-row) (list-clauses P.the-row (gatheredFrom (planOf [])) 𝓤) (κ, tt) (x, tt) tt p)))) (id⊢ 𝓤 _) $
+        await ! tt $ pick ! (λ p.
         split ! $ move ! (1 ∷ []) $ use1 W (raw (fact 𝓤 (p ≡ all))) (gathered-said p) $ heard ! (p ≡ all) (λ e. split ! $ move ! (1 ∷ []) $
         -- [what the plan owns; the token and true; Own; room _2; -; _1; -; room _0; -]
         peeks ! P.the-row (Is P.the-row) (shows 𝓤 H A P.the-row) p (u ∷ []) (λ isp.
         land ! (from ! (stop !)) (init ! 3 refl (plan-typed 𝓤 H A W p u isp)) $
         use1 W (raw (OverPlan 𝓤 H A R f .pre (to-then p u))) (goes-then p u) $
         calls-at ! (fmOf 𝓤 H (W .laws) 𝓣) (OverPlan 𝓤 H A R f) known-then (to-then p u) (and-then ! (load ! (from ! (stop !)) (look ! 3 refl)) (no-more !)) (λ w.
-        use1 W (later (some (λ (r : R .Denot). (‵ ftrue ⊛ ‵ (R .own r (w ∷ []))) ⊛ raw (ensured 𝓤 H A (planned R) (plan-clauses R f 𝓤) tt (p, tt) tt r)))) (id⊢ 𝓤 _) $ await ! tt $ pick ! (λ r.
+        use1 W (later (some (λ (r : R .Denot). (‵ ftrue ⊛ ‵ (R .own r (w ∷ []))) ⊛ raw (ensured 𝓤 H A (planned R) (plan-clauses R f 𝓤) tt (p, tt) tt r)))) (id⊢ 𝓤 _) $
+        await ! tt $ pick ! (λ r.
         split ! $ move ! (1 ∷ []) $ use1 W (raw (fact 𝓤 (r ≡ f p))) (then-said p r) $ heard ! (r ≡ f p) (λ e′. split ! $ drop ! $
         -- [what the result owns; the token and true; Own; _2; -; _1; -; room _0; -]
         peeks ! R (Is R) (shows 𝓤 H A R) r (w ∷ []) (λ isr.
@@ -154,6 +164,8 @@ module _ (R : RattleType) (τ : Ty) (F : List Task → R .Denot) (f : Plan → R
   pub passes : (𝓣 : Tables 𝓤 H) → Triple 𝓤 (𝓣 .C g) (Gathered 𝓤 H A) → Triple 𝓤 (𝓣 .C k) (OverPlan 𝓤 H A R f)
       → Meets 𝓤 H A (listed R .signature) (WpFn 𝓤 H (𝓣 .C) (𝓣 .Λ) (spelled τ g k)) (closing 𝓤 H A (listed R) (list-clauses R F 𝓤))
   passes 𝓣 known-gathered known-then =
-      walk-meets 𝓤 H A (listed R) (stayed R) W (goes-none-slice 𝓤 H A W 1 (0 ∷ []) tt (plain (λ _. K.the-row)) yes, tt) (list-clauses R F 𝓤) (WpFn 𝓤 H (𝓣 .C) (𝓣 .Λ) (spelled τ g k)) (WpFn-mono 𝓤 H (W .laws) 𝓣 (spelled τ g k))
-      (walked 𝓤 H A (listed R) (stayed R) (list-clauses R F 𝓤) (WpFn 𝓤 H (𝓣 .C) (𝓣 .Λ) (spelled τ g k)) (λ κs. (slice-vals, tt)) (λ κs. (shr-slice-tells (named 0) (κs .0) K.the-row, tt))
+      walk-meets 𝓤 H A (listed R) (stayed R) W (goes-none-slice 𝓤 H A W 1 (0 ∷ []) tt (plain (λ _. K.the-row)) yes, tt)
+      (list-clauses R F 𝓤) (WpFn 𝓤 H (𝓣 .C) (𝓣 .Λ) (spelled τ g k)) (WpFn-mono 𝓤 H (W .laws) 𝓣 (spelled τ g k))
+      (walked 𝓤 H A (listed R) (stayed R) (list-clauses R F 𝓤) (WpFn 𝓤 H (𝓣 .C) (𝓣 .Λ) (spelled τ g k))
+      (λ κs. (slice-vals, tt)) (λ κs. (shr-slice-tells (named 0) (κs .0) K.the-row, tt))
       (λ κs qs bounds a _ are. via 𝓤 _ (fst∗ 𝓤 _ (emp 𝓤)) (walk (κs .0) (qs .0) (a .0) 𝓣 known-gathered known-then (are .0))))

@@ -40,8 +40,11 @@ unfolding code.routine tablesOf
 judge-list-spec 𝓤 H 𝓜 𝓖 𝓡 =
     entered 𝓤 H (tripleOf 𝓤 H (𝓖 .A) judge-list.signature (judge-list.spec 𝓤 H (𝓖 .A) (𝓜 .mem) (𝓡 .run)))
     (tables 𝓤 H 𝓜 𝓡 code.env .C) (tables 𝓤 H 𝓜 𝓡 code.env .Λ) #judge-list code.function (code.unfolded 𝓤 H 𝓜 𝓡)
-    (subst (λ (f : Fn). Meets 𝓤 H (𝓖 .A) judge-list.signature (WpFn 𝓤 H (tables 𝓤 H 𝓜 𝓡 code.env .C) (tables 𝓤 H 𝓜 𝓡 code.env .Λ) f) (judge-list.spec 𝓤 H (𝓖 .A) (𝓜 .mem) (𝓡 .run))) is-spelled
-    (passes J.the-row J′.mir judged (judgedPlan baseSpeeds) (judged-gathered baseSpeeds) #gathered #judge (λ r v is. LL.lawful J.the-type J′.the-laws 𝓤 H (𝓖 .A) (givenOf 𝓤 H 𝓜 𝓖) .typed r (v ∷ []) is .0)
+    (subst
+    (λ (f : Fn). Meets 𝓤 H (𝓖 .A) judge-list.signature (WpFn 𝓤 H (tables 𝓤 H 𝓜 𝓡 code.env .C) (tables 𝓤 H 𝓜 𝓡 code.env .Λ) f) (judge-list.spec 𝓤 H (𝓖 .A) (𝓜 .mem) (𝓡 .run)))
+    is-spelled
+    (passes J.the-row J′.mir judged (judgedPlan baseSpeeds) (judged-gathered baseSpeeds) #gathered #judge
+    (λ r v is. LL.lawful J.the-type J′.the-laws 𝓤 H (𝓖 .A) (givenOf 𝓤 H 𝓜 𝓖) .typed r (v ∷ []) is .0)
     𝓤 H (𝓖 .A) (givenOf 𝓤 H 𝓜 𝓖) (tablesOf 𝓤 H 𝓜 (tables 𝓤 H 𝓜 𝓡 code.env))
     (cited 𝓤 H (Gathered 𝓤 H (𝓖 .A)) 𝓜 𝓡 code.env #gathered gathered-def.routine code.calls-task-list·gathered (gathered-thm.met 𝓤 H 𝓜 𝓖 𝓡))
     (cited 𝓤 H (OverPlan 𝓤 H (𝓖 .A) J.the-row (judgedPlan baseSpeeds)) 𝓜 𝓡 code.env #judge judge-def.routine code.calls-judging·judge (judge-thm.met 𝓤 H 𝓜 𝓖 𝓡))))

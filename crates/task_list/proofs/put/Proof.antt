@@ -6,11 +6,9 @@ use Rattle.arith.proofs.Loops.{length-mapped}
 use Rattle.task_list.proofs.Gathering.{put-stored, put-counted}
 use Rattle.task_list.proofs.put.Statement.{statement}
 use Rattle.task_list.proofs.put.Tie as tie
-use Rattle.task_list.proofs.put.Reads as reads
-use Rattle.task_list.proofs.put.Lts as lts
 
 -- the array has its 16 places
-size : (c : lts.Else1 reads.Pre reads.Post) → length (c .before .args .p .tasks) ≡ 16
+size : (c : tie.Else1) → length (c .before .args .p .tasks) ≡ 16
 size c = search (length-mapped, needs)
 
 mul-t : tie.Need-mul-t
