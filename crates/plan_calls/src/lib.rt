@@ -12,7 +12,6 @@ use plan_block::read;
 use plan_block::write;
 ghost use mathlib.Core.Path.{_≡_};
 ghost use mathlib.Core.List.{[], _∷_, _++_};
-ghost use Prim.Native.Nat.{_<_, _^_};
 ghost use lib.ListN.{length, getD};
 ghost use Rattle.plan.specs.Levels.{baseSpeeds};
 ghost use Rattle.plan.specs.Questions.{reading, roomQuestion};
@@ -82,8 +81,12 @@ pub extern "C" fn kilmstra_plan_write(count: usize, numbers: &[u32], buffer: &mu
 // Reads a block and writes it again, with an answer as writing has.
 #[no_mangle]
 pub extern "C" fn kilmstra_plan_copy(block: &[u8], buffer: &mut [u8]) -> u64
-    ensures { λ r. ⌜ r ≡ writtenNumber (writtenBy (firstNo (reading baseSpeeds (now (block .entry)) ++ (roomQuestion (length (now (block .entry))) (length (now (buffer .entry))) ∷ []))) (now (block .entry))) ⌝ }
-    ensures { λ _. ⌜ now (buffer .exit) ≡ storedBy (firstNo (reading baseSpeeds (now (block .entry)) ++ (roomQuestion (length (now (block .entry))) (length (now (buffer .entry))) ∷ []))) (now (block .entry)) (now (buffer .entry)) ⌝ }
+    ensures { λ r. ⌜ r ≡ writtenNumber (writtenBy
+        (firstNo (reading baseSpeeds (now (block .entry)) ++ (roomQuestion (length (now (block .entry))) (length (now (buffer .entry))) ∷ [])))
+        (now (block .entry))) ⌝ }
+    ensures { λ _. ⌜ now (buffer .exit) ≡ storedBy
+        (firstNo (reading baseSpeeds (now (block .entry)) ++ (roomQuestion (length (now (block .entry))) (length (now (buffer .entry))) ∷ [])))
+        (now (block .entry)) (now (buffer .entry)) ⌝ }
 {
     let w = copy(block, buffer);
     written_number(w)

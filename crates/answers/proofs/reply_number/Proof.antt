@@ -9,11 +9,13 @@ use Rattle.answers.proofs.reply_number.Statement.{statement}
 use Rattle.answers.proofs.reply_number.Tie as tie
 
 -- the numbers of an order to stay idle and of one to run
-idle : (c : tie.After-known-told2) → replyNumber (c .before .before .before .args .r) ≡ 512 + 4294967296 * c .before .r2 .given .0 .0
-idle c = ap replyNumber (c .before .r2 .given .1)
+idle : (c : tie.After-r2) → replyNumber (c .before .before .args .r) ≡ 512 + 4294967296 * c .r2 .given .0 .0
+idle c = ap replyNumber (c .r2 .given .1)
 
-run : (c : tie.After-known-told3) → replyNumber (c .before .before .before .args .r) ≡ 256 + 65536 * c .before .r3 .given .0 .0 + 16777216 * c .before .r3 .given .0 .1 .0 + 4294967296 * c .before .r3 .given .0 .1 .1 .0
-run c = ap replyNumber (c .before .r3 .given .1)
+run :
+    (c : tie.After-r3) →
+    replyNumber (c .before .before .args .r) ≡ 256 + 65536 * c .r3 .given .0 .0 + 16777216 * c .r3 .given .0 .1 .0 + 4294967296 * c .r3 .given .0 .1 .1 .0
+run c = ap replyNumber (c .r3 .given .1)
 
 enum-known-r : tie.Need-enum-known-r
 enum-known-r c = search needs
@@ -61,16 +63,16 @@ mul-result-4 : tie.Need-mul-result-4
 mul-result-4 c = search needs
 
 add-result-4 : tie.Need-add-result-4
-add-result-4 c = omega (arith, c .before .before .before .pre, run c)
+add-result-4 c = omega (arith, run (c .before))
 
 returns : tie.Need-returns
 returns c = search needs
 
 returns-2 : tie.Need-returns-2
-returns-2 c = sym (idle c)
+returns-2 c = sym (idle (c .before))
 
 returns-3 : tie.Need-returns-3
-returns-3 c = sym (run c)
+returns-3 c = sym (run (c .before))
 
 pub reply-number-spec : {M : Type 1} → statement M
 reply-number-spec =

@@ -11,13 +11,18 @@ pass-requires : tie.Need-pass-requires
 pass-requires c κs = search needs
 
 reply-number-requires : tie.Need-reply-number-requires
-reply-number-requires c κs = pass-most (c .before .before .before .before .before .args .state .now) (c .before .before .before .before .before .args .d) (isYes (c .before .before .before .before .before .args .finished)) (c .before .before .pass .result) (c .before .before .pass .ensures .0)
+reply-number-requires c κs =
+    let passed = c .before .before in
+    let s = passed .before .before .before in
+    pass-most (s .args .state .now) (s .args .d) (isYes (s .args .finished)) (passed .pass .result) (passed .pass .ensures .0)
 
 same-length : tie.Need-same-length
 same-length c = search needs
 
 returns : tie.Need-returns
-returns c = (c .reply-number .ensures ∙ ap replyNumber (c .before .before .before .pass .ensures .0), c .before .before .before .pass .ensures .1)
+returns c =
+    let passed = c .before .before .before in
+    (c .reply-number .ensures ∙ ap replyNumber (passed .pass .ensures .0), passed .pass .ensures .1)
 
 pub kilmstra-pass-spec : {M : Type 1} → statement M
 kilmstra-pass-spec = tie.close (tie.spec pass-requires reply-number-requires same-length returns)

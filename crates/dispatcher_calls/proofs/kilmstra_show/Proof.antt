@@ -12,13 +12,18 @@ show-requires : tie.Need-show-requires
 show-requires c κs = search needs
 
 written-number-requires : tie.Need-written-number-requires
-written-number-requires c κs = show-most (c .before .before .before .before .before .before .args .state .now) (length (c .before .before .before .before .before .before .args .buffer .now)) (c .before .before .show .result) (c .before .before .show .ensures .0)
+written-number-requires c κs =
+    let shown = c .before .before in
+    let s = shown .before .before .before .before in
+    show-most (s .args .state .now) (length (s .args .buffer .now)) (shown .show .result) (shown .show .ensures .0)
 
 same-length : tie.Need-same-length
 same-length c = search needs
 
 returns : tie.Need-returns
-returns c = (c .written-number .ensures ∙ ap writtenNumber (c .before .before .before .show .ensures .0), c .before .before .before .show .ensures .1)
+returns c =
+    let shown = c .before .before .before in
+    (c .written-number .ensures ∙ ap writtenNumber (shown .show .ensures .0), shown .show .ensures .1)
 
 pub kilmstra-show-spec : {M : Type 1} → statement M
 kilmstra-show-spec = tie.close (tie.spec show-requires written-number-requires same-length returns)

@@ -12,13 +12,18 @@ start-requires : tie.Need-start-requires
 start-requires c κs = search needs
 
 reply-number-requires : tie.Need-reply-number-requires
-reply-number-requires c κs = start-most (c .before .before .before .before .before .before .args .block .now) (length (c .before .before .before .before .before .before .args .state .now)) (c .before .before .start .result) (c .before .before .start .ensures .0)
+reply-number-requires c κs =
+    let started = c .before .before in
+    let s = started .before .before .before .before in
+    start-most (s .args .block .now) (length (s .args .state .now)) (started .start .result) (started .start .ensures .0)
 
 same-length : tie.Need-same-length
 same-length c = search needs
 
 returns : tie.Need-returns
-returns c = (c .reply-number .ensures ∙ ap replyNumber (c .before .before .before .start .ensures .0), c .before .before .before .start .ensures .1)
+returns c =
+    let started = c .before .before .before in
+    (c .reply-number .ensures ∙ ap replyNumber (started .start .ensures .0), started .start .ensures .1)
 
 pub kilmstra-start-spec : {M : Type 1} → statement M
 kilmstra-start-spec = tie.close (tie.spec start-requires reply-number-requires same-length returns)

@@ -10,13 +10,18 @@ copy-requires : tie.Need-copy-requires
 copy-requires c κs = search needs
 
 written-number-requires : tie.Need-written-number-requires
-written-number-requires c κs = copy-most (c .before .before .before .before .before .before .args .block .now) (length (c .before .before .before .before .before .before .args .buffer .now)) (c .before .before .copy .result) (c .before .before .copy .ensures .0)
+written-number-requires c κs =
+    let copied = c .before .before in
+    let s = copied .before .before .before .before in
+    copy-most (s .args .block .now) (length (s .args .buffer .now)) (copied .copy .ensures .0)
 
 same-length : tie.Need-same-length
 same-length c = search needs
 
 returns : tie.Need-returns
-returns c = (c .written-number .ensures ∙ ap writtenNumber (c .before .before .before .copy .ensures .0), c .before .before .before .copy .ensures .1)
+returns c =
+    let copied = c .before .before .before in
+    (c .written-number .ensures ∙ ap writtenNumber (copied .copy .ensures .0), copied .copy .ensures .1)
 
 pub kilmstra-plan-copy-spec : {M : Type 1} → statement M
 kilmstra-plan-copy-spec =

@@ -16,7 +16,7 @@ judge-requires : tie.Need-judge-requires
 judge-requires c κs = search needs
 
 verdict-number-requires : tie.Need-verdict-number-requires
-verdict-number-requires c κs = judged-most (c .before .plan-from .result) (c .judge .result) (c .judge .ensures)
+verdict-number-requires c κs = judged-most (c .before .plan-from .result) (c .judge .ensures)
 
 returns : tie.Need-returns
 returns c =

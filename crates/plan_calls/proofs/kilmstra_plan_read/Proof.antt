@@ -10,7 +10,7 @@ read-requires : tie.Need-read-requires
 read-requires c κs = search needs
 
 verdict-number-requires : tie.Need-verdict-number-requires
-verdict-number-requires c κs = read-most (c .before .before .args .block .now) (c .read .result) (c .read .ensures)
+verdict-number-requires c κs = read-most (c .before .before .args .block .now) (c .read .ensures)
 
 returns : tie.Need-returns
 returns c = c .verdict-number .ensures ∙ ap (λ (j : Judged). verdictNumber (j .verdict)) (c .before .read .ensures)

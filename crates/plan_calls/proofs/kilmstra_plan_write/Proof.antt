@@ -16,18 +16,24 @@ write-requires : tie.Need-write-requires
 write-requires c κs = search needs
 
 written-number-requires : tie.Need-written-number-requires
-written-number-requires c κs = wrote-most (c .before .before .before .before .plan-from .result) (length (c .before .before .before .before .before .before .before .args .buffer .now)) (c .before .before .write .result) (c .before .before .write .ensures .0)
+written-number-requires c κs =
+    let wrote = c .before .before in
+    let plan = wrote .before .before in
+    wrote-most (plan .plan-from .result) (length (plan .before .before .before .args .buffer .now)) (wrote .write .ensures .0)
 
 same-length : tie.Need-same-length
 same-length c = search needs
 
 returns : tie.Need-returns
-returns c = (
-  c .written-number .ensures
-      ∙ ap writtenNumber (c .before .before .before .write .ensures .0)
-      ∙ ap (λ (p : Plan). writtenNumber (writePlan baseSpeeds p (length (c .before .before .before .before .before .before .before .before .args .buffer .now)))) (c .before .before .before .before .before .plan-from .ensures),
-  c .before .before .before .write .ensures .1 ∙ ap (λ (p : Plan). writeBuffer baseSpeeds p (c .before .before .before .before .before .before .before .before .args .buffer .now)) (c .before .before .before .before .before .plan-from .ensures),
-)
+returns c =
+    let wrote = c .before .before .before in
+    let plan = wrote .before .before in
+    let buffer = plan .before .before .before .args .buffer .now in (
+      c .written-number .ensures
+          ∙ ap writtenNumber (wrote .write .ensures .0)
+          ∙ ap (λ (p : Plan). writtenNumber (writePlan baseSpeeds p (length buffer))) (plan .plan-from .ensures),
+      wrote .write .ensures .1 ∙ ap (λ (p : Plan). writeBuffer baseSpeeds p buffer) (plan .plan-from .ensures),
+    )
 
 pub kilmstra-plan-write-spec : {M : Type 1} → statement M
 kilmstra-plan-write-spec =

@@ -1,14 +1,14 @@
-use Prim.Native.Nat.{_≤_, _-_}
-use mathlib.Core.Path.{_≡_, refl, ap}
+use Prim.Native.Nat.{_-_}
+use mathlib.Core.Path.{refl, ap}
 use native.Mathlib.Omega.{arith}
 use borrow.Author.Needs.{needs}
 use Rattle.plan.specs.declared.Plan.{Plan}
-use Rattle.plan_calls.proofs.Packing.{upTo, task-put, plan-put}
+use Rattle.plan_calls.proofs.Packing.{Put, put-more, put-all}
 use Rattle.plan_calls.proofs.plan_from.Statement.{statement}
 use Rattle.plan_calls.proofs.plan_from.Tie as tie
 
 abbrev Inv-loop : tie.InvT-loop
-Inv-loop count numbers p₀ i₀ p i = (i ≤ 16) × (p .count ≡ count) × (p .tasks ≡ upTo numbers i)
+Inv-loop count numbers p₀ i₀ p i = Put numbers count p i
 
 abbrev μ-loop : tie.MeasureT-loop
 μ-loop count numbers p₀ i₀ p i = 16 - i
@@ -17,7 +17,7 @@ empty-plan-requires : tie.Need-empty-plan-requires Inv-loop μ-loop
 empty-plan-requires c κs = search needs
 
 loop-holds : tie.Need-loop-holds Inv-loop μ-loop
-loop-holds c = (omega arith, refl, ap (λ (x : Plan). x .tasks) (c .empty-plan .ensures))
+loop-holds c = record { within = omega arith; counted = refl; tasks = ap (λ (x : Plan). x .tasks) (c .empty-plan .ensures) }
 
 mul-number-at : tie.Need-mul-number-at Inv-loop μ-loop
 mul-number-at c = omega arith
@@ -47,15 +47,10 @@ loop-less : tie.Need-loop-less Inv-loop μ-loop
 loop-less c = omega arith
 
 loop-again : tie.Need-loop-again Inv-loop μ-loop
-loop-again c = (
-  omega arith,
-  c .before .before .before .loop .inv .1,
-  task-put (c .before .before .before .before .before .before .args .numbers .now) (c .before .before .before .loop .p .tasks) (c .before .before .before .loop .i) (c .before .number-at .result) (c .number-at2 .result) (omega arith) (c .before .before .before .loop .inv .2) (c .before .number-at .ensures) (c .number-at2 .ensures),
-)
+loop-again c = put-more (c .before .before .before .loop .inv) (omega arith) (c .before .number-at .ensures) (c .number-at2 .ensures)
 
 returns : tie.Need-returns Inv-loop μ-loop
-returns c =
-    plan-put (c .before .before .before .before .args .numbers .now) (c .before .before .before .before .args .count) (c .before .loop .p) (c .before .loop .i) (omega arith) (c .before .loop .inv .1) (c .before .loop .inv .2)
+returns c = put-all (c .before .loop .inv) (omega arith)
 
 pub plan-from-spec : {M : Type 1} → statement M
 plan-from-spec =

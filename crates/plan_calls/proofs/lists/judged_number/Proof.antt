@@ -10,7 +10,7 @@ judge-requires : tie.Need-judge-requires
 judge-requires c κs = search needs
 
 verdict-number-requires : tie.Need-verdict-number-requires
-verdict-number-requires c κs = judged-most (c .before .args .p) (c .judge .result) (c .judge .ensures)
+verdict-number-requires c κs = judged-most (c .before .args .p) (c .judge .ensures)
 
 returns : tie.Need-returns
 returns c = c .verdict-number .ensures ∙ ap (λ (j : Judged). verdictNumber (j .verdict)) (c .before .judge .ensures)

@@ -49,8 +49,11 @@ unfolding code.routine tablesOf
 kilmstra-judge-list-spec 𝓤 H 𝓜 𝓖 𝓡 =
     entered 𝓤 H (tripleOf 𝓤 H (𝓖 .A) entry.signature (entry.spec 𝓤 H (𝓖 .A) (𝓜 .mem) (𝓡 .run)))
     (tables 𝓤 H 𝓜 𝓡 code.env .C) (tables 𝓤 H 𝓜 𝓡 code.env .Λ) #entry code.function (code.unfolded 𝓤 H 𝓜 𝓡)
-    (subst (λ (f : Fn). Meets 𝓤 H (𝓖 .A) entry.signature (WpFn 𝓤 H (tables 𝓤 H 𝓜 𝓡 code.env .C) (tables 𝓤 H 𝓜 𝓡 code.env .Λ) f) (entry.spec 𝓤 H (𝓖 .A) (𝓜 .mem) (𝓡 .run))) is-spelled
-    (passes u64 word list-number plan-number (λ ts. ap number (judged-gathered baseSpeeds ts)) #gathered #number (λ r v is. uint-lawful 𝓤 H (𝓖 .A) (givenOf 𝓤 H 𝓜 𝓖) w64 .typed r (v ∷ []) is .0)
+    (subst
+    (λ (f : Fn). Meets 𝓤 H (𝓖 .A) entry.signature (WpFn 𝓤 H (tables 𝓤 H 𝓜 𝓡 code.env .C) (tables 𝓤 H 𝓜 𝓡 code.env .Λ) f) (entry.spec 𝓤 H (𝓖 .A) (𝓜 .mem) (𝓡 .run)))
+    is-spelled
+    (passes u64 word list-number plan-number (λ ts. ap number (judged-gathered baseSpeeds ts)) #gathered #number
+    (λ r v is. uint-lawful 𝓤 H (𝓖 .A) (givenOf 𝓤 H 𝓜 𝓖) w64 .typed r (v ∷ []) is .0)
     𝓤 H (𝓖 .A) (givenOf 𝓤 H 𝓜 𝓖) (tablesOf 𝓤 H 𝓜 (tables 𝓤 H 𝓜 𝓡 code.env))
     (cited 𝓤 H (Gathered 𝓤 H (𝓖 .A)) 𝓜 𝓡 code.env #gathered gathered-def.routine code.calls-task-list·gathered (gathered-thm.met 𝓤 H 𝓜 𝓖 𝓡))
     (cited 𝓤 H (OverPlan 𝓤 H (𝓖 .A) u64 plan-number) 𝓜 𝓡 code.env #number number-def.routine code.calls-plan-calls·lists·judged-number (number-thm.met 𝓤 H 𝓜 𝓖 𝓡))))
