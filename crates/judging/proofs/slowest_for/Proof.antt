@@ -48,7 +48,9 @@ loop-less : tie.Need-loop-less Inv-loop μ-loop
 loop-less c = omega arith
 
 loop-again : tie.Need-loop-again Inv-loop μ-loop
-loop-again c = level-next (trying (c .before)) (lt-leb _ _ (c .if1 .left))
+loop-again c =
+    let s = start (c .before) in
+    level-next (trying (c .before)) (lt-leb (s .args .work) (s .args .span * c .before .speed-of .result) (c .if1 .left))
 
 returns-2 : tie.Need-returns-2 Inv-loop μ-loop
 returns-2 c = first-none (does (c .before .before .args .work) (c .before .before .args .span)) baseSpeeds (c .before .loop .lowest) (c .before .loop .inv) (c .loop-test .left)

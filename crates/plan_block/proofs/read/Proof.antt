@@ -67,8 +67,8 @@ refused-requires-5 c κs = search needs
 
 returns-5 : tie.Need-returns-5
 returns-5 c =
-    let length = c .before .before in
-    read-size baseSpeeds (counted (length .before)) (c .refused5 .ensures) (length .block-length .ensures) (c .before .if5 .taken)
+    let wanted = c .before .before in
+    read-size baseSpeeds (counted (wanted .before)) (c .refused5 .ensures) (wanted .block-length .ensures) (c .before .if5 .taken)
 
 read-counted-requires : tie.Need-read-counted-requires
 read-counted-requires c κs = search needs
