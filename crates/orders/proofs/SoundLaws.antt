@@ -24,9 +24,9 @@ use Rattle.arith.specs.Asking.{firstNo}
 use Rattle.plan.proofs.Facts.{InRange, range-at, fine-tasks}
 use Rattle.plan.proofs.RoundTrip.{tasksOf-planOf}
 use Rattle.arith.proofs.ArrayLaws.{value-at}
-use Rattle.judging.proofs.Judgements.{filled-plan, count-low, count-high, count-good}
+use Rattle.judging.proofs.Judgements.{Filled, filled-more, filled-all, count-low, count-high, count-good}
 use Rattle.arith.proofs.Tests.{both-false}
-use Rattle.arith.proofs.Loops.{every-again, every-not, every-end, filled, filled-more}
+use Rattle.arith.proofs.Loops.{every-again, every-not, every-end}
 use Rattle.reclaiming.specs.declared.Entry.{Entry}
 use Rattle.orders.specs.declared.Tested.{Tested}
 use Rattle.reclaiming.specs.StateBlock.{State, noEntry, workOf, taskOf, planIn, timing, encode, decode, sameBytes, laidOut}
@@ -45,11 +45,12 @@ use Rattle.state.proofs.BlockLaws.{count-in, entry-at}
 pub record Copying (b : List ℕ) (count : ℕ) (p : Plan) (i : ℕ) : Type 0 where
   pub holds : Holds b
   pub same : count ≡ getD b 6 0
-  pub below : i ≤ count
-  pub counted : p .count ≡ count
-  pub tasks : p .tasks ≡ filled 16 noTask (planIn (decode b)) i
+  pub filled : Filled (planIn (decode b)) count p i
 
 module _ {b : List ℕ} {count : ℕ} {p : Plan} {i : ℕ} (now : Copying b count p i) where
+  all : length (planIn (decode b)) ≡ count
+  all = timing-count b ∙ sym (now .same)
+
   pub copy-more :
       i < count →
       {period worst : ℕ} →
@@ -63,18 +64,12 @@ module _ {b : List ℕ} {count : ℕ} {p : Plan} {i : ℕ} (now : Copying b coun
       record {
         holds = now .holds;
         same = now .same;
-        below = omega arith;
-        counted = now .counted;
-        tasks =
-            ap₂ (λ (x : List Task) (y : Task). set x i y) (now .tasks) t
-            ∙ filled-more 16 noTask (planIn (decode b)) i (omega (arith, now .same)) (omega (arith, now .same, timing-count b));
+        filled = filled-more (now .filled) (omega (arith, all)) (omega (arith, now .same)) h t;
       }
 
   pub copy-all : count ≤ i → p ≡ planOf (planIn (decode b))
   copy-all h =
-      let all : length (planIn (decode b)) ≡ count = timing-count b ∙ sym (now .same) in
-      filled-plan p (planIn (decode b)) count i (omega arith) (omega (arith, now .below)) (now .counted) (now .tasks)
-      ∙ ap planOf (take-all count (planIn (decode b)) (omega arith))
+      filled-all (now .filled) (omega (arith, all)) h ∙ ap planOf (take-all count (planIn (decode b)) (omega (arith, all)))
 
 pub plan-few : {b : List ℕ} → Holds b → {p : Plan} → p ≡ planOf (planIn (decode b)) → p .count ≤ 16
 plan-few {b} holds e = subst (λ (q : Plan). q .count ≤ 16) (sym e) (omega (arith, holds .few, timing-count b))

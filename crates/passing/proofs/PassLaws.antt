@@ -237,7 +237,13 @@ module _ {bytes keys : List ℕ} {highest next d : ℕ} {finished : Bool} {c : C
       ∙ ap (λ (x : Task). x .period) (sym (planIn-at then i))
       ∙ ap (λ (l : List Task). getD l i noTask .period) (moved-facts allowed .plan)
 
-  pub after-keyed : (count clock : ℕ) → count ≡ getD m 6 0 → clock ≡ decode m .clock → (r : List ℕ) → r ≡ renewedKeys m keys count clock → Keyed (timingIn m) (decode m .clock) r
+  pub after-keyed :
+      (count clock : ℕ) →
+      count ≡ getD m 6 0 →
+      clock ≡ decode m .clock →
+      (r : List ℕ) →
+      r ≡ renewedKeys m keys count clock →
+      Keyed (timingIn m) (decode m .clock) r
   after-keyed count clock n t r e =
       keyed-then r
       (keyed-after T (start .clock) keys (k .passing .good .keyed) d (lets allowed .some) (lets allowed .within) r (lets allowed .clock)
@@ -322,7 +328,11 @@ module _ (bytes : List ℕ) (d : ℕ) (finished : Bool) where
   pub number-10 : (r : Tested) → r ≡ testedBy (sound baseSpeeds bytes) bytes → r .sound ≡ false → 10 ≡ passNumber baseSpeeds bytes d finished
   number-10 r e u = ap numbered (sym u ∙ tested-sound bytes r e)
 
-  pub number-is : sound baseSpeeds bytes ≡ true → (n : ℕ) → n ≡ firstNo (passQuestions baseSpeeds (decode bytes) d finished) → n ≡ passNumber baseSpeeds bytes d finished
+  pub number-is :
+      sound baseSpeeds bytes ≡ true →
+      (n : ℕ) →
+      n ≡ firstNo (passQuestions baseSpeeds (decode bytes) d finished) →
+      n ≡ passNumber baseSpeeds bytes d finished
   number-is ok n e = e ∙ ap numbered (sym ok)
 
   -- the bytes after a pass

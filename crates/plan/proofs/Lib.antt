@@ -4,3 +4,4 @@ pub mod LevelLaws
 pub mod TimeLaws
 pub mod Fields
 pub mod RoundTrip
+pub mod NumberLaws

@@ -61,6 +61,10 @@ writePlan speeds p room = writtenBy (writeNumber speeds p room) (planBlock (task
 abbrev pub writeBuffer : List ℕ → Plan → List ℕ → List ℕ
 writeBuffer speeds p buffer = storedBy (writeNumber speeds p (length buffer)) (planBlock (tasksOf p)) buffer
 
+-- a block read, then written again: reading's questions, then 9
+abbrev pub copyNumber : List ℕ → List ℕ → ℕ → ℕ
+copyNumber speeds block room = firstNo (reading speeds block ++ (roomQuestion (length block) room ∷ []))
+
 -- 01's number of each case of an answer, 0 where it is no refusal
 abbrev pub refusalOf : Verdict → ℕ
 refusalOf (verdict.Admitted level span) = 0

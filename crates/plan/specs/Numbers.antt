@@ -1,8 +1,9 @@
 -- The calls on plans as C sees them: a plan handed over as plain numbers, an answer as one number.
 -- Assumes nothing.
-use Prim.Native.Nat.{ℕ, zero, suc, _+_, _*_}
-use mathlib.Core.List.{List, [], _∷_, _++_}
+use Prim.Native.Nat.{ℕ, _+_, _*_}
+use mathlib.Core.List.{List}
 use lib.ListN.{getD}
+use Rattle.arith.specs.Ranges.{listTo}
 use Rattle.plan.specs.declared.Task.{Task}
 use Rattle.plan.specs.declared.Plan.{Plan}
 use Rattle.plan.specs.declared.Verdict.{Verdict}
@@ -14,12 +15,8 @@ use Rattle.plan.specs.declared.Written.the-variants as written
 abbrev pub taskAt : List ℕ → ℕ → Task
 taskAt numbers i = record { period = getD numbers (2 * i) 0; worst = getD numbers (2 * i + 1) 0 }
 
-abbrev pub tasksUpTo : ℕ → List ℕ → List Task
-tasksUpTo zero numbers = []
-tasksUpTo (suc n) numbers = tasksUpTo n numbers ++ (taskAt numbers n ∷ [])
-
 abbrev pub planFrom : ℕ → List ℕ → Plan
-planFrom count numbers = record { count = count; tasks = tasksUpTo 16 numbers }
+planFrom count numbers = record { count = count; tasks = listTo 16 (taskAt numbers) }
 
 -- a refusal is its number; else the level times 256 and the hyperperiod times 65,536
 abbrev pub verdictNumber : Verdict → ℕ

@@ -9,16 +9,13 @@ use plan::Task;
 use plan::Verdict;
 use plan::Written;
 ghost use mathlib.Core.Path.{_≡_};
-ghost use mathlib.Core.List.{[], _∷_, _++_};
 ghost use Prim.Native.Nat.{_+_, _*_, _/_, _%_, _^_, _<_, _≤_};
 ghost use lib.ListN.{length, drop, getD};
 ghost use Rattle.arith.specs.Digits.{number};
 ghost use Rattle.arith.specs.Bits.{unpacked};
 ghost use Rattle.plan.specs.Levels.{baseSpeeds};
-ghost use Rattle.plan.specs.Questions.{reading, roomQuestion};
-ghost use Rattle.arith.specs.Asking.{firstNo};
 ghost use Rattle.plan.specs.Blocks.{tasksOf, tasksFrom, taskFrom, planOf, planBits, planBlock, bitCount, blockLength, editionIn, countIn};
-ghost use Rattle.plan.specs.Answers.{readBlock, writePlan, writeBuffer, writtenBy, storedBy, writeNumber, judgedBy};
+ghost use Rattle.plan.specs.Answers.{readBlock, writePlan, writeBuffer, writtenBy, storedBy, writeNumber, judgedBy, copyNumber};
 
 // Task i of a block.
 fn task_in(block: &[u8], i: usize) -> Task
@@ -185,10 +182,10 @@ pub fn write(p: Plan, buffer: &mut [u8]) -> Written
 // A block read and written again: the very same bytes, where the reading accepts it and there is room.
 pub fn copy(block: &[u8], buffer: &mut [u8]) -> Written
     ensures { λ r. ⌜ r ≡ writtenBy
-        (firstNo (reading baseSpeeds (now (block .entry)) ++ (roomQuestion (length (now (block .entry))) (length (now (buffer .entry))) ∷ [])))
+        (copyNumber baseSpeeds (now (block .entry)) (length (now (buffer .entry))))
         (now (block .entry)) ⌝ }
     ensures { λ _. ⌜ now (buffer .exit) ≡ storedBy
-        (firstNo (reading baseSpeeds (now (block .entry)) ++ (roomQuestion (length (now (block .entry))) (length (now (buffer .entry))) ∷ [])))
+        (copyNumber baseSpeeds (now (block .entry)) (length (now (buffer .entry))))
         (now (block .entry)) (now (buffer .entry)) ⌝ }
 {
     let j = read(block);

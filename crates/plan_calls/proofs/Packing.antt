@@ -15,8 +15,9 @@ use Rattle.plan.specs.Levels.{baseSpeeds, hyperperiod, nominal}
 use Rattle.plan.specs.Blocks.{noTask, tasksOf, tasksIn, countIn, planBlock}
 use Rattle.plan.specs.Questions.{judging, reading, roomQuestion}
 use Rattle.arith.specs.Asking.{Question, firstNo}
-use Rattle.plan.specs.Answers.{answered, judgedPlan, readBlock, writeNumber, writtenBy, writePlan}
-use Rattle.plan.specs.Numbers.{taskAt, tasksUpTo, planFrom, verdictNumber, writtenNumber}
+use Rattle.plan.specs.Answers.{answered, judgedPlan, readBlock, writeNumber, writtenBy, writePlan, copyNumber}
+use Rattle.plan.specs.Numbers.{taskAt, planFrom, verdictNumber, writtenNumber}
+use Rattle.plan.proofs.NumberLaws.{written-most}
 use Rattle.plan.proofs.Facts.{FineTasks, FineList, FineBlock, fine-list, fine-block}
 use Rattle.plan.proofs.BlockBits.{length-planBlock, blockLength-most}
 use Rattle.arith.proofs.ArrayLaws.{values-more}
@@ -45,7 +46,7 @@ module _ {numbers : List ℕ} {count : ℕ} {q : Plan} {i : ℕ} (at : Put numbe
   pub put-all : 16 ≤ i → q ≡ planFrom count numbers
   put-all h =
       let e : i ≡ 16 = omega arith in
-      let tasks : q .tasks ≡ tasksUpTo 16 numbers = at .tasks ∙ ap (λ (k : ℕ). padded 16 noTask (listTo k (taskAt numbers))) e in
+      let tasks : q .tasks ≡ listTo 16 (taskAt numbers) = at .tasks ∙ ap (λ (k : ℕ). padded 16 noTask (listTo k (taskAt numbers))) e in
       λ j. record { count = at .counted j; tasks = tasks j }
 
 -- refusals have small numbers, and so do verdicts
@@ -74,42 +75,34 @@ read-most block e =
     (λ z. fine-block baseSpeeds block z .tasks))
 
 -- and what writing answers
-written-most :
-    (n : ℕ) (bytes : List ℕ) →
-    n ≤ 9 →
-    (n ≡ 0 → length bytes ≤ 74) →
-    writtenNumber (writtenBy n bytes) < 2 ^ 36
-written-most zero bytes h f = omega (arith, f refl)
-written-most (suc n) bytes h f = omega arith
-
 pub wrote-most :
     (p : Plan) (room : ℕ) {w : Written} → w ≡ writePlan baseSpeeds p room → writtenNumber w < 2 ^ 36
 wrote-most p room e =
     subst (λ (x : Written). writtenNumber x < 2 ^ 36) (sym e)
-    (written-most (writeNumber baseSpeeds p room) (planBlock (tasksOf p)) (firstNo-most 9 (judging baseSpeeds (p .count) (tasksOf p) ++ rest) refl) long)
+    (written-most (writeNumber baseSpeeds p room) (planBlock (tasksOf p)) (firstNo-most 255 (judging baseSpeeds (p .count) (tasksOf p) ++ rest) refl) long)
   where
     rest : List Question
     rest = roomQuestion (length (planBlock (tasksOf p))) room ∷ []
 
-    long : writeNumber baseSpeeds p room ≡ 0 → length (planBlock (tasksOf p)) ≤ 74
+    long : writeNumber baseSpeeds p room ≡ 0 → length (planBlock (tasksOf p)) ≤ 255
     long z =
         let f : FineList baseSpeeds (p .count) (tasksOf p) =
         fine-list baseSpeeds (p .count) (tasksOf p) (yes-of (judging baseSpeeds (p .count) (tasksOf p)) rest z) in
         let n : length (tasksOf p) ≤ 16 = omega (arith, length-take (p .count) (p .tasks), f .count-high) in
-        subst (λ (k : ℕ). k ≤ 74) (sym (length-planBlock (tasksOf p))) (blockLength-most (length (tasksOf p)) n)
+        omega (arith, length-planBlock (tasksOf p), blockLength-most (length (tasksOf p)) n)
 
 pub copy-most :
     (block : List ℕ) (room : ℕ) {w : Written} →
-    w ≡ writtenBy (firstNo (reading baseSpeeds block ++ (roomQuestion (length block) room ∷ []))) block →
+    w ≡ writtenBy (copyNumber baseSpeeds block room) block →
     writtenNumber w < 2 ^ 36
 copy-most block room e =
     subst (λ (x : Written). writtenNumber x < 2 ^ 36) (sym e)
-    (written-most (firstNo (reading baseSpeeds block ++ rest)) block (firstNo-most 9 (reading baseSpeeds block ++ rest) refl) long)
+    (written-most (copyNumber baseSpeeds block room) block (firstNo-most 255 (reading baseSpeeds block ++ rest) refl) long)
   where
     rest : List Question
     rest = roomQuestion (length block) room ∷ []
 
-    long : firstNo (reading baseSpeeds block ++ rest) ≡ 0 → length block ≤ 74
+    long : copyNumber baseSpeeds block room ≡ 0 → length block ≤ 255
     long z =
         let f : FineBlock baseSpeeds block = fine-block baseSpeeds block (yes-of (reading baseSpeeds block) rest z) in
-        subst (λ (k : ℕ). k ≤ 74) (sym (f .size)) (blockLength-most (countIn block) (f .count-high))
+        omega (arith, f .size, blockLength-most (countIn block) (f .count-high))

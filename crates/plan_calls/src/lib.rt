@@ -11,12 +11,9 @@ use plan_block::copy;
 use plan_block::read;
 use plan_block::write;
 ghost use mathlib.Core.Path.{_≡_};
-ghost use mathlib.Core.List.{[], _∷_, _++_};
 ghost use lib.ListN.{length, getD};
 ghost use Rattle.plan.specs.Levels.{baseSpeeds};
-ghost use Rattle.plan.specs.Questions.{reading, roomQuestion};
-ghost use Rattle.arith.specs.Asking.{firstNo};
-ghost use Rattle.plan.specs.Answers.{judgedPlan, readBlock, writePlan, writeBuffer, writtenBy, storedBy};
+ghost use Rattle.plan.specs.Answers.{judgedPlan, readBlock, writePlan, writeBuffer, writtenBy, storedBy, copyNumber};
 ghost use Rattle.plan.specs.Numbers.{planFrom, verdictNumber, writtenNumber};
 
 // The number at a place of a list, 0 past its end.
@@ -82,10 +79,10 @@ pub extern "C" fn kilmstra_plan_write(count: usize, numbers: &[u32], buffer: &mu
 #[no_mangle]
 pub extern "C" fn kilmstra_plan_copy(block: &[u8], buffer: &mut [u8]) -> u64
     ensures { λ r. ⌜ r ≡ writtenNumber (writtenBy
-        (firstNo (reading baseSpeeds (now (block .entry)) ++ (roomQuestion (length (now (block .entry))) (length (now (buffer .entry))) ∷ [])))
+        (copyNumber baseSpeeds (now (block .entry)) (length (now (buffer .entry))))
         (now (block .entry))) ⌝ }
     ensures { λ _. ⌜ now (buffer .exit) ≡ storedBy
-        (firstNo (reading baseSpeeds (now (block .entry)) ++ (roomQuestion (length (now (block .entry))) (length (now (buffer .entry))) ∷ [])))
+        (copyNumber baseSpeeds (now (block .entry)) (length (now (buffer .entry))))
         (now (block .entry)) (now (buffer .entry)) ⌝ }
 {
     let w = copy(block, buffer);

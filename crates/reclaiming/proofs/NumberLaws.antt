@@ -12,8 +12,8 @@ use Rattle.plan.specs.declared.Written.{Written}
 use Rattle.plan.specs.Levels.{baseSpeeds}
 use Rattle.plan.specs.Blocks.{tasksIn}
 use Rattle.plan.specs.Questions.{reading, roomQuestion}
-use Rattle.plan.specs.Answers.{writtenBy}
 use Rattle.plan.specs.Numbers.{writtenNumber}
+use Rattle.plan.proofs.NumberLaws.{written-most}
 use Rattle.plan.proofs.Facts.{FineList, fine-block, block-list}
 use Rattle.plan.proofs.LevelLaws.{baseRising}
 use Rattle.arith.proofs.QuestionLaws.{yes-of, Yes, all-yes, yes-all, firstNo-most}
@@ -100,17 +100,13 @@ queueBytes-length : (q : List Pending) → length (queueBytes q) ≡ 3 * length 
 queueBytes-length [] = refl
 queueBytes-length (e ∷ q) = omega (arith, queueBytes-length q)
 
-written-most : (n : ℕ) (bytes : List ℕ) → n ≤ 15 → (n ≡ 0 → length bytes ≤ 48) → writtenNumber (writtenBy n bytes) < 2 ^ 36
-written-most zero bytes h f = omega (arith, f refl)
-written-most (suc n) bytes h f = omega arith
-
 pub show-most : (bytes : List ℕ) (room : ℕ) (w : Written) → w ≡ showReply baseSpeeds bytes room → writtenNumber w < 2 ^ 36
 show-most bytes room w e =
     subst (λ (x : Written). writtenNumber x < 2 ^ 36) (sym e)
     (written-most (showNumber baseSpeeds bytes room) (shownBytes baseSpeeds bytes)
-    (firstNo-most 15 (showing baseSpeeds bytes (length (shownBytes baseSpeeds bytes)) room) refl) long)
+    (firstNo-most 255 (showing baseSpeeds bytes (length (shownBytes baseSpeeds bytes)) room) refl) long)
   where
-    long : showNumber baseSpeeds bytes room ≡ 0 → length (shownBytes baseSpeeds bytes) ≤ 48
+    long : showNumber baseSpeeds bytes room ≡ 0 → length (shownBytes baseSpeeds bytes) ≤ 255
     long z =
         let s : State = decode bytes in
         let f = sound-fine baseSpeeds s (sound-state bytes (all-yes (showing baseSpeeds bytes (length (shownBytes baseSpeeds bytes)) room) refl z .0)) in

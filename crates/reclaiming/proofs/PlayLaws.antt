@@ -6,20 +6,18 @@ use mathlib.Core.Bool.{Bool, true, false}
 use mathlib.Core.List.{List, [], _∷_, _++_}
 use native.Mathlib.Omega.{arith}
 use borrow.Author.Tests.{eq-eqb, ne-eqb, eqb-true, eqb-false}
-use lib.Dec.{eqb, lit<, lit≤}
+use lib.Dec.{eqb, lit≤}
 use lib.Arith.{digits-mod}
 use lib.ListN.{length, take, drop}
 use Rattle.arith.specs.Choice.{pick}
-use Rattle.arith.specs.Asking.{Question, firstNo}
-use Rattle.arith.proofs.Tests.{passed, failed, tested, both-right}
-use Rattle.arith.proofs.QuestionLaws.{Yes, all-yes, yes-all}
+use Rattle.arith.proofs.Tests.{tested, both-right}
+use Rattle.arith.proofs.QuestionLaws.{Yes, all-yes, yes-all, firstNo-most}
 use Rattle.plan.specs.Levels.{baseSpeeds}
 use Rattle.plan.specs.Blocks.{tasksIn}
 use Rattle.plan.specs.Answers.{storedBy}
 use Rattle.plan.proofs.Facts.{FineList}
 use Rattle.plan.proofs.LevelLaws.{baseRising}
 use Rattle.schedule.specs.PlainSchedule.{Timing, opened}
-use Rattle.schedule.specs.Feasibility.{All}
 use Rattle.reclaiming.specs.declared.Reply.{Reply}
 use Rattle.reclaiming.specs.declared.Reply.the-variants as reply
 use Rattle.reclaiming.specs.StateBlock.{State, encode, decode, planIn, timing, laidOut}
@@ -73,12 +71,6 @@ from-number (reply.Refused n) small =
     let c : n % 256 ≡ n = omega arith in
     ap₂ (kinds n) (ne-eqb (n / 256 % 256) 1 (λ e. omega arith)) (ne-eqb (n / 256 % 256) 2 (λ e. omega arith)) ∙ ap (λ (y : ℕ). reply.Refused y) c
 
--- a refusal's number is one of the questions'
-no-below : (k : ℕ) (qs : List Question) → 0 < k → All (λ (q : Question). q .number < k) qs → firstNo qs < k
-no-below k [] p a = p
-no-below k (q ∷ qs) p a =
-    elim (tested (q .reply)) as (λ b _. pick b (firstNo qs) (q .number) < k) [ passed ↦ no-below k qs p (a .1) | failed ↦ a .0 ]
-
 order-small : (s : State) (hold : ℕ) → Storable s → Small (orderWith s hold)
 order-small s hold fits = elim (viewOrder s hold) as (λ r _. Small r) [ is-idle e ↦ tt | is-run e ↦ (fits .task, fits .level) ]
 
@@ -110,7 +102,7 @@ module _ (bytes : List ℕ) (d : ℕ) (finished : Bool) where
   pass-small : Small (passReply baseSpeeds bytes d finished)
   pass-small =
       replied-small (passNumber baseSpeeds bytes d finished) (passOrder baseSpeeds before d finished)
-      (no-below 256 (passing baseSpeeds bytes d finished) (lit< tt) (lit< tt, (lit< tt, (lit< tt, (lit< tt, (lit< tt, (lit< tt, tt)))))))
+      (omega (arith, firstNo-most 15 (passing baseSpeeds bytes d finished) refl))
       (λ e. order-small next (passedHold baseSpeeds (timing baseSpeeds (planIn before)) before d finished) (next-storable e))
 
 -- and of a start
@@ -131,8 +123,7 @@ module _ (block buffer : List ℕ) where
   start-small : Small (startReply baseSpeeds block (length buffer))
   start-small =
       replied-small (startNumber baseSpeeds block (length buffer)) (startOrder baseSpeeds begun)
-      (no-below 256 (starting baseSpeeds block (length buffer)) (lit< tt)
-      (lit< tt, (lit< tt, (lit< tt, (lit< tt, (lit< tt, (lit< tt, (lit< tt, (lit< tt, (lit< tt, tt))))))))))
+      (omega (arith, firstNo-most 15 (starting baseSpeeds block (length buffer)) refl))
       (λ e. order-small begun begun-hold (storable (good baseSpeeds baseRising few block buffer (number-started e))))
     where
       storable : FineList baseSpeeds (length (tasksIn block)) (tasksIn block) → Storable begun

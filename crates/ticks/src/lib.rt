@@ -19,7 +19,6 @@ ghost use mathlib.Core.Bool.{false};
 ghost use Prim.Native.Nat.{ℕ, _+_, _-_, _*_, _%_, _<_, _≤_, min};
 ghost use lib.ListN.{length, getD};
 ghost use lib.Seq.{sets};
-ghost use Rattle.arith.specs.Choice.{pick};
 ghost use Rattle.arith.specs.Need.{need};
 ghost use Rattle.arith.specs.Digits.{digits};
 ghost use Rattle.plan.specs.Levels.{baseSpeeds};
@@ -27,7 +26,7 @@ ghost use Rattle.reclaiming.specs.StateBlock.{State, noEntry, workOf, remaining
 ghost use Rattle.reclaiming.specs.Orders.{nextArrival};
 ghost use Rattle.reclaiming.specs.Passes.{workedOf, movedState};
 ghost use Rattle.reclaiming.specs.Questions.{largestClock};
-ghost use Rattle.state.specs.Code.{entryIn, timingIn, withJobs, keyOf, noKey, dueAt, drainedBy};
+ghost use Rattle.state.specs.Code.{entryIn, timingIn, withJobs, noKey, dueAt, drainedBy};
 ghost use Rattle.orders.specs.Code.{choiceOf};
 ghost use Rattle.ticks.specs.Code.{Stepping, arrivedState, renewedKeys};
 

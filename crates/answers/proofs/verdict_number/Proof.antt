@@ -1,3 +1,5 @@
+-- `verdict_number` meets its contract.
+-- Assumes nothing.
 use Prim.Native.Nat.{_+_, _*_}
 use mathlib.Core.Path.{_≡_, sym, ap}
 use native.Mathlib.Omega.{arith}

@@ -1,3 +1,5 @@
+-- `written_number` meets its contract.
+-- Assumes nothing.
 use Prim.Native.Nat.{_*_}
 use mathlib.Core.Path.{_≡_, sym, ap}
 use native.Mathlib.Omega.{arith}

@@ -1,3 +1,5 @@
+-- `listing_room` meets its contract.
+-- Assumes nothing.
 use Rattle.bench.proofs.Sizes.{zeros}
 use Rattle.bench.proofs.listing_room.Statement.{statement}
 use Rattle.bench.proofs.listing_room.Tie as tie

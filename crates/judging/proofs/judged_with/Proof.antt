@@ -1,3 +1,5 @@
+-- `judged_with` meets its contract.
+-- Assumes nothing.
 use borrow.Author.Needs.{needs}
 use Rattle.arith.specs.Asking.{firstNo}
 use Rattle.plan.specs.Blocks.{tasksOf}

@@ -1,3 +1,5 @@
+-- `nominal_of` meets its contract.
+-- Assumes nothing.
 use Prim.Native.Nat.{ℕ, _<_, _≤_, _-_}
 use mathlib.Core.Path.{sym, subst}
 use mathlib.Core.List.{List}

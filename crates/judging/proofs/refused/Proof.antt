@@ -1,3 +1,5 @@
+-- `refused` meets its contract.
+-- Assumes nothing.
 use mathlib.Core.List.{[]}
 use Rattle.plan.specs.Levels.{baseSpeeds}
 use Rattle.judging.proofs.Judgements.{refused-is}

@@ -1,3 +1,5 @@
+-- `slowest_for` meets its contract.
+-- Assumes nothing.
 use Prim.Native.Nat.{zero-le, _≤_, _-_, _*_, _^_}
 use native.Mathlib.Omega.{arith}
 use borrow.Author.Tests.{le-leb, lt-leb}

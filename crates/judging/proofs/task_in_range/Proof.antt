@@ -1,3 +1,5 @@
+-- `task_in_range` meets its contract.
+-- Assumes nothing.
 use native.Mathlib.Omega.{arith}
 use Rattle.judging.proofs.Judgements.{period-low, period-high, worst-low, worst-high}
 use Rattle.judging.proofs.task_in_range.Statement.{statement}

@@ -1,3 +1,5 @@
+-- `put_spaced` meets its contract.
+-- Assumes nothing.
 use Rattle.lines.proofs.Puts.{_then_}
 use borrow.Author.Needs.{needs}
 use Rattle.lines.proofs.put_spaced.Statement.{statement}

@@ -1,3 +1,5 @@
+-- `reply_line` meets its contract.
+-- Assumes nothing.
 use borrow.Author.Needs.{needs}
 use Rattle.lines.proofs.reply_line.Statement.{statement}
 use Rattle.lines.proofs.reply_line.Tie as tie

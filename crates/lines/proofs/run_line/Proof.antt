@@ -1,3 +1,5 @@
+-- `run_line` meets its contract.
+-- Assumes nothing.
 use native.Mathlib.Omega.{arith}
 use Rattle.lines.proofs.Puts.{_then_, wider}
 use borrow.Author.Needs.{needs}

@@ -1,3 +1,5 @@
+-- `list_into` meets its contract.
+-- Assumes nothing.
 use Prim.Native.Nat.{ℕ}
 use mathlib.Core.Path.{sym}
 use mathlib.Core.List.{List}

@@ -1,3 +1,5 @@
+-- `plan_cut` meets its contract.
+-- Assumes nothing.
 use Prim.Native.Nat.{ℕ}
 use mathlib.Core.List.{List}
 use Rattle.listing.proofs.Cuts.{Wanted, cut-short, cut-low, cut-high, cut-part, cut-whole}

@@ -1,3 +1,5 @@
+-- `started_lines` meets its contract.
+-- Assumes nothing.
 use native.Mathlib.Omega.{arith}
 use Rattle.lines.proofs.Puts.{_then_, as-text}
 use Rattle.listing.proofs.Whole.{started-is}

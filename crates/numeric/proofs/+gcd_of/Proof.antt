@@ -1,3 +1,5 @@
+-- `gcd_of` meets its contract.
+-- Assumes nothing.
 use mathlib.Core.Path.{sym, _∙_, ap, subst}
 use native.Mathlib.Nat.{mod-lt}
 use native.Mathlib.Omega.{arith}

@@ -1,3 +1,5 @@
+-- `bits_at` meets its contract.
+-- Assumes nothing.
 use native.Mathlib.Omega.{arith}
 use Rattle.arith.proofs.BitLaws.{bits-read}
 use lib.Pow.{pow-pos, pow-mono}

@@ -1,3 +1,5 @@
+-- `lcm_of` meets its contract.
+-- Assumes nothing.
 use Prim.Native.Nat.{ℕ, _<_, _/_, _^_}
 use mathlib.Core.Path.{subst, sym}
 use native.Mathlib.Nat.{div-le-self}

@@ -1,3 +1,5 @@
+-- `time_needed` meets its contract.
+-- Assumes nothing.
 use Prim.Native.Nat.{_+_, _/_}
 use mathlib.Core.Path.{_≡_}
 use native.Mathlib.Omega.{arith}

@@ -5,22 +5,22 @@ use Rattle.passing.proofs.finish_number.Statement.{statement}
 use Rattle.passing.proofs.finish_number.Tie as tie
 
 returns : tie.Need-returns
-returns c = no-13 (c .before .before .before .args .c) (c .before .before .before .args .d) (c .before .before .before .args .finished) (c .before .if1 .taken) (c .if2 .taken)
+returns c = let s : tie.Start = search in no-13 (s .args .c) (s .args .d) (s .args .finished) (c .before .if1 .taken) (c .if2 .taken)
 
 returns-2 : tie.Need-returns-2
-returns-2 c = idle-on (c .before .before .before .args .c) (c .before .before .before .args .d) (c .before .before .before .args .finished) (c .before .if1 .taken) (c .if2 .left)
+returns-2 c = let s : tie.Start = search in idle-on (s .args .c) (s .args .d) (s .args .finished) (c .before .if1 .taken) (c .if2 .left)
 
 returns-3 : tie.Need-returns-3
-returns-3 c = time-left (c .before .before .before .before .args .c) (c .before .before .before .before .args .d) (c .before .before .before .before .args .finished) (c .before .before .if1 .left) (c .if3 .taken)
+returns-3 c = let s : tie.Start = search in time-left (s .args .c) (s .args .d) (s .args .finished) (c .before .before .if1 .left) (c .if3 .taken)
 
 returns-4 : tie.Need-returns-4
-returns-4 c = time-over (c .before .before .before .before .before .before .args .c) (c .before .before .before .before .before .before .args .d) (c .before .before .before .before .before .before .args .finished) (c .before .before .before .before .if1 .left) (c .if4 .taken)
+returns-4 c = let s : tie.Start = search in time-over (s .args .c) (s .args .d) (s .args .finished) (c .before .before .before .before .if1 .left) (c .if4 .taken)
 
 returns-5 : tie.Need-returns-5
-returns-5 c = time-whole (c .before .before .before .before .before .before .before .args .c) (c .before .before .before .before .before .before .before .args .d) (c .before .before .before .before .before .before .before .args .finished) (c .before .before .before .before .before .if1 .left) (c .before .if4 .left) (c .if5 .taken)
+returns-5 c = let s : tie.Start = search in time-whole (s .args .c) (s .args .d) (s .args .finished) (c .before .before .before .before .before .if1 .left) (c .before .if4 .left) (c .if5 .taken)
 
 returns-6 : tie.Need-returns-6
-returns-6 c = time-not (c .before .before .before .before .before .before .before .args .c) (c .before .before .before .before .before .before .before .args .d) (c .before .before .before .before .before .before .before .args .finished) (c .before .before .before .before .before .if1 .left) (c .before .before .before .if3 .left) (c .if5 .left)
+returns-6 c = let s : tie.Start = search in time-not (s .args .c) (s .args .d) (s .args .finished) (c .before .before .before .before .before .if1 .left) (c .before .before .before .if3 .left) (c .if5 .left)
 
 pub finish-number-spec : {M : Type 1} → statement M
 finish-number-spec = tie.close (tie.spec returns returns-2 returns-3 returns-4 returns-5 returns-6)

@@ -23,7 +23,8 @@ start c = c .before .before .before .before .before
 
 moved :
     (c : tie.After-slice-known2) →
-    After (block (start c)) (keys (start c)) (start c .args .highest) (start c .args .next) (start c .args .d) (start c .args .finished) (start c .args .c) (c .before .before .move-on .last .0)
+    After (block (start c)) (keys (start c)) (start c .args .highest) (start c .args .next) (start c .args .d) (start c .args .finished) (start c .args .c)
+    (c .before .before .move-on .last .0)
 moved c = record { passing = passing (start c); moved = c .before .before .move-on .ensures }
 
 move-on-requires : tie.Need-move-on-requires
@@ -66,7 +67,8 @@ same-length-2 c = search needs
 returns-2 : tie.Need-returns-2
 returns-2 c =
     let k = moved (c .before .before .before .before) in (
-      kept-reply k (c .before .before .before .if1 .taken) (c .before .before .if2 .left) (c .before .hold-of .result) (c .before .hold-of .ensures) (c .order-of .result) (c .order-of .ensures),
+      kept-reply k (c .before .before .before .if1 .taken) (c .before .before .if2 .left) (c .before .hold-of .result) (c .before .hold-of .ensures)
+          (c .order-of .result) (c .order-of .ensures),
       kept-bytes k (c .before .before .before .if1 .taken) (c .before .before .if2 .left),
     )
 
@@ -99,9 +101,10 @@ same-length-3 c = search needs
 
 returns-3 : tie.Need-returns-3
 returns-3 c =
-    let k = moved (c .before .before .before .before .before .before .before .before .before .before) in (
-      chosen-reply k (chosen-late k (c .before .before .before .before .before .before .before .before .before .if1 .left)) (c .before .before .choose .result) (c .before .before .choose .ensures .0),
-      chosen-bytes k (chosen-late k (c .before .before .before .before .before .before .before .before .before .if1 .left)) (c .before .before .choose .last .0) (c .before .before .choose .ensures .1),
+    let late : tie.Else1 = search in
+    let k = moved (late .before) in (
+      chosen-reply k (chosen-late k (late .if1 .left)) (c .before .before .choose .result) (c .before .before .choose .ensures .0),
+      chosen-bytes k (chosen-late k (late .if1 .left)) (c .before .before .choose .last .0) (c .before .before .choose .ensures .1),
     )
 
 pub passed-spec : {M : Type 1} → statement M

@@ -1,3 +1,5 @@
+-- `block_length` meets its contract.
+-- Assumes nothing.
 use mathlib.Core.Path.{sym}
 use Rattle.plan.proofs.BlockBits.{blockLength-is}
 use borrow.Author.Needs.{needs}

@@ -1,3 +1,5 @@
+-- `copy` meets its contract.
+-- Assumes nothing.
 use native.Mathlib.Omega.{arith}
 use Rattle.plan.specs.Levels.{baseSpeeds}
 use Rattle.plan.specs.Laws.{Bytes}

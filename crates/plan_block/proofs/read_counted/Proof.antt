@@ -1,3 +1,5 @@
+-- `read_counted` meets its contract.
+-- Assumes nothing.
 use mathlib.Core.Path.{ap}
 use native.Mathlib.Omega.{arith}
 use borrow.Author.Needs.{needs}

@@ -1,3 +1,5 @@
+-- `task_bit` meets its contract.
+-- Assumes nothing.
 use borrow.Author.Needs.{needs}
 use Rattle.arith.proofs.Loops.{length-mapped}
 use Rattle.judging.proofs.Judgements.{Held}

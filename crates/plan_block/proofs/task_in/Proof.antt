@@ -1,3 +1,5 @@
+-- `task_in` meets its contract.
+-- Assumes nothing.
 use Rattle.arith.specs.Bits.{unpacked}
 use Rattle.plan_block.proofs.Codec.{task-read}
 use borrow.Author.Needs.{needs}

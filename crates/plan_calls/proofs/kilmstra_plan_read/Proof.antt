@@ -1,3 +1,5 @@
+-- `kilmstra_plan_read` meets its contract.
+-- Assumes nothing.
 use mathlib.Core.Path.{ap, _∙_}
 use Rattle.plan.specs.declared.Judged.{Judged}
 use Rattle.plan.specs.Numbers.{verdictNumber}

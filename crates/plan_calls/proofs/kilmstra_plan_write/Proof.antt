@@ -1,3 +1,5 @@
+-- `kilmstra_plan_write` meets its contract.
+-- Assumes nothing.
 use mathlib.Core.Path.{ap, _∙_}
 use lib.ListN.{length}
 use Rattle.plan.specs.declared.Plan.{Plan}

@@ -1,3 +1,5 @@
+-- `clock_after` meets its contract.
+-- Assumes nothing.
 use native.Mathlib.Omega.{arith}
 use borrow.Author.Needs.{needs}
 use Rattle.listing.proofs.passes.clock_after.Statement.{statement}

@@ -1,3 +1,5 @@
+-- `pass_lines` meets its contract.
+-- Assumes nothing.
 use Prim.Native.Nat.{_+_, _-_, _<_}
 use native.Mathlib.Omega.{arith}
 use lib.ListN.{length}

@@ -1,13 +1,10 @@
 -- `plan_of` meets its contract. The loop has copied the tasks below i.
 -- Assumes nothing.
 use Prim.Native.Nat.{_<_, _-_}
-use mathlib.Core.Path.{refl, ap, _∙_}
+use mathlib.Core.Path.{refl, ap}
 use native.Mathlib.Omega.{arith}
 use borrow.Author.Needs.{needs}
 use Rattle.plan.specs.declared.Plan.{Plan}
-use Rattle.plan.specs.Blocks.{noTask}
-use Rattle.arith.proofs.Loops.{filled-none}
-use Rattle.reclaiming.specs.StateBlock.{planIn, decode}
 use Rattle.orders.proofs.SoundLaws.{Copying, copy-more, copy-all}
 use Rattle.orders.proofs.sound.plan_of.Statement.{statement}
 use Rattle.orders.proofs.sound.plan_of.Tie as tie
@@ -27,9 +24,7 @@ loop-holds c =
     record {
       holds = s .pre .0;
       same = s .pre .1;
-      below = omega arith;
-      counted = refl;
-      tasks = ap (λ (x : Plan). x .tasks) (c .empty-plan .ensures) ∙ filled-none 16 noTask (planIn (decode (s .args .block .now)));
+      filled = record { within = omega arith; counted = refl; tasks = ap (λ (x : Plan). x .tasks) (c .empty-plan .ensures) };
     }
 
 -- a turn: the task's number is below 16

@@ -1,3 +1,5 @@
+-- `judged_number` meets its contract.
+-- Assumes nothing.
 use mathlib.Core.Path.{ap, _∙_}
 use borrow.Author.Needs.{needs}
 use Rattle.plan.specs.declared.Judged.{Judged}
