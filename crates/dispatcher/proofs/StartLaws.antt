@@ -9,7 +9,6 @@ use native.Mathlib.Omega.{arith}
 use borrow.Author.Tests.{le-leb, lt-leb}
 use lib.ListN.{length, getD, take, drop, replicate, length-append, length-replicate}
 use lib.Seq.{sets, length-take-le, getD-take, take-all}
-use Rattle.arith.specs.Bits.{unpacked}
 use Rattle.arith.specs.Choice.{pick}
 use Rattle.arith.specs.Need.{need}
 use Rattle.arith.proofs.Needs.{need-covers}
@@ -18,14 +17,13 @@ use Rattle.plan.specs.declared.Plan.{Plan}
 use Rattle.plan.specs.declared.Judged.{Judged}
 use Rattle.plan.specs.declared.Verdict.the-variants as verdict
 use Rattle.plan.specs.Levels.{baseSpeeds, speedOf, nominal}
-use Rattle.plan.specs.Blocks.{noTask, tasksOf, tasksIn, planOf, countIn}
+use Rattle.plan.specs.Blocks.{noTask, tasksOf, tasksIn, planOf}
 use Rattle.plan.specs.Questions.{judging, reading, roomQuestion}
 use Rattle.arith.specs.Asking.{firstNo}
 use Rattle.plan.specs.Answers.{answered, beside, readBlock, storedBy}
-use Rattle.plan.proofs.Facts.{FineList, FineBlock, fine-list, fine-block, list-yes}
+use Rattle.plan.proofs.Facts.{FineList, fine-list, length-tasksOf}
 use Rattle.plan.proofs.LevelLaws.{baseRising}
-use Rattle.plan.proofs.BlockBits.{length-tasksFrom}
-use Rattle.plan.proofs.RoundTrip.{tasksOf-planOf}
+use Rattle.plan.proofs.RoundTrip.{tasksOf-planOf, read-judged}
 use Rattle.plan_block.proofs.Codec.{told-refused, told-admitted}
 use Rattle.arith.proofs.QuestionLaws.{no-before, yes-before}
 use Rattle.schedule.specs.PlainSchedule.{Timing}
@@ -69,15 +67,12 @@ stored-size front es i f few h =
     )
 
 -- a plan as the code holds it, in 16 places: how many tasks it has
-plan-length : (p : Plan) → length (p .tasks) ≡ 16 → p .count ≤ 16 → length (tasksOf p) ≡ p .count
-plan-length p size few = length-take-le (p .count) (p .tasks) (omega arith)
-
 pub record Held (p : Plan) : Type 0 where
   pub few : p .count ≤ 16
   pub count : p .count ≡ length (tasksOf p)
 
 pub held : (p : Plan) → length (p .tasks) ≡ 16 → p .count ≤ 16 → Held p
-held p size few = record { few = few; count = sym (plan-length p size few) }
+held p size few = record { few = few; count = sym (length-tasksOf p size few) }
 
 -- an image on its way: its first i entries are stored
 pub record Making (speed : ℕ) (p : Plan) (image : List ℕ) (i : ℕ) : Type 0 where
@@ -366,16 +361,10 @@ module _ {block : List ℕ} {j : Judged} {level span : ℕ} (k : Admitted block 
       cc
 
   pub start-read : (firstNo (judging baseSpeeds (j .plan .count) (tasksOf (j .plan))) ≡ 0) × (level ≡ nominal baseSpeeds (tasksOf (j .plan)))
-  start-read =
-      let ts : List Task = tasksIn block in
-      let f : FineBlock baseSpeeds block = fine-block baseSpeeds block accepted in
-      let n : length ts ≡ countIn block = length-tasksFrom (countIn block) (drop 9 (unpacked block)) in (
-        ap (λ (q : Plan). firstNo (judging baseSpeeds (q .count) (tasksOf q))) plan-is
-            ∙ ap (λ (l : List Task). firstNo (judging baseSpeeds (length ts) l)) (tasksOf-planOf ts)
-            ∙ list-yes baseSpeeds (length ts) ts
-            record { count-low = omega (arith, f .count-low); count-high = omega (arith, f .count-high); tasks = f .tasks },
-        level-is ∙ sym (ap (nominal baseSpeeds) tasks-are),
-      )
+  start-read = (
+    read-judged baseSpeeds block (j .plan) accepted plan-is,
+    level-is ∙ sym (ap (nominal baseSpeeds) tasks-are),
+  )
 
   pub start-left :
       (buffer : List ℕ) {r : Reply} {m : List ℕ} →

@@ -17,12 +17,13 @@ use Rattle.arith.proofs.ListLaws.{at-every, zero-at}
 use Rattle.arith.proofs.Needs.{need-covers}
 use Rattle.arith.proofs.BitLaws.{unpacked-packed, unpacked-below, packed-same, packed-unpacked}
 use Rattle.plan.specs.declared.Task.{Task}
+use Rattle.plan.specs.declared.Plan.{Plan}
 use Rattle.plan.specs.Blocks.{planBits, planBlock, bitCount, blockLength, countIn, tasksIn, closingBits, tasksOf, planOf, noTask}
 use Rattle.plan.specs.Questions.{inRange, judging, reading}
 use Rattle.plan.specs.Answers.{judgedBy}
 use Rattle.plan.specs.Laws.{Bytes, WrittenReadsBack, AcceptedWritesBack}
 use Rattle.plan.proofs.BlockBits.{length-planBits, planBits-below, length-planBlock, blockLength-covers, length-tasksFrom, tasksFrom-read}
-use Rattle.plan.proofs.Facts.{FineTasks, FineList, FineBlock, fine-list, fine-block, block-yes}
+use Rattle.plan.proofs.Facts.{FineTasks, FineList, FineBlock, fine-list, fine-block, block-yes, list-yes, block-list}
 use Rattle.plan.proofs.Fields.{Holds, holds-same, planBits-hold, holds-bits}
 
 -- the bits of a block written are the plan's
@@ -123,6 +124,18 @@ accepted-block speeds block bytes f =
 -- the tasks of a plan made of a list
 pub tasksOf-planOf : (ts : List Task) → tasksOf (planOf ts) ≡ ts
 tasksOf-planOf ts = take-append-seam ts (replicate (16 - length ts) noTask)
+
+-- the plan of an accepted block passes the questions that judging puts
+pub read-judged :
+    (speeds block : List ℕ) (p : Plan) →
+    firstNo (reading speeds block) ≡ 0 →
+    p ≡ planOf (tasksIn block) →
+    firstNo (judging speeds (p .count) (tasksOf p)) ≡ 0
+read-judged speeds block p accepted e =
+    let ts : List Task = tasksIn block in
+    ap (λ (q : Plan). firstNo (judging speeds (q .count) (tasksOf q))) e
+    ∙ ap (λ (l : List Task). firstNo (judging speeds (length ts) l)) (tasksOf-planOf ts)
+    ∙ list-yes speeds (length ts) ts (block-list speeds block (fine-block speeds block accepted))
 
 pub accepted-writes-back : (speeds : List ℕ) → AcceptedWritesBack speeds
 accepted-writes-back speeds block bytes h =

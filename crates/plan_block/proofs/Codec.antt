@@ -26,11 +26,11 @@ use Rattle.arith.specs.Asking.{Question, ask, firstNo}
 use Rattle.plan.specs.Answers.{answered, beside, judgedBy, readBlock, writeNumber, writtenBy, storedBy, writePlan, writeBuffer}
 use Rattle.plan.specs.Laws.{Bytes}
 use Rattle.judging.proofs.Judgements.{Held, Filled, filled-all, count-low, count-high, count-good}
-use Rattle.plan.proofs.Facts.{FineBlock, fine-block, list-yes, length-tasksOf}
+use Rattle.plan.proofs.Facts.{fine-block, length-tasksOf}
 use Rattle.arith.proofs.QuestionLaws.{within-true, ask-no, ask-yes, no-before, within-over, within-under, yes-before, yes-of}
 use Rattle.plan.proofs.BlockBits.{planBits-edition, planBits-count, planBits-period, planBits-worst, planBits-past}
 use Rattle.plan.proofs.BlockBits.{length-tasksFrom, tasksFrom-at, length-planBlock, planBlock-at, closing-zero}
-use Rattle.plan.proofs.RoundTrip.{written-reads-back, accepted-block, tasksOf-planOf}
+use Rattle.plan.proofs.RoundTrip.{written-reads-back, accepted-block, tasksOf-planOf, read-judged}
 
 -- a task read at its place
 pub task-read :
@@ -404,18 +404,7 @@ module _ (speeds block : List ℕ) where
         ∙ accepted-block speeds block bytes (fine-block speeds block accepted)
 
     judged : firstNo (asked speeds p) ≡ 0
-    judged =
-        let ts : List Task = tasksIn block in
-        let f : FineBlock speeds block = fine-block speeds block accepted in
-        let n : length ts ≡ countIn block = length-tasksFrom (countIn block) (drop 9 (unpacked block)) in
-        ap (λ (q : Plan). firstNo (asked speeds q)) e
-        ∙ ap (λ (l : List Task). firstNo (judging speeds (length ts) l)) (tasksOf-planOf ts)
-        ∙ list-yes speeds (length ts) ts
-        record {
-          count-low = subst (λ (k : ℕ). 1 ≤ k) (sym n) (f .count-low);
-          count-high = subst (λ (k : ℕ). k ≤ 16) (sym n) (f .count-high);
-          tasks = f .tasks;
-        }
+    judged = read-judged speeds block p accepted e
 
     copy-number : (room : ℕ) → writeNumber speeds p room ≡ firstNo (reading speeds block ++ room-asked room)
     copy-number room =

@@ -28,11 +28,6 @@ use Rattle.reclaiming.specs.Calls.{queueBytes}
 use Rattle.state.specs.Code.{Keyed, keyOf, noKey, deadlineIn, dueAt, urgentBy, leastKey, allowedBy, drainedBy, placed, readyTo, tasksBytes}
 use Rattle.arith.proofs.RangeLaws.{least-le, Attained, least-at}
 
--- the task at the head of a queue, or 255
-abbrev pub headTask : List Pending → ℕ
-headTask [] = 255
-headTask (e ∷ q) = e .job .task
-
 -- the key at the head of a queue
 abbrev pub headKey : List ℕ → List Pending → ℕ
 headKey keys [] = noKey

@@ -1,5 +1,6 @@
 -- `pass_number` meets its contract.
 -- Assumes nothing.
+use native.Mathlib.Omega.{arith}
 use borrow.Author.Needs.{needs}
 use borrow.Author.Tests.{not-true, not-false}
 use Rattle.passing.proofs.QuestionSteps.{Timely, no-11, no-12, no-finish, no-15, no-none}
@@ -10,7 +11,7 @@ abbrev start : tie.After-finish-number → tie.Start
 start c = c .before .before .before
 
 timely : (c : tie.After-finish-number) → Timely (start c .args .c) (start c .args .next) (start c .args .d) (start c .args .finished) (c .finish-number .result)
-timely c = record { some = c .before .before .if1 .left; within = c .before .if2 .left; number = c .finish-number .ensures }
+timely c = record { some = c .before .before .if1 .left; within = omega (arith, c .before .if2 .left); number = c .finish-number .ensures }
 
 returns : tie.Need-returns
 returns c = no-11 (c .before .args .clock .ticks) (c .before .args .c) (c .before .args .next) (c .before .args .d) (c .before .args .finished) (c .if1 .taken)
