@@ -21,9 +21,10 @@ use Rattle.plan.specs.Blocks.{noTask, tasksOf, tasksIn, planOf}
 use Rattle.plan.specs.Questions.{judging, reading, roomQuestion}
 use Rattle.arith.specs.Asking.{firstNo}
 use Rattle.plan.specs.Answers.{answered, beside, readBlock, storedBy}
-use Rattle.plan.proofs.Facts.{FineList, fine-list, length-tasksOf}
+use Rattle.plan.proofs.Facts.{FineList, fine-list}
 use Rattle.plan.proofs.LevelLaws.{baseRising}
 use Rattle.plan.proofs.RoundTrip.{tasksOf-planOf, read-judged}
+use Rattle.judging.proofs.Judgements.{Held, count-is}
 use Rattle.plan_block.proofs.Codec.{told-refused, told-admitted}
 use Rattle.arith.proofs.QuestionLaws.{no-before, yes-before}
 use Rattle.schedule.specs.PlainSchedule.{Timing}
@@ -66,14 +67,6 @@ stored-size front es i f few h =
       length-replicate {A = ℕ} (12 * (16 - i)) 0,
     )
 
--- a plan as the code holds it, in 16 places: how many tasks it has
-pub record Held (p : Plan) : Type 0 where
-  pub few : p .count ≤ 16
-  pub count : p .count ≡ length (tasksOf p)
-
-pub held : (p : Plan) → length (p .tasks) ≡ 16 → p .count ≤ 16 → Held p
-held p size few = record { few = few; count = sym (length-tasksOf p size few) }
-
 -- an image on its way: its first i entries are stored
 pub record Making (speed : ℕ) (p : Plan) (image : List ℕ) (i : ℕ) : Type 0 where
   pub plan : Held p
@@ -86,13 +79,13 @@ module _ (speed : ℕ) {p : Plan} (plan : Held p) where
   made = newState speed (tasksOf p) .entries
 
   made-are : length made ≡ p .count
-  made-are = length-listTo (length (tasksOf p)) (newEntry (timingAt speed (tasksOf p)) (tasksOf p)) ∙ sym (plan .count)
+  made-are = length-listTo (length (tasksOf p)) (newEntry (timingAt speed (tasksOf p)) (tasksOf p)) ∙ count-is plan
 
   making : (i : ℕ) (image : List ℕ) → i ≤ p .count → image ≡ storedTo (newFront (p .count)) made i → Making speed p image i
   making i image h e = record {
     plan = plan;
     below = h;
-    size = ap length e ∙ stored-size (newFront (p .count)) made i refl (omega (arith, plan .few)) (omega (arith, made-are));
+    size = ap length e ∙ stored-size (newFront (p .count)) made i refl (omega (arith, plan .most)) (omega (arith, made-are));
     bytes = e;
   }
 
@@ -123,9 +116,9 @@ module _ {speed : ℕ} {p : Plan} {image : List ℕ} {i : ℕ} (so-far : Making 
       let ticks-is : ticks ≡ need speed (getD ts i noTask .worst) = e ∙ ap (λ (t : Task). need speed (t .worst)) same in
       let new : entryMade p i ticks ≡ f i =
       λ j. record { period = same j .period; worst = same j .worst; work = same j .worst; remaining = ticks-is j } in
-      let at : f i ≡ getD es i noEntry = sym (getD-listTo (length ts) f i noEntry (omega (arith, so-far .plan .count))) in
+      let at : f i ≡ getD es i noEntry = sym (getD-listTo (length ts) f i noEntry (omega (arith, count-is (so-far .plan)))) in
       making speed (so-far .plan) (i + 1) m (omega arith)
-      (stored-more (newFront (p .count)) es i image m refl (omega (arith, so-far .plan .few)) (omega (arith, made-are speed (so-far .plan))) (so-far .bytes)
+      (stored-more (newFront (p .count)) es i image m refl (omega (arith, so-far .plan .most)) (omega (arith, made-are speed (so-far .plan))) (so-far .bytes)
       (s ∙ ap (λ (x : Entry). sets image (8 + 12 * i) (take 10 (entryBytes x))) (new ∙ at)))
 
   pub making-all : p .count ≤ i → image ≡ encode (newState speed (tasksOf p))
@@ -151,8 +144,8 @@ pub planned :
     Planned p level
 planned p level size ok e =
     let f : FineList baseSpeeds (p .count) (tasksOf p) = fine-list baseSpeeds (p .count) (tasksOf p) ok in
-    let h : Held p = held p size (f .count-high) in
-    record { plan = h; good = subst (λ (n : ℕ). FineList baseSpeeds n (tasksOf p)) (h .count) f; level-is = e }
+    let h : Held p = record { places = size; most = f .count-high } in
+    record { plan = h; good = subst (λ (n : ℕ). FineList baseSpeeds n (tasksOf p)) (sym (count-is h)) f; level-is = e }
 
 module _ {p : Plan} {level : ℕ} (k : Planned p level) where
   pub level-below : level < 8

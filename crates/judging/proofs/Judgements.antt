@@ -33,7 +33,7 @@ use Rattle.arith.proofs.Needs.{need-le}
 use Rattle.arith.proofs.Searches.{first-found, first-next, first-weaker}
 use Rattle.arith.proofs.Sums.{sumTo-eq, sumOf-taken}
 use Rattle.arith.proofs.Tests.{both-false}
-use Rattle.plan.proofs.Facts.{InRange, in-range}
+use Rattle.plan.proofs.Facts.{InRange, in-range, length-tasksOf}
 use Rattle.plan.proofs.LevelLaws.{admits-covers, baseRising, hyperperiod-drop, range-positive}
 
 pub period-low : (t : Task) → t .period < 1 → false ≡ inRange t
@@ -55,6 +55,9 @@ pub record Held (p : Plan) : Type 0 where
 
 pub listed : {p : Plan} → Held p → p .count ≤ length (p .tasks)
 listed h = omega arith
+
+pub count-is : {p : Plan} → Held p → length (tasksOf p) ≡ p .count
+count-is {p} h = length-tasksOf p (h .places) (h .most)
 
 -- the loop that tests the ranges: the tasks before i are in range
 pub record Scanned (p : Plan) (i : ℕ) : Type 0 where

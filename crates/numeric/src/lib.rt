@@ -1,4 +1,4 @@
-// Arithmetic that plans and the dispatcher stand on.
+// The functions of arithmetic: rounding up, divisors, numbers in bytes and in bits.
 ghost use mathlib.Core.Path.{_≡_};
 ghost use Prim.Native.Nat.{_+_, _*_, _<_, _≤_};
 ghost use lib.ListN.{length, drop};

@@ -25,8 +25,8 @@ use Rattle.plan.specs.Questions.{countQuestion, taskQuestions, judging, reading
 use Rattle.arith.specs.Asking.{Question, ask, firstNo}
 use Rattle.plan.specs.Answers.{answered, beside, judgedBy, readBlock, writeNumber, writtenBy, storedBy, writePlan, writeBuffer}
 use Rattle.plan.specs.Laws.{Bytes}
-use Rattle.judging.proofs.Judgements.{Held, Filled, filled-all, count-low, count-high, count-good}
-use Rattle.plan.proofs.Facts.{fine-block, length-tasksOf}
+use Rattle.judging.proofs.Judgements.{Held, count-is, Filled, filled-all, count-low, count-high, count-good}
+use Rattle.plan.proofs.Facts.{fine-block}
 use Rattle.arith.proofs.QuestionLaws.{within-true, ask-no, ask-yes, no-before, within-over, within-under, yes-before, yes-of}
 use Rattle.plan.proofs.BlockBits.{planBits-edition, planBits-count, planBits-period, planBits-worst, planBits-past}
 use Rattle.plan.proofs.BlockBits.{length-tasksFrom, tasksFrom-at, length-planBlock, planBlock-at, closing-zero}
@@ -174,13 +174,10 @@ module _ (speeds : List ℕ) {block : List ℕ} {count x : ℕ} (c : Closing blo
       ∙ ap (λ (l : List Task). judgedBy (firstNo (taskQuestions speeds l)) speeds l) ts
       ∙ sym (ap (λ (m : ℕ). judgedBy m speeds (tasksIn block)) n)
 
--- a plan's count, its block's length and the block's byte j
+-- the length of a plan's block, and the block's byte j
 module _ {p : Plan} (plan : Held p) where
-  count-is : length (tasksOf p) ≡ p .count
-  count-is = length-tasksOf p (plan .places) (plan .most)
-
   pub planBlock-length : length (planBlock (tasksOf p)) ≡ blockLength (p .count)
-  planBlock-length = length-planBlock (tasksOf p) ∙ ap (λ (n : ℕ). blockLength n) count-is
+  planBlock-length = length-planBlock (tasksOf p) ∙ ap (λ (n : ℕ). blockLength n) (count-is plan)
 
   pub planBlock-byte :
       {j x : ℕ} →
@@ -188,17 +185,17 @@ module _ {p : Plan} (plan : Held p) where
       x ≡ number 2 8 (drop (8 * j) (planBits (tasksOf p))) →
       x ≡ getD (planBlock (tasksOf p)) j 0
   planBlock-byte {j} h e =
-      e ∙ sym (planBlock-at (tasksOf p) j (subst (λ (n : ℕ). j < blockLength n) (sym count-is) h))
+      e ∙ sym (planBlock-at (tasksOf p) j (subst (λ (n : ℕ). j < blockLength n) (sym (count-is plan)) h))
 
   -- bit k of its block: of the count, and past the last task
   pub bit-count : {k x : ℕ} → 4 ≤ k → k < 9 → x ≡ p .count / 2 ^ (8 - k) % 2 → x ≡ getD (planBits (tasksOf p)) k 0
   bit-count {k} low high e =
       e
-      ∙ sym (ap (λ (n : ℕ). n / 2 ^ (8 - k) % 2) count-is)
+      ∙ sym (ap (λ (n : ℕ). n / 2 ^ (8 - k) % 2) (count-is plan))
       ∙ sym (planBits-count (tasksOf p) k low high)
 
   pub bit-past : {k : ℕ} → 9 ≤ k → p .count ≤ (k - 9) / 36 → 0 ≡ getD (planBits (tasksOf p)) k 0
-  bit-past {k} low h = sym (planBits-past (tasksOf p) k low (omega (arith, count-is)))
+  bit-past {k} low h = sym (planBits-past (tasksOf p) k low (omega (arith, count-is plan)))
 
 pub bit-edition : (ts : List Task) {k x : ℕ} → k < 4 → x ≡ 1 / 2 ^ (3 - k) % 2 → x ≡ getD (planBits ts) k 0
 bit-edition ts {k} h e = e ∙ sym (planBits-edition ts k h)

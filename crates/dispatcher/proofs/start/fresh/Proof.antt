@@ -6,7 +6,7 @@ use native.Mathlib.Omega.{arith}
 use borrow.Author.Needs.{needs}
 use lib.ListN.{length}
 use Rattle.arith.proofs.Loops.{length-mapped}
-use Rattle.dispatcher.proofs.StartLaws.{held, Making, making-none, making-more, making-all}
+use Rattle.dispatcher.proofs.StartLaws.{Making, making-none, making-more, making-all}
 use Rattle.dispatcher.proofs.start.fresh.Statement.{statement}
 use Rattle.dispatcher.proofs.start.fresh.Tie as tie
 
@@ -25,13 +25,13 @@ blank-requires c κs = c .pre .0
 loop-holds : tie.Need-loop-holds Inv-loop μ-loop
 loop-holds c =
     let s : tie.Start Inv-loop μ-loop = c .before in
-    making-none (s .args .speed) (held (s .args .t1) (size s) (s .pre .0)) (c .blank .ensures)
+    making-none (s .args .speed) (record { places = size s; most = s .pre .0 }) (c .blank .ensures)
 
 mul-t : tie.Need-mul-t Inv-loop μ-loop
-mul-t c = omega (arith, c .before .loop .inv .plan .few)
+mul-t c = omega (arith, c .before .loop .inv .plan .most)
 
 element-copy-out-t : tie.Need-element-copy-out-t Inv-loop μ-loop
-element-copy-out-t c = omega (arith, c .before .loop .inv .plan .few)
+element-copy-out-t c = omega (arith, c .before .loop .inv .plan .most)
 
 time-needed-requires : tie.Need-time-needed-requires Inv-loop μ-loop
 time-needed-requires c κs = search needs
@@ -42,7 +42,7 @@ slice-aggregate-put-entry c = search needs
 put-entry-requires : tie.Need-put-entry-requires Inv-loop μ-loop
 put-entry-requires c κs =
     let turn : tie.In-loop Inv-loop μ-loop = c .before .before .before in
-    (omega (arith, turn .before .loop .inv .plan .few), turn .before .loop .inv .size)
+    (omega (arith, turn .before .loop .inv .plan .most), turn .before .loop .inv .size)
 
 add-i : tie.Need-add-i Inv-loop μ-loop
 add-i c = omega arith

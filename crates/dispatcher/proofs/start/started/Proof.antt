@@ -1,11 +1,12 @@
 -- `started` meets its contract: the new image, its keys, and the order chosen in it, stored.
 -- Assumes nothing.
-use mathlib.Core.Path.{_≡_}
+use mathlib.Core.Path.{_≡_, sym}
 use native.Mathlib.Omega.{arith}
 use borrow.Author.Needs.{needs}
 use lib.ListN.{length}
 use Rattle.arith.proofs.Loops.{length-mapped}
 use Rattle.plan.specs.Blocks.{tasksOf}
+use Rattle.judging.proofs.Judgements.{count-is}
 use Rattle.dispatcher.proofs.StartLaws.{left-short, Planned, planned, level-below, speed-some, Newly, newly, new-size, new-periods, new-ready, new-left}
 use Rattle.dispatcher.proofs.start.started.Statement.{statement}
 use Rattle.dispatcher.proofs.start.started.Tie as tie
@@ -38,7 +39,7 @@ speed-of-requires c κs = level-below (accepted (c .before .before))
 fresh-requires : tie.Need-fresh-requires
 fresh-requires c κs =
     let k = accepted (c .before .before .before) in
-    (k .plan .few, speed-some k (c .speed-of .ensures))
+    (k .plan .most, speed-some k (c .speed-of .ensures))
 
 slice-aggregate-keys-of : tie.Need-slice-aggregate-keys-of
 slice-aggregate-keys-of c = search needs
@@ -46,15 +47,15 @@ slice-aggregate-keys-of c = search needs
 keys-of-requires : tie.Need-keys-of-requires
 keys-of-requires c κs =
     let k = accepted (start (c .before)) in (
-      (k .plan .few, new-size (new (c .before)), omega arith),
-      λ i h. new-periods (new (c .before)) i (omega (arith, k .plan .count)),
+      (k .plan .most, new-size (new (c .before)), omega arith),
+      λ i h. new-periods (new (c .before)) i (omega (arith, count-is (k .plan))),
     )
 
 slice-aggregate-choose : tie.Need-slice-aggregate-choose
 slice-aggregate-choose c = search needs
 
 choose-requires : tie.Need-choose-requires
-choose-requires c κs = new-ready (new (fresh c)) (accepted (start (fresh c)) .plan .count) (c .before .before .keys-of .ensures)
+choose-requires c κs = new-ready (new (fresh c)) (sym (count-is (accepted (start (fresh c)) .plan))) (c .before .before .keys-of .ensures)
 
 slice-aggregate-store : tie.Need-slice-aggregate-store
 slice-aggregate-store c = search needs
