@@ -19,19 +19,20 @@ use Rattle.arith.specs.Asking.{firstNo}
 use Rattle.plan_block.proofs.Codec.{Leaves, leaves-refused, leaves-written}
 use Rattle.schedule.specs.PlainSchedule.{Timing, Pending, queueOf}
 use Rattle.schedule.proofs.QueueLaws.{queueOf-cong}
-use Rattle.state.specs.declared.Ready.{Ready}
-use Rattle.orders.specs.declared.Tested.{Tested}
+use Rattle.urgency.specs.declared.ReadyList.{ReadyList}
+use Rattle.soundness.specs.declared.Tested.{Tested}
 use Rattle.reclaiming.specs.declared.Entry.{Entry}
 use Rattle.reclaiming.specs.StateBlock.{remainingOf, decode}
 use Rattle.reclaiming.specs.Calls.{queueBytes, shownBytes, showNumber}
-use Rattle.state.specs.Code.{tasksBytes, timingIn}
-use Rattle.orders.specs.Code.{Good, testedBy}
-use Rattle.orders.proofs.SoundLaws.{tested-sound}
+use Rattle.urgency.specs.Code.{tasksBytes}
+use Rattle.state.specs.Code.{timingIn}
+use Rattle.soundness.specs.Code.{Good, testedBy}
+use Rattle.soundness.proofs.SoundLaws.{tested-sound}
 use Rattle.reclaiming.specs.Questions.{sound}
 use Rattle.state.proofs.BlockLaws.{remainingIn, count-in, entry-at}
-use Rattle.state.proofs.OpenJobs.{timing-count}
-use Rattle.state.proofs.KeyLaws.{ready-bytes}
-use Rattle.state.proofs.ReadySteps.{Listed, listed-front}
+use Rattle.urgency.proofs.OpenJobs.{timing-count}
+use Rattle.urgency.proofs.KeyLaws.{ready-bytes}
+use Rattle.urgency.proofs.ReadySteps.{Listed, listed-front}
 
 -- how many bytes tasks take
 length-tasksBytes : (left : ℕ → ℕ) (ts : List ℕ) → length (tasksBytes left ts) ≡ 3 * length ts
@@ -118,12 +119,12 @@ show-unsound bytes buffer t e h =
     (ap (showNo bytes buffer) (sym (tested-sound bytes t e) ∙ h))
 
 -- a sound block with its count and its ready tasks
-pub record Showing (bytes keys : List ℕ) (highest n : ℕ) (q : Ready) : Type 0 where
+pub record Showing (bytes keys : List ℕ) (highest n : ℕ) (q : ReadyList) : Type 0 where
   pub good : Good bytes keys highest
   pub counted : n ≡ getD bytes 6 0
   pub listed : Listed keys (remainingIn bytes) n q
 
-module _ {bytes keys : List ℕ} {highest n : ℕ} {q : Ready} (k : Showing bytes keys highest n q) (buffer : List ℕ) where
+module _ {bytes keys : List ℕ} {highest n : ℕ} {q : ReadyList} (k : Showing bytes keys highest n q) (buffer : List ℕ) where
   -- the bytes to show
   shown-are : shownBytes baseSpeeds bytes ≡ tasksBytes (remainingIn bytes) (take (q .len) (q .tasks))
   shown-are =
@@ -142,7 +143,7 @@ module _ {bytes keys : List ℕ} {highest n : ℕ} {q : Ready} (k : Showing byte
       ap length shown-are
       ∙ length-tasksBytes (remainingIn bytes) (take (q .len) (q .tasks))
       ∙ ap (λ (x : List ℕ). 3 * length x) (listed-front (k .listed))
-      ∙ ap (λ (x : Ready). 3 * x .len) (sym (k .listed .is))
+      ∙ ap (λ (x : ReadyList). 3 * x .len) (sym (k .listed .is))
 
   asked : showNumber baseSpeeds bytes (length buffer) ≡ firstNo (roomQuestion (3 * q .len) (length buffer) ∷ [])
   asked = ap (showNo bytes buffer) (k .good .sound) ∙ ap (λ (x : ℕ). firstNo (roomQuestion x (length buffer) ∷ [])) wanted

@@ -35,7 +35,8 @@ use Rattle.reclaiming.specs.StateBlock.{State, noEntry, taskOf, timingAt, timin
 use Rattle.reclaiming.specs.Orders.{chooseOrder, holdOf, orderWith}
 use Rattle.reclaiming.specs.Passes.{newEntry, startState}
 use Rattle.reclaiming.specs.Calls.{repliedBy, startNumber, startOrder}
-use Rattle.state.specs.Code.{Holds, entryIn, timingIn, latestKey, keysIn, Keyed}
+use Rattle.state.specs.Code.{Holds, entryIn, timingIn}
+use Rattle.urgency.specs.Code.{latestKey, keysIn, Keyed}
 use Rattle.arith.proofs.ArrayLaws.{value-at}
 use Rattle.orders.specs.Code.{Doable}
 use Rattle.dispatcher.specs.Code.{newState}
@@ -47,7 +48,7 @@ use Rattle.arith.proofs.RangeLaws.{length-listTo, getD-listTo}
 use Rattle.reclaiming.proofs.PassedStates.{choose-entries}
 use Rattle.reclaiming.proofs.PassSound.{start-fine}
 use Rattle.state.proofs.BlockLaws.{storedTo, stored-more, count-in, entry-at}
-use Rattle.orders.proofs.LevelSpeeds.{speed-positive, speed-most}
+use Rattle.judging.proofs.LevelSpeeds.{speed-positive, speed-most}
 
 -- the eight bytes in front of the entries of a new state
 abbrev newFront : ℕ → List ℕ

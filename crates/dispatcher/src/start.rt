@@ -1,12 +1,12 @@
 // Starting: a state in which every task of a plan has a new job, with an order chosen in it.
-use orders::order::choose;
+use orders::choose;
 use plan::Plan;
 use plan::Verdict;
 use reclaiming::Entry;
 use reclaiming::Reply;
 use state::image::put_entry;
 use state::image::store;
-use state::urgency::keys_of;
+use urgency::keys_of;
 ghost use mathlib.Core.Path.{_≡_};
 ghost use mathlib.Core.List.{[], _∷_};
 ghost use Prim.Native.Nat.{_<_, _≤_};

@@ -1,1 +1,2 @@
+pub mod LevelSpeeds
 pub mod Judgements

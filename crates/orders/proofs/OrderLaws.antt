@@ -27,15 +27,16 @@ use Rattle.reclaiming.specs.StateBlock.{State, workOf, remainingOf, encode, dec
 use Rattle.reclaiming.specs.Orders.{nextArrival, allowance, lowestLevel, holdOf, withOrder, orderFor, chooseOrder, orderWith}
 use Rattle.arith.specs.Ranges.{leastTo}
 use Rattle.reclaiming.specs.Questions.{runningTime}
-use Rattle.state.specs.Code.{Holds, entryIn, timingIn, Keyed, noKey, deadlineIn}
+use Rattle.state.specs.Code.{Holds, entryIn, timingIn}
+use Rattle.urgency.specs.Code.{Keyed, noKey, deadlineIn}
 use Rattle.orders.specs.Code.{choiceOf, runOf, holdBy, orderOf, Runnable, Doable}
 use Rattle.reclaiming.proofs.PassedStates.{choose-clock, choose-entries}
 use Rattle.reclaiming.proofs.Allowances.{allowance-is}
 use Rattle.state.proofs.BlockLaws.{count-in, store-order}
-use Rattle.state.proofs.KeyLaws as keys
-use Rattle.orders.proofs.LevelSpeeds.{Tried, tried-does}
-use Rattle.orders.proofs.HeadLaws.{work-is, Looked, none-open, Head, first-open, told-task, Read, read-below, read-work, read-allowed}
-use Rattle.state.proofs.OpenJobs.{timing-count}
+use Rattle.urgency.proofs.KeyLaws as keys
+use Rattle.judging.proofs.LevelSpeeds.{Tried, tried-does}
+use Rattle.urgency.proofs.HeadLaws.{work-is, Looked, none-open, Head, first-open, told-task, Read, read-below, read-work, read-allowed}
+use Rattle.urgency.proofs.OpenJobs.{timing-count}
 
 -- the lowest level that meets an allowance is one of the eight, or 8
 module _ (work allowed : ℕ) where

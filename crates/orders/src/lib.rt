@@ -1,6 +1,24 @@
-// Orders: whether a state is sound, and which order is chosen in it.
-pub mod order;
-pub mod sound;
+// Choosing an order: the task, the level and the hold.
+use reclaiming::Reply;
+use state::image::clock_at;
+use state::image::count_at;
+use state::image::work_at;
+use urgency::NO_KEY;
+use urgency::allowance_of;
+use urgency::most_urgent;
+use urgency::next_arrival;
+use urgency::task_in;
+ghost use mathlib.Core.Path.{_≡_};
+ghost use Prim.Native.Nat.{_<_, _≤_};
+ghost use lib.ListN.{length, getD};
+ghost use lib.Seq.{sets};
+ghost use Rattle.arith.specs.Digits.{digits};
+ghost use Rattle.plan.specs.Levels.{baseSpeeds};
+ghost use Rattle.reclaiming.specs.StateBlock.{encode, decode};
+ghost use Rattle.reclaiming.specs.Orders.{nextArrival, lowestLevel, holdOf, chooseOrder, orderWith};
+ghost use Rattle.state.specs.Code.{Holds, timingIn};
+ghost use Rattle.urgency.specs.Code.{Keyed};
+ghost use Rattle.orders.specs.Code.{choiceOf, runOf, holdBy, orderOf, Runnable, Doable};
 
 // An order without its hold: the task (255 for idle), the level, and the time that the work left needs there.
 pub struct Choice {
@@ -9,9 +27,133 @@ pub struct Choice {
     pub time: u32,
 }
 
-// A block that was tested: whether it is sound and, if so, its nominal level and the keys of its jobs.
-pub struct Tested {
-    pub sound: bool,
-    pub nominal: usize,
-    pub keys: [u64; 16],
+// The lowest level at which the work needs no more than is allowed, or 8: at which the ticks that are allowed do the work. A faster
+// level does no less, so the table is halved.
+pub fn level_for(work: u32, allowed: u32) -> usize
+    requires { ⌜ allowed ≤ 1048560 ⌝ }
+    ensures { λ r. ⌜ (r ≡ lowestLevel baseSpeeds work allowed) × (r ≤ 8) ⌝ }
+{
+    let mut low: usize = 0;
+    let mut high: usize = 8;
+    while low < high {
+        let middle = (low + high) / 2;
+        let speed = judging::speed_of(middle);
+        if work <= speed * allowed {
+            high = middle;
+        } else {
+            low = middle + 1;
+        }
+    }
+    low
+}
+
+// A run order of task i, with the time that the work needs.
+fn running_order(i: usize, level: usize, work: u32) -> Choice
+    requires { ⌜ (i < 16) × (level < 8) ⌝ }
+    ensures { λ r. ⌜ r ≡ runOf i level work ⌝ }
+{
+    let speed = judging::speed_of(level);
+    Choice {
+        task: i as u32,
+        level: level as u32,
+        time: numeric::time_needed(speed, work),
+    }
+}
+
+// The order that is chosen in a state.
+pub fn chosen(block: &[u8], keys: &[u64; 16], count: usize) -> Choice
+    requires { ⌜ Holds (now block) × (count ≡ getD (now block) 6 0) × Doable (decode (now block)) ⌝ }
+    requires { ⌜ Keyed (timingIn (now block)) (decode (now block) .clock) (now keys) ⌝ }
+    ensures { λ r. ⌜ r ≡ choiceOf (chooseOrder baseSpeeds (timingIn (now (block .entry))) (decode (now (block .entry)))) ⌝ }
+    ensures { λ r. ⌜ (r .task < 256) × (r .level < 256) ⌝ }
+{
+    let best = most_urgent(block, keys, count, 13, 3);
+    if best == NO_KEY {
+        return Choice {
+            task: 255,
+            level: 0,
+            time: 0,
+        };
+    }
+    let i = task_in(best);
+    let work = work_at(block, i);
+    let level = level_for(work, allowance_of(block, keys, count, best));
+    running_order(i, level, work)
+}
+
+// The order that stands in a state.
+pub fn standing(block: &[u8]) -> Choice
+    requires { ⌜ Holds (now block) × Runnable (decode (now block)) ⌝ }
+    ensures { λ r. ⌜ r ≡ choiceOf (decode (now (block .entry))) ⌝ }
+{
+    let task = block[4] as usize;
+    let level = block[5] as usize;
+    if task == 255 {
+        return Choice {
+            task: 255,
+            level: level as u32,
+            time: 0,
+        };
+    }
+    running_order(task, level, work_at(block, task))
+}
+
+// Stores an order.
+pub fn put_order(block: &mut [u8], c: Choice)
+    requires { ⌜ length (now block) ≡ 200 ⌝ }
+    ensures { λ _. ⌜ now (block .exit) ≡ sets (sets (now (block .entry)) 4 (digits 256 1 (c .task))) 5 (digits 256 1 (c .level)) ⌝ }
+{
+    numeric::put_number(block, 4, 1, c.task);
+    numeric::put_number(block, 5, 1, c.level);
+}
+
+// The hold of an order, where the next arrival is so many ticks away.
+pub fn hold_of(c: Choice, next: u32) -> u32
+    ensures { λ r. ⌜ r ≡ holdBy c next ⌝ }
+{
+    if c.task == 255 {
+        return next;
+    }
+    if c.time < next {
+        return c.time;
+    }
+    next
+}
+
+// An order, with a hold.
+pub fn order_of(c: Choice, hold: u32) -> Reply
+    ensures { λ r. ⌜ r ≡ orderOf c hold ⌝ }
+{
+    if c.task == 255 {
+        return Reply::Idle { hold };
+    }
+    Reply::Run {
+        task: c.task,
+        level: c.level,
+        hold,
+    }
+}
+
+// Chooses an order where the next arrival is so many ticks away, stores it, and answers it with its hold.
+pub fn choose_until(block: &mut [u8], keys: &[u64; 16], next: u32) -> Reply
+    requires { ⌜ Holds (now block) × (encode (decode (now block)) ≡ now block) × Doable (decode (now block)) ⌝ }
+    requires { ⌜ Keyed (timingIn (now block)) (decode (now block) .clock) (now keys) ⌝ }
+    requires { ⌜ next ≡ nextArrival (timingIn (now block)) (decode (now block) .clock) ⌝ }
+    ensures { λ r. ⌜ r ≡ orderWith (chooseOrder baseSpeeds (timingIn (now (block .entry))) (decode (now (block .entry)))) (holdOf baseSpeeds (timingIn (now (block .entry))) (chooseOrder baseSpeeds (timingIn (now (block .entry))) (decode (now (block .entry))))) ⌝ }
+    ensures { λ _. ⌜ now (block .exit) ≡ encode (chooseOrder baseSpeeds (timingIn (now (block .entry))) (decode (now (block .entry)))) ⌝ }
+{
+    let c = chosen(block, keys, count_at(block));
+    put_order(block, c);
+    order_of(c, hold_of(c, next))
+}
+
+// The same where the next arrival is still to be found.
+pub fn choose(block: &mut [u8], keys: &[u64; 16]) -> Reply
+    requires { ⌜ Holds (now block) × (1 ≤ getD (now block) 6 0) × (encode (decode (now block)) ≡ now block) × Doable (decode (now block)) ⌝ }
+    requires { ⌜ Keyed (timingIn (now block)) (decode (now block) .clock) (now keys) ⌝ }
+    ensures { λ r. ⌜ r ≡ orderWith (chooseOrder baseSpeeds (timingIn (now (block .entry))) (decode (now (block .entry)))) (holdOf baseSpeeds (timingIn (now (block .entry))) (chooseOrder baseSpeeds (timingIn (now (block .entry))) (decode (now (block .entry))))) ⌝ }
+    ensures { λ _. ⌜ now (block .exit) ≡ encode (chooseOrder baseSpeeds (timingIn (now (block .entry))) (decode (now (block .entry)))) ⌝ }
+{
+    let next = next_arrival(keys, count_at(block), clock_at(block));
+    choose_until(block, keys, next)
 }

@@ -24,7 +24,7 @@ use Rattle.plan.proofs.LevelLaws.{baseRising}
 use Rattle.schedule.specs.PlainSchedule.{Timing}
 use Rattle.reclaiming.specs.declared.Entry.{Entry}
 use Rattle.orders.specs.declared.Choice.{Choice}
-use Rattle.orders.specs.declared.Tested.{Tested}
+use Rattle.soundness.specs.declared.Tested.{Tested}
 use Rattle.reclaiming.specs.declared.Reply.{Reply}
 use Rattle.reclaiming.specs.declared.Reply.the-variants as reply
 use Rattle.reclaiming.specs.StateBlock.{State, noEntry, workOf, remainingOf, planIn, timing, encode, decode}
@@ -33,8 +33,10 @@ use Rattle.arith.specs.Ranges.{someTo}
 use Rattle.reclaiming.specs.Passes.{arrivesAt, movedState, choosesAnew, passedState}
 use Rattle.reclaiming.specs.Questions.{largestClock, sound, stateSound, runningTime, passQuestions}
 use Rattle.reclaiming.specs.Calls.{repliedBy, passNumber, passOrder, passReply, passBytes}
-use Rattle.state.specs.Code.{Holds, entryIn, timingIn, keyOf, noKey, dueAt, Keyed}
-use Rattle.orders.specs.Code.{choiceOf, holdBy, orderOf, Doable, Good, testedBy}
+use Rattle.state.specs.Code.{Holds, entryIn, timingIn}
+use Rattle.urgency.specs.Code.{keyOf, noKey, dueAt, Keyed}
+use Rattle.orders.specs.Code.{choiceOf, holdBy, orderOf, Doable}
+use Rattle.soundness.specs.Code.{Good, testedBy}
 use Rattle.ticks.specs.Code.{Stepping, renewedKeys}
 use Rattle.reclaiming.proofs.Fine.{nominalSpeed, FineEntries, Accepted}
 use Rattle.reclaiming.proofs.StateCodec.{Storable, StorableEntry, decode-encode, length-encode}
@@ -43,12 +45,12 @@ use Rattle.reclaiming.proofs.NextArrival.{next-arrives, before-next, next-on}
 use Rattle.reclaiming.proofs.PassedStates.{choose-entries, passed-entries}
 use Rattle.reclaiming.proofs.PassSound.{fine-chosen, moved-fine}
 use Rattle.state.proofs.BlockLaws.{count-in, entry-at}
-use Rattle.state.proofs.KeyLaws.{key-below, keyed-after, keyed-on}
+use Rattle.urgency.proofs.KeyLaws.{key-below, keyed-after, keyed-on}
 use Rattle.orders.proofs.OrderLaws.{hold-is}
-use Rattle.orders.proofs.SoundLaws.{tested-sound}
+use Rattle.soundness.proofs.SoundLaws.{tested-sound}
 use Rattle.arith.proofs.ArrayLaws.{value-at}
-use Rattle.orders.proofs.LevelSpeeds.{speed-most}
-use Rattle.orders.proofs.SoundFacts.{sound-plan, sound-facts, nominal-small, nominal-above, entries-few, period-some, sound-state, sound-size, count-some}
+use Rattle.judging.proofs.LevelSpeeds.{speed-most}
+use Rattle.soundness.proofs.SoundFacts.{sound-plan, sound-facts, nominal-small, nominal-above, entries-few, period-some, sound-state, sound-size, count-some}
 
 -- work whose time at some speed is at most the ticks left is done in them at the top speed
 doable-at : (speed work left : ℕ) → 0 < speed → speed ≤ 100 → need speed work ≤ left → work ≤ left * 100

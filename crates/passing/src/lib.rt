@@ -1,18 +1,18 @@
 // A pass: its questions, and what it makes of a state, in its bytes.
 use orders::Choice;
-use orders::order::choose;
-use orders::order::choose_until;
-use orders::order::hold_of;
-use orders::order::order_of;
-use orders::order::standing;
-use orders::sound::test_block;
+use orders::choose;
+use orders::choose_until;
+use orders::hold_of;
+use orders::order_of;
+use orders::standing;
 use reclaiming::Reply;
+use soundness::test_block;
 use state::clock::Clock;
 use state::image::clock_at;
 use state::image::count_at;
-use state::urgency::next_arrival;
 use ticks::move_on;
 use ticks::renewed;
+use urgency::next_arrival;
 ghost use mathlib.Core.Path.{_≡_};
 ghost use Prim.Native.Nat.{_≤_};
 ghost use Rattle.plan.specs.Levels.{baseSpeeds};
@@ -23,7 +23,8 @@ ghost use Rattle.reclaiming.specs.Passes.{passedState};
 ghost use Rattle.reclaiming.specs.Questions.{largestClock, passQuestions};
 ghost use Rattle.reclaiming.specs.Calls.{passOrder, passReply, passBytes};
 ghost use Rattle.state.specs.Code.{timingIn};
-ghost use Rattle.orders.specs.Code.{choiceOf, Good};
+ghost use Rattle.orders.specs.Code.{choiceOf};
+ghost use Rattle.soundness.specs.Code.{Good};
 ghost use Rattle.passing.specs.Code.{finishQuestions, timeQuestions};
 
 // The first no of the questions 13 and 14, or 0.

@@ -1,6 +1,2 @@
 pub mod BlockLaws
 pub mod LayoutLaws
-pub mod KeyLaws
-pub mod KeySteps
-pub mod OpenJobs
-pub mod ReadySteps

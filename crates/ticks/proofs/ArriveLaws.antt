@@ -17,9 +17,10 @@ use Rattle.plan.specs.Levels.{baseSpeeds, speedOf}
 use Rattle.orders.specs.declared.Choice.{Choice}
 use Rattle.reclaiming.specs.StateBlock.{State, noEntry, workOf, remainingOf, encode}
 use Rattle.reclaiming.specs.Passes.{workedOf}
-use Rattle.state.specs.Code.{entryIn, changed, withJobs, keyOf, deadlineIn, dueAt}
+use Rattle.state.specs.Code.{entryIn, changed, withJobs}
+use Rattle.urgency.specs.Code.{keyOf, deadlineIn, dueAt}
 use Rattle.ticks.specs.Code.{arrivedState, renewedKeys}
-use Rattle.orders.proofs.LevelSpeeds.{work-short}
+use Rattle.judging.proofs.LevelSpeeds.{work-short}
 use Rattle.state.proofs.BlockLaws.{changed-there, changed-else, encode-worst, encode-work, jobs-count, jobs-worst, jobs-same, jobs-eq, store-work, store-remaining}
 use Rattle.arith.proofs.ArrayLaws.{values-more}
 

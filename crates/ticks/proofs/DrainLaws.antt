@@ -17,7 +17,8 @@ use Rattle.arith.specs.Digits.{digits}
 use Rattle.arith.proofs.Tests.{eq-yes, eq-not, testEq}
 use Rattle.arith.proofs.Sums.{sumTo-eq}
 use Rattle.reclaiming.specs.StateBlock.{State, workOf, remainingOf, encode}
-use Rattle.state.specs.Code.{entryIn, fieldIn, changed, withJobs, noKey, leastKey, drainedBy}
+use Rattle.state.specs.Code.{entryIn, fieldIn, changed, withJobs}
+use Rattle.urgency.specs.Code.{noKey, leastKey, drainedBy}
 use Rattle.state.proofs.BlockLaws.{changed-there, changed-else, field-remaining, encode-remaining, jobs-count, jobs-remaining, jobs-same, jobs-eq, store-remaining}
 
 -- the ticks that entry i has left, as they are read, and the ticks that are asked of it

@@ -22,7 +22,8 @@ use Rattle.reclaiming.specs.Orders.{nextArrival}
 use Rattle.reclaiming.specs.Passes.{newEntry, drainedOf, workedOf, arrivesAt, entryAfter, movedState}
 use Rattle.arith.specs.Ranges.{listTo}
 use Rattle.reclaiming.specs.Questions.{stateSound}
-use Rattle.state.specs.Code.{timingIn, withJobs, withClock, noKey, Keyed, dueAt, drainedBy}
+use Rattle.state.specs.Code.{timingIn, withJobs, withClock}
+use Rattle.urgency.specs.Code.{noKey, Keyed, dueAt, drainedBy}
 use Rattle.orders.specs.Code.{choiceOf, Runnable}
 use Rattle.ticks.specs.Code.{Stepping, arrivedState}
 use Rattle.ticks.proofs.DrainLaws.{Drains}
@@ -31,9 +32,9 @@ use Rattle.reclaiming.proofs.Fine.{nominalSpeed}
 use Rattle.reclaiming.proofs.Soundness.{planIn-at, length-planIn}
 use Rattle.arith.proofs.RangeLaws.{listTo-same}
 use Rattle.state.proofs.BlockLaws.{count-in, jobs-count, jobs-entry, jobs-work, store-clock}
-use Rattle.state.proofs.OpenJobs.{timing-count}
-use Rattle.state.proofs.KeyLaws.{key-below, key-task, due-is, due-none, drained-is}
-use Rattle.orders.proofs.SoundFacts.{entries-few, nominal-above, nominal-small, remaining-most, runnable, sound-back, sound-state, ticks-short, work-most, worst-most}
+use Rattle.urgency.proofs.OpenJobs.{timing-count}
+use Rattle.urgency.proofs.KeyLaws.{key-below, key-task, due-is, due-none, drained-is}
+use Rattle.soundness.proofs.SoundFacts.{entries-few, nominal-above, nominal-small, remaining-most, runnable, sound-back, sound-state, ticks-short, work-most, worst-most}
 
 -- the steps of a state through d ticks: ticks are taken from its queue, work is done, the clock moves, jobs arrive
 module _ (s : State) (keys : List ℕ) (count d : ℕ) (finished : Bool) where

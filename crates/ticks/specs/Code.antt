@@ -10,8 +10,9 @@ use Rattle.arith.specs.Arrays.{padded}
 use Rattle.reclaiming.specs.StateBlock.{State, noEntry, workOf, remainingOf, decode}
 use Rattle.reclaiming.specs.Orders.{nextArrival}
 use Rattle.reclaiming.specs.Questions.{largestClock}
-use Rattle.state.specs.Code.{entryIn, timingIn, withJobs, keyOf, dueAt}
-use Rattle.orders.specs.Code.{Good}
+use Rattle.state.specs.Code.{entryIn, timingIn, withJobs}
+use Rattle.urgency.specs.Code.{keyOf, dueAt}
+use Rattle.soundness.specs.Code.{Good}
 
 -- d ticks that may pass from a sound block with its keys: some, at most up to the next arrival, and within the largest clock
 pub record Stepping (bytes keys : List ℕ) (highest d : ℕ) : Type 0 where

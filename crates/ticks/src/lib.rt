@@ -9,11 +9,11 @@ use state::image::put_work;
 use state::image::remaining_at;
 use state::image::work_at;
 use state::image::worst_at;
-use state::urgency::NO_KEY;
-use state::urgency::deadline_in;
-use state::urgency::key_of;
-use state::urgency::most_urgent;
-use state::urgency::task_in;
+use urgency::NO_KEY;
+use urgency::deadline_in;
+use urgency::key_of;
+use urgency::most_urgent;
+use urgency::task_in;
 ghost use mathlib.Core.Path.{_≡_};
 ghost use mathlib.Core.Bool.{false};
 ghost use Prim.Native.Nat.{ℕ, _+_, _-_, _*_, _%_, _<_, _≤_, min};
@@ -26,7 +26,8 @@ ghost use Rattle.reclaiming.specs.StateBlock.{State, noEntry, workOf, remaining
 ghost use Rattle.reclaiming.specs.Orders.{nextArrival};
 ghost use Rattle.reclaiming.specs.Passes.{workedOf, movedState};
 ghost use Rattle.reclaiming.specs.Questions.{largestClock};
-ghost use Rattle.state.specs.Code.{entryIn, timingIn, withJobs, noKey, dueAt, drainedBy};
+ghost use Rattle.state.specs.Code.{entryIn, timingIn, withJobs};
+ghost use Rattle.urgency.specs.Code.{noKey, dueAt, drainedBy};
 ghost use Rattle.orders.specs.Code.{choiceOf};
 ghost use Rattle.ticks.specs.Code.{Stepping, arrivedState, renewedKeys};
 

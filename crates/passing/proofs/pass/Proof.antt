@@ -13,9 +13,9 @@ use Rattle.reclaiming.specs.Orders.{nextArrival}
 use Rattle.reclaiming.specs.Questions.{passQuestions}
 use Rattle.state.specs.Code.{timingIn}
 use Rattle.orders.specs.declared.Choice.{Choice}
-use Rattle.orders.specs.Code.{Good}
-use Rattle.orders.proofs.SoundFacts.{runnable, sound-state, sound-clock, count-some}
-use Rattle.orders.proofs.SoundLaws.{tested-good}
+use Rattle.soundness.specs.Code.{Good}
+use Rattle.soundness.proofs.SoundFacts.{runnable, sound-state, sound-clock, count-some}
+use Rattle.soundness.proofs.SoundLaws.{tested-good}
 use Rattle.orders.proofs.OrderLaws.{Timed, choose-next, choose-when}
 use Rattle.passing.specs.Code.{timeQuestions}
 use Rattle.passing.proofs.QuestionSteps.{asked-is}

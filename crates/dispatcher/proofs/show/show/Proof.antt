@@ -5,9 +5,9 @@ use mathlib.Core.List.{List}
 use native.Mathlib.Omega.{arith}
 use borrow.Author.Needs.{needs}
 use borrow.Author.Tests.{not-true, not-false}
-use Rattle.orders.specs.Code.{Good}
-use Rattle.orders.proofs.SoundLaws.{tested-good}
-use Rattle.state.proofs.ReadySteps.{listed-few, listed-below}
+use Rattle.soundness.specs.Code.{Good}
+use Rattle.soundness.proofs.SoundLaws.{tested-good}
+use Rattle.urgency.proofs.ReadySteps.{listed-few, listed-below}
 use Rattle.dispatcher.proofs.ShowLaws.{Showing, show-unsound, show-short, show-stored}
 use Rattle.dispatcher.proofs.show.show.Statement.{statement}
 use Rattle.dispatcher.proofs.show.show.Tie as tie

@@ -1,0 +1,121 @@
+-- What a sound state has, and what a sound block has.
+-- Assumes nothing.
+use Prim.Native.Nat.{ℕ, _-_, _%_, _<_, _≤_}
+use mathlib.Core.Path.{_≡_, ap, subst}
+use mathlib.Core.Bool.{true}
+use mathlib.Core.List.{List}
+use native.Mathlib.Omega.{arith}
+use lib.ListN.{length, getD}
+use Rattle.arith.proofs.Tests.{both-left, both-right}
+use Rattle.plan.specs.declared.Task.{Task}
+use Rattle.plan.specs.Levels.{baseSpeeds, nominal}
+use Rattle.plan.specs.Blocks.{noTask}
+use Rattle.arith.specs.Asking.{firstNo}
+use Rattle.plan.specs.Questions.{taskQuestions}
+use Rattle.plan.proofs.Facts.{FineList, InRange, tasks-yes}
+use Rattle.state.specs.Code.{Holds}
+use Rattle.plan.proofs.LevelLaws.{baseRising}
+use Rattle.schedule.specs.PlainSchedule.{Timing}
+use Rattle.reclaiming.specs.StateBlock.{State, noEntry, taskOf, workOf, remainingOf, planIn, timing, encode, decode, laidOut}
+use Rattle.reclaiming.specs.Orders.{nextArrival}
+use Rattle.reclaiming.specs.Questions.{largestClock, sound, stateSound}
+use Rattle.orders.specs.Code.{Runnable}
+use Rattle.reclaiming.proofs.Fine.{nominalSpeed, Fine}
+use Rattle.reclaiming.proofs.Plans.{task-range, allotment-short, nominal-positive}
+use Rattle.reclaiming.proofs.StateCodec.{laid-length, laid-back}
+use Rattle.reclaiming.proofs.Soundness.{planIn-at, length-planIn, sound-fine}
+use Rattle.arith.proofs.RangeLaws.{least-le}
+use Rattle.reclaiming.proofs.OrderFacts.{Ordered, idles, runs}
+use Rattle.reclaiming.proofs.Worked.{ordered}
+use Rattle.state.proofs.BlockLaws.{count-in}
+
+-- what a sound state has
+module _ (s : State) (ok : stateSound baseSpeeds s ≡ true) where
+  pub sound-plan : FineList baseSpeeds (length (planIn s)) (planIn s)
+  sound-plan = sound-fine baseSpeeds s ok .0
+
+  pub sound-facts : Fine baseSpeeds (planIn s) s
+  sound-facts = sound-fine baseSpeeds s ok .1
+
+  pub entries-few : length (s .entries) ≤ 16
+  entries-few = omega (arith, sound-plan .count-high, length-planIn s)
+
+  entries-some : 1 ≤ length (s .entries)
+  entries-some = omega (arith, sound-plan .count-low, length-planIn s)
+
+  pub nominal-small : nominal baseSpeeds (planIn s) < 8
+  nominal-small = sound-plan .tasks .admitted
+
+  pub nominal-above : 0 < nominalSpeed baseSpeeds (planIn s)
+  nominal-above = nominal-positive baseSpeeds (planIn s) sound-plan baseRising
+
+  -- its order is to stay idle, or runs one of the tasks at one of the levels
+  pub runnable : Runnable s
+  runnable = go (ordered baseSpeeds (planIn s) s sound-facts)
+    where
+      go : Ordered baseSpeeds (timing baseSpeeds (planIn s)) (nominal baseSpeeds (planIn s)) s → Runnable s
+      go (idles t x z) = record { task = λ ne. absurd (ne t); level = λ ne. absurd (ne t) }
+      go (runs r) = record {
+        task = λ ne. omega (arith, r .below, length-planIn s);
+        level = λ ne. omega (arith, r .level, nominal-small);
+      }
+
+  -- its numbers are in range
+  module _ (i : ℕ) (h : i < length (s .entries)) where
+    within-plan : i < length (planIn s)
+    within-plan = omega (arith, length-planIn s)
+
+    range-of : InRange (taskOf (getD (s .entries) i noEntry))
+    range-of =
+        subst (λ (t : Task). InRange t) (planIn-at s i) (task-range baseSpeeds (planIn s) sound-plan baseRising i within-plan)
+
+    pub worst-most : getD (s .entries) i noEntry .worst ≤ 16777215
+    worst-most = omega (arith, range-of .worst-high)
+
+    pub work-most : workOf s i ≤ 16777215
+    work-most =
+        let e : getD (planIn s) i noTask .worst ≡ getD (s .entries) i noEntry .worst = ap (λ (t : Task). t .worst) (planIn-at s i) in
+        omega (arith, sound-facts .entries .work i within-plan, worst-most)
+
+    pub remaining-most : remainingOf s i ≤ 65535
+    remaining-most =
+        omega (arith, sound-facts .entries .remaining i within-plan, allotment-short baseSpeeds (planIn s) sound-plan baseRising i within-plan)
+
+    pub period-some : 0 < timing baseSpeeds (planIn s) .period i
+    period-some = task-range baseSpeeds (planIn s) sound-plan baseRising i within-plan .period-low
+
+  -- ticks up to the next arrival are at most a period
+  pub ticks-short : (d : ℕ) → d ≤ nextArrival (timing baseSpeeds (planIn s)) (s .clock) → d ≤ 65535
+  ticks-short d h =
+      let τ : Timing = timing baseSpeeds (planIn s) in
+      omega (
+        arith,
+        least-le (τ .count) (λ j. τ .period j - s .clock % τ .period j) 0 (sound-plan .count-low),
+        task-range baseSpeeds (planIn s) sound-plan baseRising 0 (sound-plan .count-low) .period-high,
+      )
+
+-- what a sound block has
+module _ (bytes : List ℕ) (ok : sound baseSpeeds bytes ≡ true) where
+  laid : laidOut bytes ≡ true
+  laid = both-left (laidOut bytes) (stateSound baseSpeeds (decode bytes)) ok
+
+  pub sound-state : stateSound baseSpeeds (decode bytes) ≡ true
+  sound-state = both-right (laidOut bytes) (stateSound baseSpeeds (decode bytes)) ok
+
+  pub sound-size : length bytes ≡ 200
+  sound-size = laid-length bytes laid
+
+  pub sound-back : encode (decode bytes) ≡ bytes
+  sound-back = laid-back bytes laid
+
+  pub count-some : 1 ≤ getD bytes 6 0
+  count-some = omega (arith, entries-some (decode bytes) sound-state, count-in bytes)
+
+  pub sound-holds : Holds bytes
+  sound-holds = record { size = sound-size; few = omega (arith, entries-few (decode bytes) sound-state, count-in bytes) }
+
+  pub sound-plan-yes : firstNo (taskQuestions baseSpeeds (planIn (decode bytes))) ≡ 0
+  sound-plan-yes = tasks-yes baseSpeeds (planIn (decode bytes)) (sound-plan (decode bytes) sound-state .tasks)
+
+  pub sound-clock : decode bytes .clock ≤ largestClock
+  sound-clock = sound-facts (decode bytes) sound-state .entries .clock

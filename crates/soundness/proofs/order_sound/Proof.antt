@@ -1,0 +1,141 @@
+-- `order_sound` meets its contract, by each way out.
+-- Assumes nothing.
+use Prim.Native.Nat.{ℕ}
+use mathlib.Core.Path.{_∙_}
+use mathlib.Core.List.{List}
+use native.Mathlib.Omega.{arith}
+use borrow.Author.Needs.{needs}
+use lib.ListN.{getD}
+use Rattle.judging.proofs.LevelSpeeds.{tried-fits}
+use Rattle.urgency.proofs.HeadLaws.{Looked, Told, told-task}
+use Rattle.soundness.proofs.SoundLaws.{Weighed, not-idle, idle-level, other-task, level-high, level-tried, level-meets}
+use Rattle.soundness.proofs.order_sound.Statement.{statement}
+use Rattle.soundness.proofs.order_sound.Tie as tie
+
+-- what the block holds at the start, and the places that others are reached from
+abbrev block : tie.Start → List ℕ
+block c = c .args .block .now
+
+abbrev keys : tie.Start → List ℕ
+keys c = c .args .keys .now
+
+abbrev start : tie.After-most-urgent → tie.Start
+start c = c .before .before .before .before
+
+abbrev asked : tie.After-task-in → tie.After-most-urgent
+asked c = c .before .before
+
+abbrev begun : tie.Else3 → tie.Start
+begun c = start (asked (c .before))
+
+-- a key was looked for, it tells a task, and that is the order's
+looked : (c : tie.After-most-urgent) → Looked (block (start c)) (keys (start c)) (start c .args .count) (c .most-urgent .result)
+looked c = record {
+  holds = start c .pre .0 .0;
+  keyed = start c .pre .1;
+  same = start c .pre .0 .1;
+  found = c .most-urgent .ensures;
+}
+
+told :
+    (c : tie.After-task-in) →
+    let a : tie.After-most-urgent = asked c in
+    Told (block (start a)) (keys (start a)) (start a .args .count) (a .most-urgent .result) (c .task-in .result)
+told c = record { looked = looked (asked c); some = c .before .if1 .left; task = c .task-in .ensures .0 }
+
+runs :
+    (c : tie.Else3) →
+    Told (block (begun c)) (keys (begun c)) (begun c .args .count) (asked (c .before) .most-urgent .result) (getD (block (begun c)) 4 0)
+runs c =
+    let k = told (c .before) in
+    record { looked = k .looked; some = k .some; task = c .if3 .left ∙ k .task }
+
+abbrev fast : tie.After-allowance-of → tie.Else4
+fast c = c .before .before .before
+
+weighed :
+    (c : tie.After-allowance-of) →
+    let o : tie.Else3 = fast c .before in
+    Weighed (block (begun o)) (keys (begun o)) (begun o .args .count) (asked (o .before) .most-urgent .result) (begun o .args .highest)
+    (c .before .before .work-at .result) (c .before .speed-of .result) (c .allowance-of .result)
+weighed c = record {
+  read = record { told = runs (fast c .before); work-in = c .before .before .work-at .ensures .0; allowed-in = c .allowance-of .ensures .0 };
+  top = begun (fast c .before) .pre .0 .2;
+  low = fast c .if4 .left;
+  speed-is = c .before .speed-of .ensures;
+}
+
+shared-slice-read-task : tie.Need-shared-slice-read-task
+shared-slice-read-task c = omega (arith, c .before .before .pre .0 .0 .size)
+
+cast-task : tie.Need-cast-task
+cast-task c = omega (arith, c .shared-slice-known2 .given 4)
+
+shared-slice-read-level : tie.Need-shared-slice-read-level
+shared-slice-read-level c = omega (arith, c .before .before .before .pre .0 .0 .size)
+
+cast-level : tie.Need-cast-level
+cast-level c = omega (arith, c .shared-slice-known3 .given 5)
+
+most-urgent-requires : tie.Need-most-urgent-requires
+most-urgent-requires c κs =
+    let s : tie.Start = c .before .before .before in
+    (omega (arith, s .pre .0 .0 .few, s .pre .0 .1), s .pre .0 .0 .size, omega arith, omega arith)
+
+returns : tie.Need-returns
+returns c =
+    let a : tie.After-most-urgent = c .before .before in
+    not-idle (looked a) (start a .args .highest) (c .before .if1 .taken) (c .if2 .taken)
+
+returns-2 : tie.Need-returns-2
+returns-2 c =
+    let a : tie.After-most-urgent = c .before .before in
+    idle-level (looked a) (start a .args .highest) (c .before .if1 .taken) (c .if2 .left)
+
+task-in-requires : tie.Need-task-in-requires
+task-in-requires c κs = search needs
+
+returns-3 : tie.Need-returns-3
+returns-3 c = other-task (told (c .before)) (start (asked (c .before)) .args .highest) (c .if3 .taken)
+
+returns-4 : tie.Need-returns-4
+returns-4 c = level-high (runs (c .before)) (begun (c .before) .args .highest) (c .if4 .taken)
+
+work-at-requires : tie.Need-work-at-requires
+work-at-requires c κs =
+    let k = runs (c .before) in
+    (told-task k, k .looked .holds .size)
+
+speed-of-requires : tie.Need-speed-of-requires
+speed-of-requires c κs = omega (arith, c .before .if4 .left, begun (c .before .before) .pre .0 .2)
+
+allowance-of-requires : tie.Need-allowance-of-requires
+allowance-of-requires c κs =
+    let k = runs (c .before .before .before) in
+    (omega (arith, k .looked .holds .few, k .looked .same), k .looked .holds .size)
+
+mul-result : tie.Need-mul-result
+mul-result c = omega (arith, tried-fits (level-tried (weighed c)) (c .allowance-of .ensures .1))
+
+returns-5 : tie.Need-returns-5
+returns-5 c = level-meets (weighed c)
+
+pub order-sound-spec : {M : Type 1} → statement M
+order-sound-spec =
+    tie.close
+    (tie.spec
+    shared-slice-read-task
+    cast-task
+    shared-slice-read-level
+    cast-level
+    most-urgent-requires
+    returns
+    returns-2
+    task-in-requires
+    returns-3
+    returns-4
+    work-at-requires
+    speed-of-requires
+    allowance-of-requires
+    mul-result
+    returns-5)

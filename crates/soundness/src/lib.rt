@@ -1,0 +1,190 @@
+// Whether a state block is sound.
+use plan::Plan;
+use plan::Task;
+use plan::Verdict;
+use state::clock::Clock;
+use state::image::clock_at;
+use state::image::laid_out;
+use state::image::period_at;
+use state::image::remaining_at;
+use state::image::work_at;
+use state::image::worst_at;
+use urgency::NO_KEY;
+use urgency::allowance_of;
+use urgency::keys_of;
+use urgency::most_urgent;
+use urgency::task_in;
+ghost use mathlib.Core.Path.{_≡_};
+ghost use mathlib.Core.Bool.{false};
+ghost use mathlib.Core.List.{[]};
+ghost use Prim.Native.Nat.{_<_, _≤_};
+ghost use lib.ListN.{length, getD};
+ghost use Rattle.arith.specs.Choice.{every};
+ghost use Rattle.plan.specs.Levels.{baseSpeeds, nominal};
+ghost use Rattle.plan.specs.Questions.{taskQuestions};
+ghost use Rattle.arith.specs.Asking.{firstNo};
+ghost use Rattle.plan.specs.Blocks.{planOf};
+ghost use Rattle.reclaiming.specs.StateBlock.{planIn, decode};
+ghost use Rattle.reclaiming.specs.Orders.{openJobs};
+ghost use Rattle.reclaiming.specs.Questions.{largestClock, entrySound, orderSound, stateSound, sound};
+ghost use Rattle.state.specs.Code.{Holds, entryIn, timingIn};
+ghost use Rattle.urgency.specs.Code.{Keyed};
+ghost use Rattle.soundness.specs.Code.{testedBy};
+
+// A block that was tested: whether it is sound and, if so, its nominal level and the keys of its jobs.
+pub struct Tested {
+    pub sound: bool,
+    pub nominal: usize,
+    pub keys: [u64; 16],
+}
+
+// The plan in a block.
+fn plan_of(block: &[u8], count: usize) -> Plan
+    requires { ⌜ Holds (now block) × (count ≡ getD (now block) 6 0) ⌝ }
+    ensures { λ r. ⌜ r ≡ planOf (planIn (decode (now (block .entry)))) ⌝ }
+{
+    let mut p = judging::empty_plan();
+    p.count = count;
+    let mut i: usize = 0;
+    while i < count {
+        p.tasks[i] = Task {
+            period: period_at(block, i),
+            worst: worst_at(block, i),
+        };
+        i += 1;
+    }
+    p
+}
+
+// Whether the work and the remaining ticks of task i's entry are sound, at the nominal speed. What remains at most the time needed, and
+// what is needed at most the time that remains, are told by the work that the remaining ticks do.
+fn entry_sound(block: &[u8], i: usize, speed: u32) -> bool
+    requires { ⌜ (i < 16) × (length (now block) ≡ 200) × (0 < speed) × (speed ≤ 100) ⌝ }
+    ensures { λ r. ⌜ r ≡ entrySound speed (entryIn (now (block .entry)) i) ⌝ }
+{
+    let work = work_at(block, i);
+    let worst = worst_at(block, i);
+    if work > worst {
+        return false;
+    }
+    let most = remaining_at(block, i) * speed;
+    if worst + speed <= most {
+        return false;
+    }
+    work <= most
+}
+
+// Whether every task's entry is sound, at the nominal speed.
+fn entries_sound(block: &[u8], count: usize, speed: u32) -> bool
+    requires { ⌜ Holds (now block) × (count ≡ getD (now block) 6 0) × (0 < speed) × (speed ≤ 100) ⌝ }
+    ensures { λ r. ⌜ r ≡ every (entrySound speed) (decode (now (block .entry)) .entries) ⌝ }
+{
+    let mut i: usize = 0;
+    while i < count {
+        if !entry_sound(block, i, speed) {
+            return false;
+        }
+        i += 1;
+    }
+    true
+}
+
+// Whether the order that stands is sound: idle exactly if no job is open, else the most urgent open job at a level no higher than
+// nominal that meets its allowance.
+fn order_sound(block: &[u8], keys: &[u64; 16], count: usize, highest: usize) -> bool
+    requires { ⌜ Holds (now block) × (count ≡ getD (now block) 6 0) × (highest < 8) ⌝ }
+    requires { ⌜ Keyed (timingIn (now block)) (decode (now block) .clock) (now keys) ⌝ }
+    ensures { λ r. ⌜ r ≡ orderSound baseSpeeds (timingIn (now (block .entry))) highest (decode (now (block .entry))) (openJobs (timingIn (now (block .entry))) (decode (now (block .entry)))) ⌝ }
+{
+    let task = block[4] as usize;
+    let level = block[5] as usize;
+    let best = most_urgent(block, keys, count, 13, 3);
+    if best == NO_KEY {
+        if task != 255 {
+            return false;
+        }
+        return level == 0;
+    }
+    if task != task_in(best) {
+        return false;
+    }
+    if level > highest {
+        return false;
+    }
+    let work = work_at(block, task);
+    let speed = judging::speed_of(level);
+    work <= speed * allowance_of(block, keys, count, best)
+}
+
+// The answer to a block that is not sound: nothing is in it.
+fn not_sound() -> Tested
+    ensures { λ r. ⌜ r ≡ testedBy false [] ⌝ }
+{
+    Tested {
+        sound: false,
+        nominal: 0,
+        keys: [0; 16],
+    }
+}
+
+// A block that is laid out, whose clock is in range and whose plan is admitted at a nominal level.
+fn test_admitted(block: &[u8], count: usize, clock: u32, level: usize) -> Tested
+    requires { ⌜ Holds (now block) × (count ≡ getD (now block) 6 0) × (1 ≤ count) ⌝ }
+    requires { ⌜ (clock ≡ decode (now block) .clock) × (clock ≤ largestClock) ⌝ }
+    requires { ⌜ (firstNo (taskQuestions baseSpeeds (planIn (decode (now block)))) ≡ 0) × (level ≡ nominal baseSpeeds (planIn (decode (now block)))) ⌝ }
+    ensures { λ r. ⌜ r ≡ testedBy (stateSound baseSpeeds (decode (now (block .entry)))) (now (block .entry)) ⌝ }
+{
+    let speed = judging::speed_of(level);
+    if !entries_sound(block, count, speed) {
+        return not_sound();
+    }
+    let keys = keys_of(block, count, clock);
+    if !order_sound(block, &keys, count, level) {
+        return not_sound();
+    }
+    Tested {
+        sound: true,
+        nominal: level,
+        keys,
+    }
+}
+
+// A block that is laid out, of at least one task.
+fn test_state(block: &[u8], count: usize) -> Tested
+    requires { ⌜ Holds (now block) × (count ≡ getD (now block) 6 0) × (1 ≤ count) ⌝ }
+    ensures { λ r. ⌜ r ≡ testedBy (stateSound baseSpeeds (decode (now (block .entry)))) (now (block .entry)) ⌝ }
+{
+    let clock = Clock::new(clock_at(block));
+    if !clock.in_range() {
+        return not_sound();
+    }
+    let p = plan_of(block, count);
+    let v = judging::verdict_of(p);
+    match v {
+        Verdict::Refused(_) => not_sound(),
+        Verdict::Admitted {
+            nominal,
+            hyperperiod: _,
+        } => test_admitted(block, count, clock.ticks, nominal),
+    }
+}
+
+// A block tested: whether it is sound and, if so, its nominal level and its keys.
+pub fn test_block(block: &[u8]) -> Tested
+    ensures { λ r. ⌜ r ≡ testedBy (sound baseSpeeds (now (block .entry))) (now (block .entry)) ⌝ }
+{
+    if block.len() != 200 {
+        return not_sound();
+    }
+    let count = block[6] as usize;
+    if count < 1 {
+        return not_sound();
+    }
+    if count > 16 {
+        return not_sound();
+    }
+    if !laid_out(block) {
+        return not_sound();
+    }
+    test_state(block, count)
+}

@@ -1,0 +1,125 @@
+-- What a block's entries are to the definitions, and the most urgent open job that its keys tell: whose it is, its work and its allowance.
+-- Assumes nothing.
+use Prim.Native.Nat.{ℕ, _%_, _<_}
+use mathlib.Core.Path.{_≡_, refl, sym, ap, ap₂, subst, _∙_}
+use mathlib.Core.List.{List, [], _∷_}
+use native.Mathlib.Omega.{arith}
+use lib.Dec.{ltb}
+use lib.ListN.{getD}
+use Rattle.arith.specs.Choice.{pick}
+use Rattle.arith.proofs.Sums.{sumTo-eq}
+use Rattle.plan.specs.declared.Task.{Task}
+use Rattle.plan.specs.Blocks.{noTask}
+use Rattle.schedule.specs.PlainSchedule.{Timing, Pending}
+use Rattle.reclaiming.specs.declared.Entry.{Entry}
+use Rattle.reclaiming.specs.StateBlock.{State, workOf, remainingOf, taskOf, planIn, decode}
+use Rattle.reclaiming.specs.Orders.{allowance, openJobs}
+use Rattle.state.specs.Code.{Holds, entryIn, timingIn, fieldIn}
+use Rattle.urgency.specs.Code.{Keyed, noKey, leastKey, allowedBy}
+use Rattle.reclaiming.proofs.Soundness.{planIn-at}
+use Rattle.reclaiming.proofs.OrderFacts.{head-below}
+use Rattle.state.proofs.BlockLaws.{entry-at}
+use Rattle.urgency.proofs.OpenJobs.{timing-count, open-head}
+use Rattle.urgency.proofs.KeyLaws.{headKey, key-below, key-task, allowance-is}
+
+-- entry i of a block: its task in the plan, its work and its plain ticks left
+module _ (b : List ℕ) (i : ℕ) (h : i < getD b 6 0) where
+  pub task-is : getD (planIn (decode b)) i noTask ≡ taskOf (entryIn b i)
+  task-is = planIn-at (decode b) i ∙ ap taskOf (entry-at b i h)
+
+  pub period-is : timingIn b .period i ≡ entryIn b i .period
+  period-is = ap (λ (t : Task). t .period) task-is
+
+  pub work-is : workOf (decode b) i ≡ entryIn b i .work
+  work-is = ap (λ (e : Entry). e .work) (entry-at b i h)
+
+  remaining-is : remainingOf (decode b) i ≡ entryIn b i .remaining
+  remaining-is = ap (λ (e : Entry). e .remaining) (entry-at b i h)
+
+-- the least key of the jobs with work left was looked for
+pub record Looked (b l : List ℕ) (count best : ℕ) : Type 0 where
+  pub holds : Holds b
+  pub keyed : Keyed (timingIn b) (decode b .clock) l
+  pub same : count ≡ getD b 6 0
+  pub found : best ≡ leastKey l (fieldIn b 13 3) count
+
+-- the most urgent open job is task i's
+pub record Head (b l : List ℕ) (best i : ℕ) : Type 0 where
+  pub job : Pending
+  pub rest : List Pending
+  pub queue : openJobs (timingIn b) (decode b) ≡ job ∷ rest
+  pub task : job .job .task ≡ i
+  pub below : i < getD b 6 0
+  pub key : best ≡ getD l i 0
+
+module _ {b l : List ℕ} {count best : ℕ} (k : Looked b l count best) where
+  abbrev τ : Timing
+  τ = timingIn b
+
+  abbrev s : State
+  s = decode b
+
+  best-is : best ≡ headKey l (openJobs τ s)
+  best-is = open-head b l count best (k .same) (k .keyed) (k .found)
+
+  -- without a key no job is open
+  pub none-open : best ≡ noKey → openJobs τ s ≡ []
+  none-open none = go (openJobs τ s) refl best-is
+    where
+      go : (q : List Pending) → openJobs τ s ≡ q → best ≡ headKey l q → q ≡ []
+      go [] o e = refl
+      go (f ∷ q) o e =
+          absurd (omega (arith, key-below τ (s .clock) l (k .keyed) (f .job .task) (head-below τ (s .clock) (workOf s) (τ .count) f q o)))
+
+  -- else it tells the task
+  pub head : (best ≡ noKey → ⊥) → {i : ℕ} → i ≡ best % 16 → Head b l best i
+  head some {i} task = go (openJobs τ s) refl best-is
+    where
+      go : (q : List Pending) → openJobs τ s ≡ q → best ≡ headKey l q → Head b l best i
+      go [] o e = absurd (some e)
+      go (f ∷ q) o e =
+          let h : f .job .task < τ .count = head-below τ (s .clock) (workOf s) (τ .count) f q o in
+          let t : f .job .task ≡ i = sym (task ∙ ap (λ (n : ℕ). n % 16) e ∙ key-task τ (s .clock) l (k .keyed) (f .job .task) h) in
+          record {
+            job = f;
+            rest = q;
+            queue = o;
+            task = t;
+            below = subst (λ (n : ℕ). n < getD b 6 0) t (omega (arith, timing-count b));
+            key = e ∙ ap (λ (n : ℕ). getD l n 0) t;
+          }
+
+-- a key was found, and tells task i
+pub record Told (b l : List ℕ) (count best i : ℕ) : Type 0 where
+  pub looked : Looked b l count best
+  pub some : best ≡ noKey → ⊥
+  pub task : i ≡ best % 16
+
+module _ {b l : List ℕ} {count best i : ℕ} (k : Told b l count best i) where
+  pub first-open : Head b l best i
+  first-open = head (k .looked) (k .some) (k .task)
+
+  pub told-task : i < 16
+  told-task = omega (arith, first-open .below, k .looked .holds .few)
+
+-- whose work and allowance were read
+pub record Read (b l : List ℕ) (count best i work allowed : ℕ) : Type 0 where
+  pub told : Told b l count best i
+  pub work-in : work ≡ entryIn b i .work
+  pub allowed-in : allowed ≡ allowedBy l (λ j. entryIn b j .remaining) count best
+
+module _ {b l : List ℕ} {count best i work allowed : ℕ} (k : Read b l count best i work allowed) where
+  pub read-below : i < timingIn b .count
+  read-below = omega (arith, first-open (k .told) .below, timing-count b)
+
+  pub read-work : work ≡ workOf (decode b) i
+  read-work = k .work-in ∙ sym (work-is b i (first-open (k .told) .below))
+
+  pub read-allowed : allowed ≡ allowance (timingIn b) (decode b) i
+  read-allowed =
+      let counted : count ≡ timingIn b .count = k .told .looked .same ∙ sym (timing-count b) in
+      k .allowed-in
+      ∙ sumTo-eq count (λ j. pick (ltb best (getD l j 0)) 0 (entryIn b j .remaining)) (λ j. pick (ltb best (getD l j 0)) 0 (remainingOf (decode b) j))
+      (λ j h. ap (λ (x : ℕ). pick {A = ℕ} (ltb best (getD l j 0)) 0 x) (sym (remaining-is b j (omega (arith, k .told .looked .same)))))
+      ∙ ap₂ (allowedBy l (remainingOf (decode b))) counted (first-open (k .told) .key)
+      ∙ allowance-is (timingIn b) (decode b) l (k .told .looked .keyed) i read-below
