@@ -1,17 +1,19 @@
 // A whole list of passes played on lent blocks: the run of demand 3, from its start to its last reply.
+use crate::show::show;
 use crate::start::start;
 use answers::reply_number;
 use passing::pass;
+use plan::Written;
 use reclaiming::Reply;
 ghost use mathlib.Core.Path.{_≡_};
 ghost use mathlib.Core.List.{_++_};
-ghost use lib.Dec.{eqb};
 ghost use lib.ListN.{length, drop};
 ghost use Rattle.plan.specs.Levels.{baseSpeeds};
-ghost use Rattle.reclaiming.specs.Calls.{refusalOf, startReply, passReply, passBytes};
+ghost use Rattle.reclaiming.specs.Calls.{isOrder, startReply, passReply, passBytes};
 ghost use Rattle.reclaiming.specs.Run.{trace, bytesAfter};
 ghost use Rattle.reclaiming.specs.Numbers.{replyNumber};
-ghost use Rattle.reclaiming.specs.Play.{passFrom, playedPasses, replyNumbers, playedState, playedReplies, PlayedOnTime};
+ghost use Rattle.reclaiming.specs.Play.{passFrom, playedPasses, replyNumbers, playedState, playedReplies, PlayedOnTime, PlayedMostUrgent};
+ghost use Rattle.reclaiming.specs.Play.{playedShown, playedQueue, PlayedQueueShown};
 
 // One pass, as a number, played on a state; the reply as a number.
 fn play_one(state: &mut [u8], p: u64) -> u64
@@ -41,10 +43,10 @@ fn play_all(state: &mut [u8], passes: &[u64], replies: &mut [u64])
 
 // Whether a reply is an order, and no refusal.
 fn is_order(r: Reply) -> bool
-    ensures { λ b. ⌜ b ≡ eqb (refusalOf r) 0 ⌝ }
+    ensures { λ b. ⌜ b ≡ isOrder r ⌝ }
 {
     match r {
-        Reply::Refused(n) => n == 0,
+        Reply::Refused(_) => false,
         Reply::Run {
             task: _,
             level: _,
@@ -60,6 +62,7 @@ pub fn play(block: &[u8], state: &mut [u8], passes: &[u64], replies: &mut [u64])
     ensures { λ _. ⌜ now (state .exit) ≡ playedState baseSpeeds (now (block .entry)) (now (state .entry)) (playedPasses (now (passes .entry)) (length (now (replies .entry)))) ⌝ }
     ensures { λ _. ⌜ now (replies .exit) ≡ playedReplies baseSpeeds (now (block .entry)) (now (state .entry)) (playedPasses (now (passes .entry)) (length (now (replies .entry)))) (now (replies .entry)) ⌝ }
     ensures { λ r. ⌜ PlayedOnTime baseSpeeds (now (block .entry)) r (playedPasses (now (passes .entry)) (length (now (replies .entry)))) (now (replies .exit)) ⌝ }
+    ensures { λ r. ⌜ PlayedMostUrgent baseSpeeds (now (block .entry)) r (playedPasses (now (passes .entry)) (length (now (replies .entry)))) (now (replies .exit)) ⌝ }
 {
     let first = start(block, state);
     if !is_order(first) {
@@ -67,4 +70,36 @@ pub fn play(block: &[u8], state: &mut [u8], passes: &[u64], replies: &mut [u64])
     }
     play_all(&mut state[..200], passes, replies);
     reply_number(first)
+}
+
+// What playing a list and then showing the queue answer: the start's reply as a number, and what showing answers.
+pub struct Played {
+    pub first: u64,
+    pub shown: Written,
+}
+
+// Plays a list of passes as `play` does and, where the start was accepted, shows the queue of the state that they leave.
+pub fn play_and_show(
+    block: &[u8],
+    state: &mut [u8],
+    passes: &[u64],
+    replies: &mut [u64],
+    buffer: &mut [u8],
+) -> Played
+    ensures { λ r. ⌜ r .first ≡ replyNumber (startReply baseSpeeds (now (block .entry)) (length (now (state .entry)))) ⌝ }
+    ensures { λ r. ⌜ r .shown ≡ playedShown baseSpeeds (now (block .entry)) (now (state .entry)) (playedPasses (now (passes .entry)) (length (now (replies .entry)))) (length (now (buffer .entry))) ⌝ }
+    ensures { λ _. ⌜ now (state .exit) ≡ playedState baseSpeeds (now (block .entry)) (now (state .entry)) (playedPasses (now (passes .entry)) (length (now (replies .entry)))) ⌝ }
+    ensures { λ _. ⌜ now (replies .exit) ≡ playedReplies baseSpeeds (now (block .entry)) (now (state .entry)) (playedPasses (now (passes .entry)) (length (now (replies .entry)))) (now (replies .entry)) ⌝ }
+    ensures { λ _. ⌜ now (buffer .exit) ≡ playedQueue baseSpeeds (now (block .entry)) (now (state .entry)) (playedPasses (now (passes .entry)) (length (now (replies .entry)))) (now (buffer .entry)) ⌝ }
+    ensures { λ r. ⌜ PlayedQueueShown baseSpeeds (now (block .entry)) (r .first) (playedPasses (now (passes .entry)) (length (now (replies .entry)))) (now (replies .exit)) (now (buffer .entry)) (r .shown) (now (buffer .exit)) ⌝ }
+{
+    let first = play(block, state, passes, replies);
+    if first < 256 {
+        return Played {
+            first,
+            shown: Written::Bytes(0),
+        };
+    }
+    let shown = show(&state[..200], buffer);
+    Played { first, shown }
 }

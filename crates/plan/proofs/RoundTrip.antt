@@ -1,8 +1,8 @@
 -- Demand 2: a written plan reads back as the same plan, and an accepted block written again has the same bytes.
 -- Assumes nothing.
-use Prim.Native.Nat.{ℕ, _+_, _-_, _≤_}
-use mathlib.Core.Path.{_≡_, sym, subst, ap, ap₂, _∙_}
-use mathlib.Core.Bool.{true}
+use Prim.Native.Nat.{ℕ, zero, suc, _+_, _-_, _≤_}
+use mathlib.Core.Path.{_≡_, refl, sym, subst, ap, ap₂, _∙_}
+use mathlib.Core.Bool.{true, true≢false}
 use mathlib.Core.List.{List}
 use native.Mathlib.Omega.{arith}
 use borrow.Author.Tests.{eq-eqb}
@@ -12,7 +12,7 @@ use lib.Seq.{ext-getD, getD-drop, length-take-le, take-append-seam}
 use Rattle.arith.specs.Choice.{every}
 use Rattle.arith.specs.Need.{need}
 use Rattle.arith.specs.Bits.{unpacked, packedTo}
-use Rattle.arith.specs.Asking.{firstNo}
+use Rattle.arith.specs.Asking.{isAccepted, firstNo}
 use Rattle.arith.proofs.ListLaws.{at-every, zero-at}
 use Rattle.arith.proofs.Needs.{need-covers}
 use Rattle.arith.proofs.BitLaws.{unpacked-packed, unpacked-below, packed-same, packed-unpacked}
@@ -20,7 +20,7 @@ use Rattle.plan.specs.declared.Task.{Task}
 use Rattle.plan.specs.declared.Plan.{Plan}
 use Rattle.plan.specs.Blocks.{planBits, planBlock, bitCount, blockLength, countIn, tasksIn, closingBits, tasksOf, planOf, noTask}
 use Rattle.plan.specs.Questions.{inRange, judging, reading}
-use Rattle.plan.specs.Answers.{judgedBy}
+use Rattle.plan.specs.Answers.{verdictAnswer, answered, judgedBy}
 use Rattle.plan.specs.Laws.{Bytes, WrittenReadsBack, AcceptedWritesBack}
 use Rattle.plan.proofs.BlockBits.{length-planBits, planBits-below, length-planBlock, blockLength-covers, length-tasksFrom, tasksFrom-read}
 use Rattle.plan.proofs.Facts.{FineTasks, FineList, FineBlock, fine-list, fine-block, block-yes, list-yes, block-list}
@@ -71,13 +71,23 @@ module _ (ts : List Task) (high : length ts ≤ 16) (ranges : every inRange ts �
         tasks = subst (λ (l : List Task). FineTasks speeds l) (sym block-reads) fine;
       }
 
+-- a verdict is no refusal exactly if no question was answered no
+module _ (speeds : List ℕ) (ts : List Task) where
+  pub accepted-none : (n : ℕ) → isAccepted (verdictAnswer (answered n speeds ts)) ≡ true → n ≡ 0
+  accepted-none zero h = refl
+  accepted-none (suc n) h = absurd (true≢false (sym h))
+
+  pub none-accepted : (n : ℕ) → n ≡ 0 → isAccepted (verdictAnswer (answered n speeds ts)) ≡ true
+  none-accepted n e = ap (λ (k : ℕ). isAccepted (verdictAnswer (answered k speeds ts))) e
+
 -- the answer where there is no refusal
 same-answer : (speeds : List ℕ) (m n : ℕ) (xs ys : List Task) → m ≡ 0 → n ≡ 0 → xs ≡ ys → judgedBy m speeds xs ≡ judgedBy n speeds ys
 same-answer speeds m n xs ys p q e = ap₂ (λ (k : ℕ) (l : List Task). judgedBy k speeds l) (p ∙ sym q) e
 
 pub written-reads-back : (speeds : List ℕ) → WrittenReadsBack speeds
-written-reads-back speeds p len h =
+written-reads-back speeds p len accepted =
     let ts : List Task = tasksOf p in
+    let h : firstNo (judging speeds (p .count) ts) ≡ 0 = accepted-none speeds ts (firstNo (judging speeds (p .count) ts)) accepted in
     let f : FineList speeds (p .count) ts = fine-list speeds (p .count) ts h in
     let n : length ts ≡ p .count = length-take-le (p .count) (p .tasks) (omega (arith, f .count-high)) in
     let low : 1 ≤ length ts = omega (arith, f .count-low) in
@@ -138,6 +148,7 @@ read-judged speeds block p accepted e =
     ∙ list-yes speeds (length ts) ts (block-list speeds block (fine-block speeds block accepted))
 
 pub accepted-writes-back : (speeds : List ℕ) → AcceptedWritesBack speeds
-accepted-writes-back speeds block bytes h =
+accepted-writes-back speeds block bytes accepted =
+    let h : firstNo (reading speeds block) ≡ 0 = accepted-none speeds (tasksIn block) (firstNo (reading speeds block)) accepted in
     subst (λ (n : ℕ). planBlock (tasksOf (judgedBy n speeds (tasksIn block) .plan)) ≡ block) (sym h)
     (ap planBlock (tasksOf-planOf (tasksIn block)) ∙ accepted-block speeds block bytes (fine-block speeds block h))

@@ -3,7 +3,7 @@
 use Prim.Native.Nat.{ℕ, zero, suc}
 use mathlib.Core.List.{List, [], _∷_, _++_}
 use lib.ListN.{length, drop}
-use Rattle.arith.specs.Asking.{firstNo}
+use Rattle.arith.specs.Asking.{Answer, values, refusal, firstNo}
 use Rattle.plan.specs.declared.Task.{Task}
 use Rattle.plan.specs.declared.Plan.{Plan}
 use Rattle.plan.specs.declared.Judged.{Judged}
@@ -14,6 +14,16 @@ use Rattle.plan.specs.declared.Written.the-variants as written
 use Rattle.plan.specs.Levels.{hyperperiod, nominal}
 use Rattle.plan.specs.Blocks.{planOf, tasksOf, tasksIn, planBlock}
 use Rattle.plan.specs.Questions.{judging, reading, roomQuestion}
+
+-- 01's number and values of each case: "Reading and judging return the plan, its nominal level and hyperperiod", the plan beside them;
+-- "writing and showing the count of bytes written"
+abbrev pub verdictAnswer : Verdict → Answer
+verdictAnswer (verdict.Admitted level span) = values (level ∷ span ∷ [])
+verdictAnswer (verdict.Refused n) = refusal n
+
+abbrev pub writtenAnswer : Written → Answer
+writtenAnswer (written.Bytes n) = values (n ∷ [])
+writtenAnswer (written.Refused n) = refusal n
 
 -- 01: "Reading and judging return the plan, its nominal level and hyperperiod"; at a refusal its number "is all that is returned"
 abbrev pub answered : ℕ → List ℕ → List Task → Verdict
@@ -40,6 +50,10 @@ judgedPlan speeds p = judgedList speeds (p .count) (tasksOf p)
 abbrev pub readBlock : List ℕ → List ℕ → Judged
 readBlock speeds block = judgedBy (firstNo (reading speeds block)) speeds (tasksIn block)
 
+-- the number that so much room for so many bytes is answered with: 9, or 0
+abbrev pub roomNumber : ℕ → ℕ → ℕ
+roomNumber wanted room = firstNo (roomQuestion wanted room ∷ [])
+
 -- the number that writing a plan into so much room is answered with: 3, 6, 7, 8, "then" 9
 abbrev pub writeNumber : List ℕ → Plan → ℕ → ℕ
 writeNumber speeds p room =
@@ -64,12 +78,3 @@ writeBuffer speeds p buffer = storedBy (writeNumber speeds p (length buffer)) (p
 -- a block read, then written again: reading's questions, then 9
 abbrev pub copyNumber : List ℕ → List ℕ → ℕ → ℕ
 copyNumber speeds block room = firstNo (reading speeds block ++ (roomQuestion (length block) room ∷ []))
-
--- 01's number of each case of an answer, 0 where it is no refusal
-abbrev pub refusalOf : Verdict → ℕ
-refusalOf (verdict.Admitted level span) = 0
-refusalOf (verdict.Refused n) = n
-
-abbrev pub refusalOfWritten : Written → ℕ
-refusalOfWritten (written.Bytes n) = 0
-refusalOfWritten (written.Refused n) = n

@@ -6,13 +6,12 @@ use mathlib.Core.Bool.{true}
 use mathlib.Core.List.{List}
 use mathlib.Core.Logic.{_↔_}
 use lib.ListN.{length, getD}
-use Rattle.arith.specs.Asking.{firstNo}
+use Rattle.arith.specs.Asking.{isAccepted}
 use Rattle.plan.specs.declared.Task.{Task}
 use Rattle.plan.specs.declared.Plan.{Plan}
 use Rattle.plan.specs.Levels.{speedOf, hyperperiod, admits, nominal}
 use Rattle.plan.specs.Blocks.{noTask, tasksOf, planBlock}
-use Rattle.plan.specs.Questions.{judging, reading}
-use Rattle.plan.specs.Answers.{judgedPlan, readBlock}
+use Rattle.plan.specs.Answers.{verdictAnswer, judgedPlan, readBlock}
 
 -- a list of bytes
 abbrev pub Bytes : List ℕ → Type 0
@@ -23,7 +22,7 @@ abbrev pub WrittenReadsBack : List ℕ → Type 0
 WrittenReadsBack speeds =
     (p : Plan) →
     length (p .tasks) ≡ 16 →
-    firstNo (judging speeds (p .count) (tasksOf p)) ≡ 0 →
+    isAccepted (verdictAnswer (judgedPlan speeds p .verdict)) ≡ true →
     readBlock speeds (planBlock (tasksOf p)) ≡ judgedPlan speeds p
 
 -- demand 2: "and an accepted block written again has the same bytes"
@@ -31,7 +30,7 @@ abbrev pub AcceptedWritesBack : List ℕ → Type 0
 AcceptedWritesBack speeds =
     (block : List ℕ) →
     Bytes block →
-    firstNo (reading speeds block) ≡ 0 →
+    isAccepted (verdictAnswer (readBlock speeds block .verdict)) ≡ true →
     planBlock (tasksOf (readBlock speeds block .plan)) ≡ block
 
 -- a level admits exactly from the nominal one up

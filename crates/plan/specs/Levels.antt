@@ -41,7 +41,3 @@ admits ts speed = leb (demandWithin (hyperperiod ts) speed ts) (hyperperiod ts)
 -- 01: "The nominal level is the lowest that admits it." Where none does, it is the count of the levels.
 abbrev pub nominal : List ℕ → List Task → ℕ
 nominal speeds ts = first (admits ts) speeds
-
--- 01: "A task's allotment is its worst case's time at the nominal level."
-abbrev pub allotment : List ℕ → List Task → Task → ℕ
-allotment speeds ts t = need (speedOf speeds (nominal speeds ts)) (t .worst)

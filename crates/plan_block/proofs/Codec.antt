@@ -30,7 +30,7 @@ use Rattle.plan.proofs.Facts.{fine-block}
 use Rattle.arith.proofs.QuestionLaws.{within-true, ask-no, ask-yes, no-before, within-over, within-under, yes-before, yes-of}
 use Rattle.plan.proofs.BlockBits.{planBits-edition, planBits-count, planBits-period, planBits-worst, planBits-past}
 use Rattle.plan.proofs.BlockBits.{length-tasksFrom, tasksFrom-at, length-planBlock, planBlock-at, closing-zero}
-use Rattle.plan.proofs.RoundTrip.{written-reads-back, accepted-block, tasksOf-planOf, read-judged}
+use Rattle.plan.proofs.RoundTrip.{written-reads-back, none-accepted, accepted-block, tasksOf-planOf, read-judged}
 
 -- a task read at its place
 pub task-read :
@@ -481,5 +481,5 @@ module _ {speeds : List ℕ} {p : Plan} {buffer m : List ℕ} {n : ℕ} (w : Rew
       let z : firstNo (asked speeds p) ≡ 0 = yes-of (asked speeds p) (last speeds p (length buffer)) (w .number) in
       a
       ∙ ap (λ (l : List ℕ). readBlock speeds l) front
-      ∙ written-reads-back speeds p places z
+      ∙ written-reads-back speeds p places (none-accepted speeds (tasksOf p) (firstNo (asked speeds p)) z)
       ∙ ap (λ (k : ℕ). judgedBy k speeds (tasksOf p)) (z ∙ sym (w .number))

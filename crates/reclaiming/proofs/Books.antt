@@ -1,11 +1,12 @@
--- The dispatcher's book against the entries: a job that has arrived is closed in it, or it is its task's latest and has work left.
+-- The dispatcher's book against the entries: a job that has arrived is closed in it, or it is its task's latest and has work left; and a
+-- latest job that is closed has none.
 -- Assumes nothing.
 use Prim.Native.Nat.{ℕ, suc, _+_, _-_, _*_, _/_, _%_, _<_}
 use mathlib.Core.Path.{_≡_, refl, sym, subst, ap, _∙_}
 use mathlib.Core.Bool.{Bool, true, true≢false}
 use mathlib.Core.List.{List, [], _∷_}
 use mathlib.Core.Logic.{_⊎_, inl, inr, ⊎-elim, _≢_}
-use native.Mathlib.Nat.{lt-div-mul-add}
+use native.Mathlib.Nat.{lt-div-mul-add, div-mul-le-self, mul-mod-left}
 use native.Mathlib.Decide.{decLe, ℕ-discrete}
 use native.Mathlib.Omega.{arith}
 use Rattle.arith.specs.Choice.{pick}
@@ -22,6 +23,19 @@ OpenLatest τ t work j = (j ≡ latest τ t (j .task)) × (0 < work (j .task))
 
 abbrev pub Held : Timing → ℕ → (ℕ → ℕ) → List Job → Type 0
 Held τ t work closed = (j : Job) → Arrived τ t j → In j closed ⊎ OpenLatest τ t work j
+
+-- what is closed has arrived, and nothing is left of it
+pub record Ended (τ : Timing) (t : ℕ) (work : ℕ → ℕ) (closed : List Job) : Type 0 where
+  pub arrived : (j : Job) → In j closed → Arrived τ t j
+  pub done : (j : Job) → In j closed → j ≡ latest τ t (j .task) → work (j .task) ≡ 0
+
+pub ended-start : (τ : Timing) (work : ℕ → ℕ) → Ended τ 0 work []
+ended-start τ work = record { arrived = λ j m. absurd m; done = λ j m. absurd m }
+
+-- a task's latest job has arrived
+pub latest-arrived : (τ : Timing) (t i : ℕ) → i < τ .count → Arrived τ t (latest τ t i)
+latest-arrived τ t i h =
+    record { task = h; arrival = div-mul-le-self t (τ .period i); multiple = mul-mod-left (t / τ .period i) (τ .period i) }
 
 -- the arrival at a tick that a period divides is the task's latest
 arrived-now : (τ : Timing) (t : ℕ) (j : Job) → 0 < τ .period (j .task) → t % τ .period (j .task) ≡ 0 → j .arrival ≡ t → j ≡ latest τ t (j .task)
@@ -105,3 +119,57 @@ module _ (τ : Timing) (t d : ℕ) (work work′ : ℕ → ℕ) (closed : List J
               ⊎-elim (λ m. inl (still j m)) (λ s. older j (a .task) s) (held j before)
           | no h ↦ inr (newer j a (omega arith))
         ]
+
+-- the ticks of a pass close nothing but the job that finished
+module _ (τ : Timing) (t d : ℕ) (work work′ : ℕ → ℕ) (closed : List Job) (finished : Bool) (x : ℕ)
+    (later : 0 < d)
+    (periods : (i : ℕ) → i < τ .count → 0 < τ .period i)
+    (quiet : Quiet τ (τ .count) t d)
+    -- a job that finished is one of a task, and nothing is left of it
+    (running : finished ≡ true → x < τ .count)
+    (finishes : finished ≡ true → (t + d) % τ .period x ≢ 0 → work′ x ≡ 0)
+    -- what had nothing left has nothing left, until the next job arrives
+    (nothing : (i : ℕ) → i < τ .count → (t + d) % τ .period i ≢ 0 → work i ≡ 0 → work′ i ≡ 0)
+  where
+    abbrev closed″ : List Job
+    closed″ = pick finished (latest τ t x ∷ closed) closed
+
+    since : (j : Job) → Arrived τ t j → Arrived τ (t + d) j
+    since j a = record { task = a .task; arrival = omega (arith, a .arrival); multiple = a .multiple }
+
+    -- a job that had arrived before and is still the latest was so then, and none arrives now
+    still-latest : (j : Job) → Arrived τ t j → j ≡ latest τ (t + d) (j .task) → ((t + d) % τ .period (j .task) ≢ 0) × (j ≡ latest τ t (j .task))
+    still-latest j a e = (no-arrival, e ∙ sym (latest-kept τ (τ .count) t d (j .task) (a .task) (periods (j .task) (a .task)) quiet no-arrival))
+      where
+        no-arrival : (t + d) % τ .period (j .task) ≢ 0
+        no-arrival z =
+            omega (
+              arith,
+              a .arrival,
+              ap (λ (k : Job). k .arrival) e,
+              multiple-last (τ .period (j .task)) (periods (j .task) (a .task)) (t + d) z,
+            )
+
+    -- one that was closed before, or has just finished
+    earlier : Ended τ t work closed → (j : Job) → In j closed″ → In j closed ⊎ ((j ≡ latest τ t x) × (finished ≡ true))
+    earlier ended j =
+        elim (tested finished) as (λ b _. finished ≡ b → In j (pick b (latest τ t x ∷ closed) closed) → In j closed ⊎ ((j ≡ latest τ t x) × (finished ≡ true))) [
+          | passed ↦ λ f m. ⊎-elim (λ e. inr (e, f)) (λ k. inl k) m
+          | failed ↦ λ f m. inl m
+        ] refl
+
+    before : Ended τ t work closed → (j : Job) → In j closed″ → Arrived τ t j
+    before ended j m =
+        ⊎-elim (ended .arrived j) (λ e. subst (Arrived τ t) (sym (e .0)) (latest-arrived τ t x (running (e .1)))) (earlier ended j m)
+
+    pub ended-pass : Ended τ t work closed → Ended τ (t + d) work′ closed″
+    ended-pass ended = record {
+      arrived = λ j m. since j (before ended j m);
+      done = λ j m e.
+          let a : Arrived τ t j = before ended j m in
+          let was = still-latest j a e in
+          ⊎-elim (λ k. nothing (j .task) (a .task) (was .0) (ended .done j k (was .1)))
+          (λ k. let same : j .task ≡ x = ap (λ (i : Job). i .task) (k .0) in
+          subst (λ (i : ℕ). work′ i ≡ 0) (sym same) (finishes (k .1) (subst (λ (i : ℕ). (t + d) % τ .period i ≢ 0) same (was .0))))
+          (earlier ended j m);
+    }

@@ -5,7 +5,8 @@ use Prim.Native.Nat.{ℕ, _+_, _≤_, _<_}
 use mathlib.Core.Path.{_≡_, refl, sym, subst, subst₂, ap, ap₂, _∙_}
 use mathlib.Core.Bool.{Bool, true}
 use mathlib.Core.List.{List, [], _∷_}
-use mathlib.Core.Logic.{⊎-elim}
+use mathlib.Core.Logic.{_⊎_, inl, inr, ⊎-elim}
+use native.Mathlib.Decide.{ℕ-discrete}
 use native.Mathlib.Omega.{arith}
 use borrow.Author.Tests.{leb-true}
 use lib.Dec.{eqb}
@@ -15,17 +16,20 @@ use Rattle.arith.specs.Choice.{both}
 use Rattle.arith.specs.Asking.{Question}
 use Rattle.arith.specs.Ranges.{listTo}
 use Rattle.arith.proofs.Needs.{need-positive}
-use Rattle.arith.proofs.QuestionLaws.{yes-of, yes-after, all-yes}
+use Rattle.arith.proofs.QuestionLaws.{ask-yes, yes-of, yes-after, all-yes}
 use Rattle.arith.proofs.RangeLaws.{getD-listTo}
 use Rattle.plan.specs.declared.Task.{Task}
-use Rattle.plan.specs.Levels.{Rising, hyperperiod}
+use Rattle.plan.specs.Levels.{Rising, hyperperiod, nominal}
 use Rattle.plan.specs.Blocks.{tasksIn}
 use Rattle.plan.specs.Questions.{reading, roomQuestion}
-use Rattle.plan.specs.Answers.{storedBy}
+use Rattle.plan.specs.Answers.{roomNumber, writtenBy, storedBy}
 use Rattle.plan.proofs.Facts.{FineList, fine-block, block-list, range-at}
-use Rattle.schedule.specs.PlainSchedule.{Timing, Job, Pending, Book, latest, deadline, canonicalAt, queueOf, opened}
+use Rattle.schedule.specs.PlainSchedule.{Timing, Job, Pending, Book, latest, deadline, moreUrgent, canonicalAt, queueOf, opened}
 use Rattle.schedule.specs.Feasibility.{In, Fitting}
 use Rattle.schedule.proofs.Members.{all-in}
+use Rattle.schedule.proofs.Urgency.{MoreUrgent, urgent-true}
+use Rattle.schedule.proofs.Invariant.{canonical-good}
+use Rattle.schedule.proofs.Invariant as invariant
 use Rattle.schedule.proofs.Feasible.{never-late}
 use Rattle.schedule.proofs.QueueLaws.{queueOf-cong, in-queueOf}
 use Rattle.schedule.proofs.Span.{canonical-start}
@@ -35,19 +39,23 @@ use Rattle.reclaiming.specs.StateBlock.{State, encode, decode, planIn, t
 use Rattle.reclaiming.specs.Orders.{holdOf, orderWith}
 use Rattle.reclaiming.specs.Passes.{startState, newEntry, passedState, passedHold}
 use Rattle.reclaiming.specs.Questions.{largestClock, running, runningTime}
-use Rattle.reclaiming.specs.Calls.{repliedBy, refusalOf, startReply, startBuffer, startNumber, startOrder, queueBytes, readyQueue, shownBytes, passReply}
+use Rattle.reclaiming.specs.Calls.{repliedBy, isOrder, startReply, startBuffer, startNumber, startOrder, queueBytes, readyQueue, shownBytes, passReply}
+use Rattle.reclaiming.specs.Calls.{showNumber, showReply, showBuffer}
 use Rattle.reclaiming.specs.Run.{Pass, DispatcherBook, Arrived, bookedAll, ranAll, bytesAfter, trace, openedBook, namedBy, startedBytes}
-use Rattle.reclaiming.specs.Promises.{Started, OpenPlain, OnTime, Demand3, QueueShown, StaysSound, NoDeadEnd, Open}
+use Rattle.reclaiming.specs.Promises.{Started, OpenPlain, OpenActual, OnTime, MostUrgent, NamesMostUrgent, Shows}
+use Rattle.reclaiming.specs.Promises.{Demand3, QueueShown, StaysSound, RunsMostUrgent, NoDeadEnd, Open}
 use Rattle.reclaiming.specs.Promises.{holdIn, lastOrder, stateAfter, actualBook, plainBook, replies}
 use Rattle.reclaiming.proofs.Fine.{Fine, Accepted, nominalSpeed}
-use Rattle.reclaiming.proofs.Replies.{order-accepted, order-named, order-held, not-refused}
+use Rattle.reclaiming.proofs.Replies.{is-idle, is-run, viewOrder, order-accepted, order-named, order-held, not-refused}
 use Rattle.reclaiming.proofs.Plans.{nominal-positive, plan-fits}
 use Rattle.reclaiming.proofs.StateCodec.{length-encode}
 use Rattle.reclaiming.proofs.Soundness.{fine-length, fine-storable, questions-yes}
 use Rattle.reclaiming.proofs.PassedStates.{choose-clock, choose-entries}
 use Rattle.reclaiming.proofs.PassSound.{start-fine, hold-accepted, finish-accepted}
-use Rattle.reclaiming.proofs.Books.{Held, held-start, latest-deadline}
-use Rattle.reclaiming.proofs.Runs.{Tied, Kept, kept-pass, stored-sound, decoded, reply-is}
+use Rattle.reclaiming.proofs.Books.{OpenLatest, Held, held-start, Ended, ended-start, latest-arrived, latest-deadline}
+use Rattle.reclaiming.proofs.OrderFacts.{Runs, Ordered, idles, runs}
+use Rattle.reclaiming.proofs.Worked.{ordered}
+use Rattle.reclaiming.proofs.Runs.{Tied, Kept, kept-pass, stored-sound, stored-length, decoded, reply-is}
 
 module _ (speeds : List ℕ) (rising : Rising speeds) (few : length speeds ≤ 256) where
   -- what an accepted start has shown
@@ -133,15 +141,13 @@ module _ (speeds : List ℕ) (rising : Rising speeds) (few : length speeds ≤ 2
         clock = sym clock;
         task = ap (λ (r : Reply). namedBy r 255) replied ∙ order-named s hold 255;
         held = subst (λ (c : ℕ). Held τ c (workOf s) []) (sym clock) (held-start τ (workOf s) (fits .periods) open-all);
+        ended = subst (λ (c : ℕ). Ended τ c (workOf s) []) (sym clock) (ended-start τ (workOf s));
         plainly = ap (canonicalAt τ) (sym clock);
         queue =
             subst (λ (c : ℕ). canonicalAt τ c ≡ record { clock = c; pending = queueOf τ c (remainingOf s) (τ .count) }) (sym clock)
             (canonical-start τ (hyperperiod ts) fits
             ∙ (λ k. record { clock = 0; pending = queueOf-cong τ 0 (τ .allotment) (remainingOf s) (τ .count) left k }));
-        hold =
-            ap holdIn replied
-            ∙ order-held s hold
-            ∙ ap (λ (l : List Task). holdOf speeds (timing speeds l) s) (fine .entries .plan);
+        order-is = replied ∙ ap (λ (l : List Task). orderWith s (holdOf speeds (timing speeds l) s)) (fine .entries .plan);
       };
     }
 
@@ -197,21 +203,84 @@ module _ (speeds : List ℕ) (rising : Rising speeds) (few : length speeds ≤ 2
                 (latest-deadline (timing speeds ts) (s .clock) (j .task) (fits-run .periods (j .task) h)),
           )
 
+      -- a job that is open in the plain schedule is one of its entries
+      plain-in : (j : Job) (o : OpenPlain b j) → In (record { job = j; remaining = o.0 }) (canonicalAt (timing speeds ts) (s .clock) .pending)
+      plain-in j o = subst (λ (k : Book). In (record { job = j; remaining = o.0 }) (k .pending)) (t .plainly) (o.1)
+
+      plain-arrived : (j : Job) → OpenPlain b j → Arrived (timing speeds ts) (s .clock) j
+      plain-arrived j o =
+          let entry =
+          all-in (invariant.Open (timing speeds ts) (s .clock)) (canonicalAt (timing speeds ts) (s .clock) .pending)
+          (canonical-good (timing speeds ts) (fits-run .allotments) (s .clock) .entries) (record { job = j; remaining = o.0 }) (plain-in j o) in
+          record { task = entry .task; arrival = entry .arrived; multiple = entry .multiple }
+
       on-time : OnTime (timing speeds ts) a b
       on-time = record {
         clocks = t .clock ∙ sym (ap (λ (k : Book). k .clock) plain-is);
-        ahead = λ j r unclosed. ⊎-elim (λ m. absurd (unclosed m)) (opened-plain j (r .task)) (t .held j (here j r));
+        arrivals = λ j o. subst (λ (c : ℕ). Arrived (timing speeds ts) c j) (sym (t .clock)) (plain-arrived j o);
+        ahead = λ j o. ⊎-elim (λ m. absurd (o .unclosed m)) (opened-plain j (o .arrived .task)) (t .held j (here j (o .arrived)));
         actual-closed = λ j r l. ⊎-elim (λ m. m) (λ e. absurd (past j (r .task) e.0 l)) (t .held j (here j r));
         plain-closed = λ j r l o.
             let late : s .clock < deadline (timing speeds ts) j =
             all-in (λ (e : Pending). s .clock < deadline (timing speeds ts) (e .job)) (canonicalAt (timing speeds ts) (s .clock) .pending)
-            (never-late (timing speeds ts) (hyperperiod ts) fits-run (s .clock)) (record { job = j; remaining = o.0 })
-            (subst (λ (k : Book). In (record { job = j; remaining = o.0 }) (k .pending)) (t .plainly) (o.1)) in
+            (never-late (timing speeds ts) (hyperperiod ts) fits-run (s .clock)) (record { job = j; remaining = o.0 }) (plain-in j o) in
             omega (arith, ap (λ (k : Book). k .clock) plain-is);
       }
 
       is-state : decode bytes ≡ s
       is-state = decoded speeds rising few ts good (t .stored) (t .fine)
+
+      -- what is open in the dispatcher's book, and what is not
+      is-open : (i : ℕ) → i < length ts → 0 < workOf s i → OpenActual (timing speeds ts) a (latest (timing speeds ts) (a .clock) i)
+      is-open i h w =
+          let now : latest (timing speeds ts) (a .clock) i ≡ latest (timing speeds ts) (s .clock) i = ap (λ (c : ℕ). latest (timing speeds ts) c i) (t .clock) in
+          record {
+            arrived = latest-arrived (timing speeds ts) (a .clock) i h;
+            unclosed = λ m. omega (arith, t .ended .done (latest (timing speeds ts) (a .clock) i) m now);
+          }
+
+      open-latest : (j : Job) → OpenActual (timing speeds ts) a j → OpenLatest (timing speeds ts) (s .clock) (workOf s) j
+      open-latest j o = ⊎-elim (λ m. absurd (o .unclosed m)) (λ e. e) (t .held j (here j (o .arrived)))
+
+      names-most-urgent : NamesMostUrgent (timing speeds ts) a last
+      names-most-urgent =
+          subst (NamesMostUrgent (timing speeds ts) a) (sym (t .order-is))
+          (elim (viewOrder s (holdOf speeds (timing speeds ts) s)) as (λ r _. NamesMostUrgent (timing speeds ts) a r) [
+            | is-idle e ↦ λ j o. nothing-open e j o
+            | is-run e ↦ runs-first (running-facts e)
+          ])
+        where
+          order : Ordered speeds (timing speeds ts) (nominal speeds ts) s
+          order = ordered speeds ts s (t .fine)
+
+          nothing-open : s .task ≡ 255 → (j : Job) → OpenActual (timing speeds ts) a j → ⊥
+          nothing-open e j o =
+              elim order [
+                | idles x y z ↦ omega (arith, open-latest j o .1, z (j .task) (o .arrived .task))
+                | runs r ↦ omega (arith, r .below, good .count-high)
+              ]
+
+          running-facts : (s .task ≡ 255 → ⊥) → Runs speeds (timing speeds ts) (nominal speeds ts) s
+          running-facts ne = elim order [ idles x y z ↦ absurd (ne x) | runs r ↦ r ]
+
+          runs-first : Runs speeds (timing speeds ts) (nominal speeds ts) s → MostUrgent (timing speeds ts) a (latest (timing speeds ts) (a .clock) (s .task))
+          runs-first r = record {
+            is-open = is-open (s .task) (r .below) (r .work);
+            most-urgent = λ k o. behind k o (ℕ-discrete (k .task) (s .task));
+          }
+            where
+              behind :
+                  (k : Job) →
+                  OpenActual (timing speeds ts) a k →
+                  Dec (k .task ≡ s .task) →
+                  (k ≡ latest (timing speeds ts) (a .clock) (s .task)) ⊎ (moreUrgent (timing speeds ts) (latest (timing speeds ts) (a .clock) (s .task)) k ≡ true)
+              behind k o (yes e) =
+                  inl (open-latest k o .0 ∙ ap₂ (latest (timing speeds ts)) (sym (t .clock)) e)
+              behind k o (no e) =
+                  inr
+                  (urgent-true (timing speeds ts) (latest (timing speeds ts) (a .clock) (s .task)) k
+                  (subst₂ (MoreUrgent (timing speeds ts)) (ap (λ (c : ℕ). latest (timing speeds ts) c (s .task)) (sym (t .clock))) (sym (open-latest k o .0))
+                  (r .urgent (k .task) (o .arrived .task) (open-latest k o .1) e)))
 
       -- what showing writes is the plain schedule's ready queue
       shown : shownBytes speeds bytes ≡ queueBytes (b .pending)
@@ -221,11 +290,18 @@ module _ (speeds : List ℕ) (rising : Rising speeds) (few : length speeds ≤ 2
           (t .fine .entries .plan) (fine-length (t .fine .entries))
           ∙ sym (ap (λ (k : Book). queueBytes (k .pending)) plain-is)
 
+      -- and so is what it answers and leaves, since the state is sound
+      shows : (lent : List ℕ) → Shows (b .pending) lent (showReply speeds bytes (length lent)) (showBuffer speeds bytes lent)
+      shows lent =
+          let asked : showNumber speeds bytes (length lent) ≡ roomNumber (length (queueBytes (b .pending))) (length lent) =
+          ask-yes 10 (stored-sound speeds rising few ts good (t .stored) (t .fine)) (ap (λ (l : List ℕ). roomNumber (length l) (length lent)) shown) in
+          record { answers = ap₂ writtenBy asked shown; leaves = ap₂ (λ (n : ℕ) (l : List ℕ). storedBy n l lent) asked shown }
+
       -- an accepted pass is answered with an order
-      answered : (d : ℕ) (finished : Bool) → Accepted speeds (timing speeds ts) s d finished → refusalOf (passReply speeds bytes d finished) ≡ 0
+      answered : (d : ℕ) (finished : Bool) → Accepted speeds (timing speeds ts) s d finished → isOrder (passReply speeds bytes d finished) ≡ true
       answered d finished ok =
-          ap refusalOf (reply-is speeds rising few ts good (t .stored) (t .fine) d finished)
-          ∙ ap (λ (n : ℕ). refusalOf (repliedBy n (orderWith next hold)))
+          ap isOrder (reply-is speeds rising few ts good (t .stored) (t .fine) d finished)
+          ∙ ap (λ (n : ℕ). isOrder (repliedBy n (orderWith next hold)))
           (questions-yes speeds s d finished (subst (λ (l : List Task). Accepted speeds (timing speeds l) s d finished) (sym (t .fine .entries .plan)) ok))
           ∙ order-accepted next hold
         where
@@ -235,17 +311,20 @@ module _ (speeds : List ℕ) (rising : Rising speeds) (few : length speeds ≤ 2
           hold : ℕ
           hold = passedHold speeds (timing speeds ts) s d finished
 
+      held-is : holdIn last ≡ holdOf speeds (timing speeds ts) s
+      held-is = ap holdIn (t .order-is) ∙ order-held s (holdOf speeds (timing speeds ts) s)
+
       -- so neither the suggested pass nor an early finish is refused
       not-dead : Open speeds bytes last (a .clock)
       not-dead = record {
         suggested = λ l.
-            subst (λ (x : State). refusalOf (passReply speeds bytes (holdIn last) (both (running x) (eqb (holdIn last) (runningTime speeds x)))) ≡ 0) (sym is-state)
-            (subst (λ (h : ℕ). refusalOf (passReply speeds bytes h (both (running s) (eqb h (runningTime speeds s)))) ≡ 0) (sym (t .hold))
+            subst (λ (x : State). isOrder (passReply speeds bytes (holdIn last) (both (running x) (eqb (holdIn last) (runningTime speeds x)))) ≡ true) (sym is-state)
+            (subst (λ (h : ℕ). isOrder (passReply speeds bytes h (both (running s) (eqb h (runningTime speeds s)))) ≡ true) (sym held-is)
             (answered (holdOf speeds (timing speeds ts) s) (both (running s) (eqb (holdOf speeds (timing speeds ts) s) (runningTime speeds s)))
-            (hold-accepted speeds rising ts good s (t .fine) (subst₂ (λ (c h : ℕ). c + h ≤ largestClock) (t .clock) (t .hold) l))));
+            (hold-accepted speeds rising ts good s (t .fine) (subst₂ (λ (c h : ℕ). c + h ≤ largestClock) (t .clock) held-is l))));
         early = λ d low high l r.
             answered d true
-            (finish-accepted speeds rising ts good s (t .fine) d low (subst (λ (h : ℕ). d ≤ h) (t .hold) high)
+            (finish-accepted speeds rising ts good s (t .fine) d low (subst (λ (h : ℕ). d ≤ h) held-is high)
             (subst (λ (x : State). running x ≡ true) is-state r)
             (subst (λ (c : ℕ). c + d ≤ largestClock) (t .clock) l));
       }
@@ -258,11 +337,20 @@ module _ (speeds : List ℕ) (rising : Rising speeds) (few : length speeds ≤ 2
       (plainBook speeds block buffer passes) (lastOrder (startReply speeds block (length buffer)) (replies speeds block buffer passes))
   after-run block buffer passes ok = kept-run (tasksIn block) (good block buffer ok) passes (kept-start block buffer ok)
 
+  -- the state is 200 bytes all along
+  pub after-length : (block buffer : List ℕ) (passes : List Pass) → Started speeds block buffer → length (stateAfter speeds block buffer passes) ≡ 200
+  after-length block buffer passes ok =
+      let k = after-run block buffer passes ok in
+      stored-length speeds rising few (tasksIn block) (good block buffer ok) (k .tied .stored) (k .tied .fine)
+
   pub demand-3 : Demand3 speeds
   demand-3 block buffer passes ok = on-time (tasksIn block) (good block buffer ok) (after-run block buffer passes ok .tied)
 
   pub queue-shown : QueueShown speeds
-  queue-shown block buffer passes ok = shown (tasksIn block) (good block buffer ok) (after-run block buffer passes ok .tied)
+  queue-shown block buffer passes lent ok = shows (tasksIn block) (good block buffer ok) (after-run block buffer passes ok .tied) lent
+
+  pub runs-most-urgent : RunsMostUrgent speeds
+  runs-most-urgent block buffer passes ok = names-most-urgent (tasksIn block) (good block buffer ok) (after-run block buffer passes ok .tied)
 
   pub stays-sound : StaysSound speeds
   stays-sound block buffer passes ok =

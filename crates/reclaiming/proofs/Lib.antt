@@ -13,6 +13,7 @@ pub mod Books
 pub mod Runs
 pub mod Demand
 pub mod PlayLaws
+pub mod PlayShown
 pub mod NumberLaws
 pub mod Listing
 pub mod Starred

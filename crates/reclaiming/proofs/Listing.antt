@@ -1,12 +1,13 @@
 -- 01, "The bench program": its example, computed from the definitions.
 -- Assumes nothing.
 use mathlib.Core.Path.{_≡_, refl}
+use mathlib.Core.Bool.{true}
 use Rattle.arith.specs.Need.{need}
 use Rattle.arith.specs.Divisor.{gcd, lcm}
 use Rattle.plan.specs.Levels.{baseSpeeds}
 use Rattle.plan.specs.Answers.{readBlock}
 use Rattle.schedule.specs.PlainSchedule.{moreUrgent}
-use Rattle.reclaiming.specs.Calls.{refusalOf, startReply}
+use Rattle.reclaiming.specs.Calls.{isOrder, startReply}
 use Rattle.reclaiming.specs.Cases.{benchBlock, benchJudged, benchLines, listedLines}
 
 pub bench-plan : readBlock baseSpeeds benchBlock ≡ benchJudged
@@ -18,6 +19,6 @@ unfolding need lcm gcd moreUrgent
 bench-listing = refl
 
 -- the hypothesis of demand 3 holds of it
-pub bench-started : refusalOf (startReply baseSpeeds benchBlock 200) ≡ 0
+pub bench-started : isOrder (startReply baseSpeeds benchBlock 200) ≡ true
 unfolding need lcm gcd moreUrgent
 bench-started = refl

@@ -1,11 +1,11 @@
--- Replies as numbers and back, and demand 3 of the numbers that a run leaves in lent blocks.
+-- Replies as numbers and back, and the promises of the numbers that a run leaves in lent blocks.
 -- Assumes nothing.
 use Prim.Native.Nat.{ℕ, zero, suc, _+_, _*_, _/_, _%_, _≤_, _<_}
 use mathlib.Core.Path.{_≡_, refl, sym, subst₂, ap, ap₂, _∙_}
-use mathlib.Core.Bool.{Bool, true, false}
+use mathlib.Core.Bool.{Bool, true, false, true≢false}
 use mathlib.Core.List.{List, [], _∷_, _++_}
 use native.Mathlib.Omega.{arith}
-use borrow.Author.Tests.{eq-eqb, ne-eqb, eqb-true, eqb-false}
+use borrow.Author.Tests.{eq-eqb, ne-eqb}
 use lib.Dec.{eqb, lit≤}
 use lib.Arith.{digits-mod}
 use lib.ListN.{length, take, drop}
@@ -24,17 +24,17 @@ use Rattle.reclaiming.specs.StateBlock.{State, encode, decode, planIn, t
 use Rattle.reclaiming.specs.Orders.{orderWith, holdOf}
 use Rattle.reclaiming.specs.Passes.{startState, passedState, passedHold}
 use Rattle.reclaiming.specs.Questions.{passing, starting, passQuestions, stateSound}
-use Rattle.reclaiming.specs.Calls.{repliedBy, refusalOf, startNumber, startReply, startBuffer, startOrder, passNumber, passReply, passBytes, passOrder}
+use Rattle.reclaiming.specs.Calls.{repliedBy, isOrder, startNumber, startReply, startBuffer, startOrder, passNumber, passReply, passBytes, passOrder}
 use Rattle.reclaiming.specs.Run.{Pass, Answered, trace, bytesAfter, startedBytes, openedBook, bookedAll, ranAll}
-use Rattle.reclaiming.specs.Promises.{Started, OnTime}
+use Rattle.reclaiming.specs.Promises.{Started, OnTime, NamesMostUrgent, lastOrder}
 use Rattle.reclaiming.specs.Numbers.{replyNumber}
-use Rattle.reclaiming.specs.Play.{replyFrom, replyNumbers, answersFrom, leftBy, playedState, playedReplies, PlayedOnTime}
+use Rattle.reclaiming.specs.Play.{replyFrom, replyNumbers, answersFrom, leftBy, playedState, playedReplies, PlayedOnTime, PlayedMostUrgent}
 use Rattle.reclaiming.proofs.Fine.{Fine, Accepted}
 use Rattle.reclaiming.proofs.Replies.{is-idle, is-run, viewOrder, order-accepted, not-refused}
 use Rattle.reclaiming.proofs.StateCodec.{Storable}
 use Rattle.reclaiming.proofs.Soundness.{sound-fine, accepted, fine-storable}
 use Rattle.reclaiming.proofs.PassSound.{start-fine, pass-fine}
-use Rattle.reclaiming.proofs.Demand.{demand-3, good, room, untouched}
+use Rattle.reclaiming.proofs.Demand.{demand-3, runs-most-urgent, good, room, untouched}
 
 -- a reply whose parts each fit their place in the number
 abbrev pub Small : Reply → Type 0
@@ -74,7 +74,7 @@ from-number (reply.Refused n) small =
 order-small : (s : State) (hold : ℕ) → Storable s → Small (orderWith s hold)
 order-small s hold fits = elim (viewOrder s hold) as (λ r _. Small r) [ is-idle e ↦ tt | is-run e ↦ (fits .task, fits .level) ]
 
-few : length baseSpeeds ≤ 256
+pub few : length baseSpeeds ≤ 256
 few = lit≤ tt
 
 replied-small : (n : ℕ) (order : Reply) → n < 256 → (n ≡ 0 → Small order) → Small (repliedBy n order)
@@ -114,11 +114,11 @@ module _ (block buffer : List ℕ) where
   begun-hold = holdOf baseSpeeds (timing baseSpeeds (planIn begun)) begun
 
   -- a start is answered with an order exactly if no question is answered no
-  started-number : Started baseSpeeds block buffer → startNumber baseSpeeds block (length buffer) ≡ 0
+  pub started-number : Started baseSpeeds block buffer → startNumber baseSpeeds block (length buffer) ≡ 0
   started-number = not-refused (startNumber baseSpeeds block (length buffer)) (startOrder baseSpeeds begun)
 
-  number-started : startNumber baseSpeeds block (length buffer) ≡ 0 → Started baseSpeeds block buffer
-  number-started e = ap (λ (n : ℕ). refusalOf (repliedBy n (orderWith begun begun-hold))) e ∙ order-accepted begun begun-hold
+  pub number-started : startNumber baseSpeeds block (length buffer) ≡ 0 → Started baseSpeeds block buffer
+  number-started e = ap (λ (n : ℕ). isOrder (repliedBy n (orderWith begun begun-hold))) e ∙ order-accepted begun begun-hold
 
   start-small : Small (startReply baseSpeeds block (length buffer))
   start-small =
@@ -147,36 +147,72 @@ module _ (block state : List ℕ) (passes : List Pass) where
   abbrev replies-left : List ℕ → List ℕ
   replies-left found = replyNumbers (trace baseSpeeds (startedBytes baseSpeeds block state) passes) ++ drop (length passes) found
 
--- demand 3 of the numbers that playing leaves
-pub played-on-time :
-    (block state found : List ℕ) (passes : List Pass) →
-    PlayedOnTime baseSpeeds block (replyNumber (startReply baseSpeeds block (length state))) passes (playedReplies baseSpeeds block state passes found)
-played-on-time block state found passes ok =
-    subst₂ (λ (r : Reply) (l : List Answered). OnTime τ (bookedAll τ (openedBook r) l) (ranAll τ (opened τ) l)) (sym first) (sym answers)
-    (demand-3 baseSpeeds baseRising few block state passes started)
-  where
-    τ : Timing
-    τ = timing baseSpeeds (tasksIn block)
+-- a run of the first n passes
+trace-take : (n : ℕ) (bytes : List ℕ) (passes : List Pass) → take n (trace baseSpeeds bytes passes) ≡ trace baseSpeeds bytes (take n passes)
+trace-take zero bytes passes = refl
+trace-take (suc n) bytes [] = refl
+trace-take (suc n) bytes (p ∷ ps) =
+    ap (λ (l : List Answered). record { pass = p; reply = passReply baseSpeeds bytes (p .d) (p .finished) } ∷ l)
+    (trace-take n (passBytes baseSpeeds bytes (p .d) (p .finished)) ps)
 
-    first : replyFrom (replyNumber (startReply baseSpeeds block (length state))) ≡ startReply baseSpeeds block (length state)
-    first = from-number (startReply baseSpeeds block (length state)) (start-small block state)
+-- what holds of a run's replies holds of the numbers that playing leaves
+module _ (block state found : List ℕ) (passes : List Pass) where
+  abbrev first-number : ℕ
+  first-number = replyNumber (startReply baseSpeeds block (length state))
 
-    started : Started baseSpeeds block state
-    started = ap refusalOf (sym first) ∙ ok
+  abbrev replies-found : List ℕ
+  replies-found = playedReplies baseSpeeds block state passes found
 
-    answers : answersFrom passes (playedReplies baseSpeeds block state passes found) ≡ trace baseSpeeds (startedBytes baseSpeeds block state) passes
-    answers =
-        ap (λ (n : ℕ). answersFrom passes (leftBy n (replies-left block state passes found) found)) (started-number block state started)
-        ∙ answers-same passes (startedBytes baseSpeeds block state) (drop (length passes) found)
+  first-back : replyFrom first-number ≡ startReply baseSpeeds block (length state)
+  first-back = from-number (startReply baseSpeeds block (length state)) (start-small block state)
+
+  pub number-accepted : isOrder (replyFrom first-number) ≡ true → Started baseSpeeds block state
+  number-accepted ok = ap isOrder (sym first-back) ∙ ok
+
+  answers-back :
+      Started baseSpeeds block state →
+      (n : ℕ) →
+      take n (answersFrom passes replies-found) ≡ trace baseSpeeds (startedBytes baseSpeeds block state) (take n passes)
+  answers-back ok n =
+      ap (take n)
+      (ap (λ (k : ℕ). answersFrom passes (leftBy k (replies-left block state passes found) found)) (started-number block state ok)
+      ∙ answers-same passes (startedBytes baseSpeeds block state) (drop (length passes) found))
+      ∙ trace-take n (startedBytes baseSpeeds block state) passes
+
+  pub carried :
+      (P : Reply → List Answered → Type 0) →
+      Started baseSpeeds block state →
+      (n : ℕ) →
+      P (startReply baseSpeeds block (length state)) (trace baseSpeeds (startedBytes baseSpeeds block state) (take n passes)) →
+      P (replyFrom first-number) (take n (answersFrom passes replies-found))
+  carried P ok n = subst₂ P (sym first-back) (sym (answers-back ok n))
+
+  abbrev τ : Timing
+  τ = timing baseSpeeds (tasksIn block)
+
+  played-on-time : PlayedOnTime baseSpeeds block first-number passes replies-found
+  played-on-time accepted n =
+      let ok : Started baseSpeeds block state = number-accepted accepted in
+      carried (λ (r : Reply) (l : List Answered). OnTime τ (bookedAll τ (openedBook r) l) (ranAll τ (opened τ) l)) ok n
+      (demand-3 baseSpeeds baseRising few block state (take n passes) ok)
+
+  played-most-urgent : PlayedMostUrgent baseSpeeds block first-number passes replies-found
+  played-most-urgent accepted n =
+      let ok : Started baseSpeeds block state = number-accepted accepted in
+      carried (λ (r : Reply) (l : List Answered). NamesMostUrgent τ (bookedAll τ (openedBook r) l) (lastOrder r l)) ok n
+      (runs-most-urgent baseSpeeds baseRising few block state (take n passes) ok)
 
 -- what it leaves where the start is refused, and where it is accepted
 module _ (block state : List ℕ) (passes : List Pass) (found : List ℕ) where
-  -- the number that is returned, the state and the replies; demand 3 is said of that number and those replies
+  -- the number that is returned, the state and the replies; the promises are said of that number and those replies
+  abbrev Promised : ℕ → List ℕ → Type 0
+  Promised first replies = PlayedOnTime baseSpeeds block first passes replies × PlayedMostUrgent baseSpeeds block first passes replies
+
   abbrev PlayLeaves : ℕ → List ℕ → List ℕ → Type 0
   PlayLeaves first m replies =
       (first ≡ replyNumber (startReply baseSpeeds block (length state)))
       × ((m ≡ playedState baseSpeeds block state passes)
-      × ((replies ≡ playedReplies baseSpeeds block state passes found) × PlayedOnTime baseSpeeds block first passes replies))
+      × ((replies ≡ playedReplies baseSpeeds block state passes found) × Promised first replies))
 
   play-leaves :
       (first : ℕ) (m replies : List ℕ) →
@@ -185,9 +221,7 @@ module _ (block state : List ℕ) (passes : List Pass) (found : List ℕ) where
       replies ≡ playedReplies baseSpeeds block state passes found →
       PlayLeaves first m replies
   play-leaves first m replies e f r =
-      let on-time : PlayedOnTime baseSpeeds block first passes replies =
-      subst₂ (λ (n : ℕ) (l : List ℕ). PlayedOnTime baseSpeeds block n passes l) (sym e) (sym r) (played-on-time block state found passes) in
-      (e, (f, (r, on-time)))
+      (e, (f, (r, subst₂ Promised (sym e) (sym r) (played-on-time block state found passes, played-most-urgent block state found passes))))
 
   -- by the number of the start's questions
   abbrev stateBy : ℕ → List ℕ
@@ -199,7 +233,7 @@ module _ (block state : List ℕ) (passes : List Pass) (found : List ℕ) where
   left-refused :
       (n : ℕ) →
       startNumber baseSpeeds block (length state) ≡ n →
-      (refusalOf (startReply baseSpeeds block (length state)) ≡ 0 → ⊥) →
+      (Started baseSpeeds block state → ⊥) →
       (startBuffer baseSpeeds block state ≡ playedState baseSpeeds block state passes) × (found ≡ playedReplies baseSpeeds block state passes found)
   left-refused zero e never = absurd (never (number-started block state e))
   left-refused (suc n) e never = (
@@ -207,7 +241,7 @@ module _ (block state : List ℕ) (passes : List Pass) (found : List ℕ) where
     sym (ap repliesBy e),
   )
 
-  module _ (ok : refusalOf (startReply baseSpeeds block (length state)) ≡ 0) (l : List ℕ) (started : l ≡ startBuffer baseSpeeds block state) where
+  module _ (ok : Started baseSpeeds block state) (l : List ℕ) (started : l ≡ startBuffer baseSpeeds block state) where
     left-state : (m : List ℕ) → m ≡ bytesAfter baseSpeeds (take 200 l) passes → m ++ drop 200 l ≡ playedState baseSpeeds block state passes
     left-state m e =
         ap₂ (λ (x y : List ℕ). x ++ y)
@@ -227,16 +261,19 @@ module _ (block state : List ℕ) (passes : List Pass) (found : List ℕ) where
 -- a start on lent blocks: its reply, whether that is an order, and the state that it leaves
 pub record Begun (block state : List ℕ) (x : Reply) (b : Bool) (l : List ℕ) : Type 0 where
   pub replied : x ≡ startReply baseSpeeds block (length state)
-  pub tested : b ≡ eqb (refusalOf x) 0
+  pub tested : b ≡ isOrder x
   pub left : l ≡ startBuffer baseSpeeds block state
   pub kept : length l ≡ length state
 
 module _ {block state : List ℕ} {x : Reply} {b : Bool} {l : List ℕ} (begun : Begun block state x b l) where
-  is-refusal : b ≡ false → refusalOf (startReply baseSpeeds block (length state)) ≡ 0 → ⊥
-  is-refusal f z = eqb-false (refusalOf x) 0 (sym (begun .tested) ∙ f) (ap refusalOf (begun .replied) ∙ z)
+  order-tested : b ≡ isOrder (startReply baseSpeeds block (length state))
+  order-tested = begun .tested ∙ ap isOrder (begun .replied)
 
-  no-refusal : b ≡ true → refusalOf (startReply baseSpeeds block (length state)) ≡ 0
-  no-refusal t = ap refusalOf (sym (begun .replied)) ∙ eqb-true (refusalOf x) 0 (sym (begun .tested) ∙ t)
+  is-refusal : b ≡ false → Started baseSpeeds block state → ⊥
+  is-refusal f ok = true≢false (sym ok ∙ sym order-tested ∙ f)
+
+  no-refusal : b ≡ true → Started baseSpeeds block state
+  no-refusal t = sym order-tested ∙ t
 
   -- an accepted start has its 200 bytes
   pub play-room : b ≡ true → 200 ≤ length l

@@ -2,13 +2,14 @@
 -- Assumes nothing.
 use Prim.Native.Nat.{ℕ, zero, suc}
 use mathlib.Core.Path.{_≡_, refl, sym}
+use mathlib.Core.Bool.{true, true≢false}
 use Rattle.arith.specs.Choice.{pick}
 use Rattle.arith.proofs.Tests.{eq-yes, eq-not, testEq}
 use Rattle.reclaiming.specs.declared.Reply.{Reply}
 use Rattle.reclaiming.specs.declared.Reply.the-variants as reply
 use Rattle.reclaiming.specs.StateBlock.{State}
 use Rattle.reclaiming.specs.Orders.{orderWith}
-use Rattle.reclaiming.specs.Calls.{repliedBy, refusalOf}
+use Rattle.reclaiming.specs.Calls.{repliedBy, isOrder}
 use Rattle.reclaiming.specs.Run.{namedBy}
 use Rattle.reclaiming.specs.Promises.{holdIn, orderAfter}
 
@@ -24,8 +25,8 @@ viewOrder s hold =
 
 -- what is read off it
 module _ (s : State) (hold : ℕ) where
-  pub order-accepted : refusalOf (orderWith s hold) ≡ 0
-  order-accepted = elim (viewOrder s hold) as (λ r _. refusalOf r ≡ 0) [ is-idle e ↦ refl | is-run e ↦ refl ]
+  pub order-accepted : isOrder (orderWith s hold) ≡ true
+  order-accepted = elim (viewOrder s hold) as (λ r _. isOrder r ≡ true) [ is-idle e ↦ refl | is-run e ↦ refl ]
 
   pub order-named : (last : ℕ) → namedBy (orderWith s hold) last ≡ s .task
   order-named last = elim (viewOrder s hold) as (λ r _. namedBy r last ≡ s .task) [ is-idle e ↦ sym e | is-run e ↦ refl ]
@@ -38,6 +39,6 @@ module _ (s : State) (hold : ℕ) where
   order-stands last = elim (viewOrder s hold) as (λ r _. orderAfter last r ≡ r) [ is-idle e ↦ refl | is-run e ↦ refl ]
 
 -- a reply that is no refusal had no question answered no
-pub not-refused : (n : ℕ) (order : Reply) → refusalOf (repliedBy n order) ≡ 0 → n ≡ 0
+pub not-refused : (n : ℕ) (order : Reply) → isOrder (repliedBy n order) ≡ true → n ≡ 0
 not-refused zero order h = refl
-not-refused (suc n) order h = h
+not-refused (suc n) order h = absurd (true≢false (sym h))

@@ -1,11 +1,12 @@
 -- What ties the state's bytes to the two books, kept by every pass, refused or not.
 -- Assumes nothing.
-use Prim.Native.Nat.{ℕ, zero, suc, _+_, _%_, _≤_, _<_}
+use Prim.Native.Nat.{ℕ, zero, suc, _+_, _-_, _*_, _%_, _≤_, _<_}
 use mathlib.Core.Path.{_≡_, refl, sym, subst, ap, ap₂, _∙_}
-use mathlib.Core.Bool.{Bool, true, true≢false}
+use mathlib.Core.Bool.{Bool, true, true≢false, not}
 use mathlib.Core.List.{List, _∷_, _++_, append-nil}
 use native.Mathlib.Decide.{ℕ-discrete}
 use native.Mathlib.Omega.{arith}
+use borrow.Author.Tests.{eq-eqb}
 use lib.ListN.{length, getD, drop-of-length-le}
 use Rattle.arith.specs.Choice.{pick}
 use Rattle.arith.specs.Need.{need}
@@ -14,7 +15,7 @@ use Rattle.arith.proofs.Tests.{passed, failed, tested, both-true}
 use Rattle.arith.proofs.Needs.{need-positive}
 use Rattle.arith.proofs.QuestionLaws.{ask-yes}
 use Rattle.plan.specs.declared.Task.{Task}
-use Rattle.plan.specs.Levels.{Rising, hyperperiod}
+use Rattle.plan.specs.Levels.{Rising, speedOf, hyperperiod}
 use Rattle.plan.specs.Blocks.{noTask}
 use Rattle.plan.specs.Answers.{storedBy}
 use Rattle.plan.proofs.Facts.{FineList, range-at}
@@ -30,17 +31,18 @@ use Rattle.reclaiming.specs.Passes.{passedState, passedHold, workedOf, d
 use Rattle.reclaiming.specs.Questions.{sound, stateSound, passQuestions}
 use Rattle.reclaiming.specs.Calls.{repliedBy, passNumber, passReply, passBytes}
 use Rattle.reclaiming.specs.Run.{Pass, DispatcherBook, moved, booked, ran}
-use Rattle.reclaiming.specs.Promises.{holdIn, orderAfter}
+use Rattle.reclaiming.specs.Promises.{orderAfter}
 use Rattle.reclaiming.proofs.Fine.{Fine, Accepted, nominalSpeed}
-use Rattle.reclaiming.proofs.Replies.{is-idle, is-run, viewOrder, order-held, order-stands}
+use Rattle.reclaiming.proofs.Replies.{is-idle, is-run, viewOrder, order-stands}
 use Rattle.reclaiming.proofs.Plans.{nominal-positive, plan-fits}
 use Rattle.reclaiming.proofs.StateCodec.{Storable, decode-encode, length-encode, laid-out}
 use Rattle.reclaiming.proofs.Soundness.{fine-sound, accepted, fine-storable}
+use Rattle.reclaiming.proofs.OrderFacts.{idles, runs}
 use Rattle.reclaiming.proofs.NextArrival.{next-quiet}
-use Rattle.reclaiming.proofs.Worked.{worked-other, worked-open, stays-ahead}
+use Rattle.reclaiming.proofs.Worked.{worked-other, worked-mine, worked-less, worked-open, stays-ahead, ordered}
 use Rattle.reclaiming.proofs.PassedStates.{new-work, old-work, passed-remaining, passed-clock}
 use Rattle.reclaiming.proofs.PassSound.{pass-fine, pass-hold}
-use Rattle.reclaiming.proofs.Books.{Held, held-pass}
+use Rattle.reclaiming.proofs.Books.{Held, held-pass, Ended, ended-pass}
 
 -- the state behind the bytes, and what the books have of it
 pub record Tied (speeds : List ℕ) (ts : List Task) (s : State) (bytes : List ℕ) (actual : DispatcherBook) (plain : Book) (order : Reply) : Type 0 where
@@ -49,11 +51,12 @@ pub record Tied (speeds : List ℕ) (ts : List Task) (s : State) (bytes : List �
   pub clock : actual .clock ≡ s .clock
   pub task : actual .task ≡ s .task
   pub held : Held (timing speeds ts) (s .clock) (workOf s) (actual .closed)
+  pub ended : Ended (timing speeds ts) (s .clock) (workOf s) (actual .closed)
   pub plainly : plain ≡ canonicalAt (timing speeds ts) (s .clock)
   pub queue :
       canonicalAt (timing speeds ts) (s .clock)
       ≡ record { clock = s .clock; pending = queueOf (timing speeds ts) (s .clock) (remainingOf s) (timing speeds ts .count) }
-  pub hold : holdIn order ≡ holdOf speeds (timing speeds ts) s
+  pub order-is : order ≡ orderWith s (holdOf speeds (timing speeds ts) s)
 
 -- some state is tied to the bytes and the books
 pub record Kept (speeds : List ℕ) (ts : List Task) (bytes : List ℕ) (actual : DispatcherBook) (plain : Book) (order : Reply) : Type 0 where
@@ -89,7 +92,7 @@ module _ (speeds : List ℕ) (rising : Rising speeds) (few : length speeds ≤ 2
     stored-sound =
         both-true (ap laidOut stored ∙ laid-out s storable) (ap (stateSound speeds) decoded ∙ fine-sound speeds ts s good fine)
 
-    stored-length : length bytes ≡ 200
+    pub stored-length : length bytes ≡ 200
     stored-length = ap length stored ∙ length-encode s (storable .count)
 
     -- so the questions are those of the state, and so is what follows
@@ -125,6 +128,18 @@ module _ (speeds : List ℕ) (rising : Rising speeds) (few : length speeds ≤ 2
     quiet : Quiet τ (τ .count) (s .clock) d
     quiet = next-quiet τ (good .count-low) (fits .periods) (s .clock) d (ok .within)
 
+    -- what is closed after it
+    abbrev closing : List Job → List Job
+    closing closed = pick finished (latest τ (s .clock) (s .task) ∷ closed) closed
+
+    -- a job that finished is that of a task
+    task-below : finished ≡ true → s .task < τ .count
+    task-below f =
+        elim (ordered speeds ts s fine) [
+          | idles t l z ↦ absurd (true≢false (sym (ok .runs f) ∙ ap not (eq-eqb (s .task) 255 t)))
+          | runs r ↦ r .below
+        ]
+
     -- the running job's work does not run out before it finishes
     working : (i : ℕ) → i < τ .count → 0 < workOf s i → ((i ≡ s .task) × (finished ≡ true) → ⊥) → 0 < workedOf speeds s d finished i
     working i h w ne =
@@ -158,13 +173,24 @@ module _ (speeds : List ℕ) (rising : Rising speeds) (few : length speeds ≤ 2
       worst-some i h =
           subst (λ (l : List Task). 0 < getD l i noTask .worst) (sym (fine .entries .plan)) (range-at ts i (good .tasks .ranges) h .worst-low)
 
-      next-held : (closed : List Job) → Held τ (s .clock) (workOf s) closed → Held τ (s .clock + d) (workOf next) (pick finished (latest τ (s .clock) (s .task) ∷ closed) closed)
+      next-held : (closed : List Job) → Held τ (s .clock) (workOf s) closed → Held τ (s .clock + d) (workOf next) (closing closed)
       next-held closed held =
           held-pass τ (s .clock) d (workOf s) (workOf next) closed finished (s .task) (ok .some) (fits .periods) quiet
           (λ i h z. subst (λ (x : ℕ). 0 < x) (sym (new-work speeds τ s d finished i h z)) (worst-some i h))
           (λ i h z w ne. subst (λ (x : ℕ). 0 < x) (sym (old-work speeds τ s d finished i h z)) (working i h w ne))
           never
           held
+
+      next-ended : (closed : List Job) → Ended τ (s .clock) (workOf s) closed → Ended τ (s .clock + d) (workOf next) (closing closed)
+      next-ended closed ended =
+          ended-pass τ (s .clock) d (workOf s) (workOf next) closed finished (s .task) (ok .some) (fits .periods) quiet
+          task-below
+          (λ f z. old-work speeds τ s d finished (s .task) (task-below f) z ∙ worked-mine speeds s d finished ∙ ap (λ (b : Bool). pick {A = ℕ} b 0 left) f)
+          (λ i h z w. omega (arith, old-work speeds τ s d finished i h z, worked-less speeds s d finished i))
+          ended
+        where
+          left : ℕ
+          left = workOf s (s .task) - d * speedOf speeds (s .level)
 
       next-queue : canonicalAt τ (s .clock + d) ≡ record { clock = s .clock + d; pending = queueOf τ (s .clock + d) (remainingOf next) (τ .count) }
       next-queue =
@@ -196,7 +222,7 @@ module _ (speeds : List ℕ) (rising : Rising speeds) (few : length speeds ≤ 2
           let new : Storable next = fine-storable speeds ts next good rising few fine-next in
           let clock : next .clock ≡ s .clock + d = passed-clock speeds τ s d finished in
           let recorded : booked τ a pass order ≡ moved τ a pass (next .task) = order-recorded τ pass next hold a in
-          let closed : booked τ a pass order .closed ≡ pick finished (latest τ (s .clock) (s .task) ∷ a .closed) (a .closed) =
+          let closed : booked τ a pass order .closed ≡ closing (a .closed) =
           ap (λ (r : DispatcherBook). r .closed) recorded
           ∙ ap₂ (λ (x y : ℕ). pick finished (latest τ x y ∷ a .closed) (a .closed)) (t .clock) (t .task) in
           let size : length bytes ≤ length (encode next) =
@@ -209,6 +235,9 @@ module _ (speeds : List ℕ) (rising : Rising speeds) (few : length speeds ≤ 2
             held =
                 subst (λ (c : ℕ). Held τ c (workOf next) (booked τ a pass order .closed)) (sym clock)
                 (subst (λ (l : List Job). Held τ (s .clock + d) (workOf next) l) (sym closed) (next-held (a .closed) (t .held)));
+            ended =
+                subst (λ (c : ℕ). Ended τ c (workOf next) (booked τ a pass order .closed)) (sym clock)
+                (subst (λ (l : List Job). Ended τ (s .clock + d) (workOf next) l) (sym closed) (next-ended (a .closed) (t .ended)));
             plainly =
                 order-ran τ pass next hold b
                 ∙ ap (after τ d) (t .plainly)
@@ -216,7 +245,7 @@ module _ (speeds : List ℕ) (rising : Rising speeds) (few : length speeds ≤ 2
                 ∙ ap (canonicalAt τ) (sym clock);
             queue =
                 subst (λ (c : ℕ). canonicalAt τ c ≡ record { clock = c; pending = queueOf τ c (remainingOf next) (τ .count) }) (sym clock) next-queue;
-            hold = ap holdIn (order-stands next hold last) ∙ order-held next hold ∙ pass-hold speeds rising ts good s fine d finished ok;
+            order-is = order-stands next hold last ∙ ap (orderWith next) (pass-hold speeds rising ts good s fine d finished ok);
           }
 
   -- every pass keeps a tie, accepted or refused

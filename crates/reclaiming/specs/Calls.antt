@@ -6,7 +6,7 @@ use mathlib.Core.Bool.{Bool}
 use mathlib.Core.List.{List, [], _∷_, _++_}
 use lib.ListN.{length}
 use Rattle.arith.specs.Digits.{digits}
-use Rattle.arith.specs.Asking.{firstNo}
+use Rattle.arith.specs.Asking.{Answer, values, refusal, isAccepted, firstNo}
 use Rattle.plan.specs.declared.Written.{Written}
 use Rattle.plan.specs.Blocks.{tasksIn}
 use Rattle.plan.specs.Answers.{writtenBy, storedBy}
@@ -23,11 +23,15 @@ abbrev pub repliedBy : ℕ → Reply → Reply
 repliedBy zero order = order
 repliedBy (suc n) order = reply.Refused (suc n)
 
--- 01's number of each case of a reply, 0 where it is an order
-abbrev pub refusalOf : Reply → ℕ
-refusalOf (reply.Run task level hold) = 0
-refusalOf (reply.Idle hold) = 0
-refusalOf (reply.Refused n) = n
+-- 01's number and values of each case: "A run order names the most urgent open job, a level and a hold"; an idle one has a hold
+abbrev pub replyAnswer : Reply → Answer
+replyAnswer (reply.Run task level hold) = values (task ∷ level ∷ hold ∷ [])
+replyAnswer (reply.Idle hold) = values (hold ∷ [])
+replyAnswer (reply.Refused n) = refusal n
+
+-- 01: "An accepted pass is one answered with an order."
+abbrev pub isOrder : Reply → Bool
+isOrder r = isAccepted (replyAnswer r)
 
 -- starting
 abbrev pub startNumber : List ℕ → List ℕ → ℕ → ℕ

@@ -7,20 +7,18 @@ use lib.ListN.{length, take, replicate}
 use Rattle.arith.specs.Choice.{every}
 use Rattle.arith.specs.Need.{need}
 use Rattle.arith.specs.Divisor.{gcd, lcm}
+use Rattle.arith.specs.Asking.{Answer, values, refusal}
 use Rattle.plan.specs.declared.Task.{Task}
 use Rattle.plan.specs.declared.Judged.{Judged}
-use Rattle.plan.specs.declared.Verdict.{Verdict}
 use Rattle.plan.specs.declared.Verdict.the-variants as verdict
-use Rattle.plan.specs.declared.Written.{Written}
-use Rattle.plan.specs.declared.Written.the-variants as written
 use Rattle.plan.specs.Levels.{baseSpeeds, speedOf, hyperperiod, demandWithin, nominal}
 use Rattle.plan.specs.Blocks.{planBlock, planOf}
-use Rattle.plan.specs.Answers.{judgedList, readBlock}
+use Rattle.plan.specs.Answers.{verdictAnswer, writtenAnswer, judgedList, readBlock}
 use Rattle.schedule.specs.PlainSchedule.{Timing, moreUrgent}
 use Rattle.reclaiming.specs.declared.Reply.{Reply}
 use Rattle.reclaiming.specs.declared.Reply.the-variants as reply
 use Rattle.reclaiming.specs.StateBlock.{sameBytes, timing}
-use Rattle.reclaiming.specs.Calls.{startReply, passReply, showReply, showBuffer}
+use Rattle.reclaiming.specs.Calls.{replyAnswer, startReply, passReply, showReply, showBuffer}
 use Rattle.reclaiming.specs.Run.{Pass, Answered, DispatcherBook, trace, bytesAfter, startedBytes, openedBook, booked}
 
 abbrev task : ℕ → ℕ → Task
@@ -85,31 +83,22 @@ listedLines =
     ∷ []
 
 -- an answer as numbers: a refusal is its number alone; else 0, then the answer's values
-abbrev pub verdictValues : Verdict → List ℕ
-verdictValues (verdict.Admitted level span) = 0 ∷ level ∷ span ∷ []
-verdictValues (verdict.Refused n) = n ∷ []
-
-abbrev pub replyValues : Reply → List ℕ
-replyValues (reply.Run task level hold) = 0 ∷ task ∷ level ∷ hold ∷ []
-replyValues (reply.Idle hold) = 0 ∷ hold ∷ []
-replyValues (reply.Refused n) = n ∷ []
-
-abbrev pub writtenValues : Written → List ℕ
-writtenValues (written.Bytes n) = 0 ∷ n ∷ []
-writtenValues (written.Refused n) = n ∷ []
+abbrev pub told : Answer → List ℕ
+told (values vs) = 0 ∷ vs
+told (refusal n) = n ∷ []
 
 -- what reading a block, judging a list, passing and showing give; showing with what it leaves in the lent buffer
 abbrev readValues : List ℕ → List ℕ
-readValues block = verdictValues (readBlock baseSpeeds block .verdict)
+readValues block = told (verdictAnswer (readBlock baseSpeeds block .verdict))
 
 abbrev judgedValues : List Task → List ℕ
-judgedValues ts = verdictValues (judgedList baseSpeeds (length ts) ts .verdict)
+judgedValues ts = told (verdictAnswer (judgedList baseSpeeds (length ts) ts .verdict))
 
 abbrev passValues : List ℕ → ℕ → Bool → List ℕ
-passValues state d finished = replyValues (passReply baseSpeeds state d finished)
+passValues state d finished = told (replyAnswer (passReply baseSpeeds state d finished))
 
 abbrev shownValues : List ℕ → List ℕ → List ℕ
-shownValues state buffer = writtenValues (showReply baseSpeeds state (length buffer)) ++ showBuffer baseSpeeds state buffer
+shownValues state buffer = told (writtenAnswer (showReply baseSpeeds state (length buffer))) ++ showBuffer baseSpeeds state buffer
 
 -- a case: what the definitions give, and what 01 says that it is
 pub record Case : Type 0 where
@@ -152,6 +141,8 @@ starred =
     ∷ case (passValues benchStarted 11 true) (12 ∷ [])
     -- "Queue at tick 1, hex 00 00 03 01 00 04 02 00 06;": 9 bytes written
     ∷ case (shownValues (benchAfter 1) (replicate 9 255)) (0 ∷ 9 ∷ 0x00 ∷ 0x00 ∷ 0x03 ∷ 0x01 ∷ 0x00 ∷ 0x04 ∷ 0x02 ∷ 0x00 ∷ 0x06 ∷ [])
+    -- "into 8 bytes: 9.": and the 8 bytes stay as they were
+    ∷ case (shownValues (benchAfter 1) (replicate 8 255)) (9 ∷ replicate 8 255)
     -- "At tick 20: (2, 2), (0, 4), (1, 4)."
     ∷ case (shownValues (benchAfter 6) (replicate 9 255)) (0 ∷ 9 ∷ 2 ∷ 0 ∷ 2 ∷ 0 ∷ 0 ∷ 4 ∷ 1 ∷ 0 ∷ 4 ∷ [])
     ∷ []

@@ -1,19 +1,22 @@
--- A whole list of passes played on lent blocks: passes and replies as numbers, and demand 3 said of those numbers.
+-- A whole list of passes played on lent blocks: passes and replies as numbers, and the promises said of those numbers.
 -- Assumes nothing.
 use Prim.Native.Nat.{ℕ, zero, suc, _/_, _%_}
 use mathlib.Core.Path.{_≡_}
+use mathlib.Core.Bool.{true}
 use mathlib.Core.List.{List, [], _∷_, _++_, map}
 use lib.Dec.{eqb}
 use lib.ListN.{length, take, drop}
 use Rattle.arith.specs.Choice.{pick}
+use Rattle.plan.specs.declared.Written.{Written}
+use Rattle.plan.specs.declared.Written.the-variants as written
 use Rattle.plan.specs.Blocks.{tasksIn}
-use Rattle.schedule.specs.PlainSchedule.{opened}
+use Rattle.schedule.specs.PlainSchedule.{Book, opened}
 use Rattle.reclaiming.specs.declared.Reply.{Reply}
 use Rattle.reclaiming.specs.declared.Reply.the-variants as reply
 use Rattle.reclaiming.specs.StateBlock.{timing}
-use Rattle.reclaiming.specs.Calls.{refusalOf, startNumber}
-use Rattle.reclaiming.specs.Run.{Pass, Answered, trace, bytesAfter, startedBytes, openedBook, bookedAll, ranAll}
-use Rattle.reclaiming.specs.Promises.{OnTime}
+use Rattle.reclaiming.specs.Calls.{isOrder, startNumber, showReply, showBuffer}
+use Rattle.reclaiming.specs.Run.{Pass, Answered, DispatcherBook, trace, bytesAfter, startedBytes, openedBook, bookedAll, ranAll}
+use Rattle.reclaiming.specs.Promises.{OnTime, NamesMostUrgent, Shows, lastOrder}
 use Rattle.reclaiming.specs.Numbers.{replyNumber}
 
 -- a pass as a number: d in its lower 32 bits, and the next bit says whether the job finished
@@ -35,8 +38,8 @@ playedPasses passes room = map passFrom (take room passes)
 abbrev pub replyNumbers : List Answered → List ℕ
 replyNumbers answers = map (λ (a : Answered). replyNumber (a .reply)) answers
 
--- what is left in a lent block: the run's where the start was accepted, else what was found
-abbrev pub leftBy : ℕ → List ℕ → List ℕ → List ℕ
+-- what is answered, or left in a lent block: the run's where the start was accepted, else what was found
+abbrev pub leftBy {ℓ} : {A : Type ℓ} → ℕ → A → A → A
 leftBy zero done found = done
 leftBy (suc n) done found = found
 
@@ -58,10 +61,42 @@ answersFrom [] replies = []
 answersFrom (p ∷ ps) [] = []
 answersFrom (p ∷ ps) (x ∷ xs) = record { pass = p; reply = replyFrom x } ∷ answersFrom ps xs
 
--- demand 3, of the number that was returned and of those in the lent block
-abbrev pub PlayedOnTime : List ℕ → List ℕ → ℕ → List Pass → List ℕ → Type 0
-PlayedOnTime speeds block first passes replies =
-    refusalOf (replyFrom first) ≡ 0 →
-    OnTime (timing speeds (tasksIn block))
-    (bookedAll (timing speeds (tasksIn block)) (openedBook (replyFrom first)) (answersFrom passes replies))
-    (ranAll (timing speeds (tasksIn block)) (opened (timing speeds (tasksIn block))) (answersFrom passes replies))
+-- what showing the queue after the passes answers, no bytes where the start was refused and nothing is shown; and what it leaves
+abbrev pub playedShown : List ℕ → List ℕ → List ℕ → List Pass → ℕ → Written
+playedShown speeds block state passes room =
+    leftBy (startNumber speeds block (length state))
+    (showReply speeds (bytesAfter speeds (startedBytes speeds block state) passes) room)
+    (written.Bytes 0)
+
+abbrev pub playedQueue : List ℕ → List ℕ → List ℕ → List Pass → List ℕ → List ℕ
+playedQueue speeds block state passes lent =
+    leftBy (startNumber speeds block (length state))
+    (showBuffer speeds (bytesAfter speeds (startedBytes speeds block state) passes) lent)
+    lent
+
+-- the promises, said of the number that was returned and of those that were left in the lent block
+module _ (speeds block : List ℕ) (first : ℕ) (passes : List Pass) (replies : List ℕ) where
+  abbrev answersTo : ℕ → List Answered
+  answersTo n = take n (answersFrom passes replies)
+
+  -- the two books after the first n passes
+  abbrev pub actualTo : ℕ → DispatcherBook
+  actualTo n = bookedAll (timing speeds (tasksIn block)) (openedBook (replyFrom first)) (answersTo n)
+
+  abbrev pub plainTo : ℕ → Book
+  plainTo n = ranAll (timing speeds (tasksIn block)) (opened (timing speeds (tasksIn block))) (answersTo n)
+
+  -- demand 3 along the way: after the first n passes, for every n, so after the last one too
+  abbrev pub PlayedOnTime : Type 0
+  PlayedOnTime = isOrder (replyFrom first) ≡ true → (n : ℕ) → OnTime (timing speeds (tasksIn block)) (actualTo n) (plainTo n)
+
+  -- the order that stands after them names the most urgent open job
+  abbrev pub PlayedMostUrgent : Type 0
+  PlayedMostUrgent =
+      isOrder (replyFrom first) ≡ true →
+      (n : ℕ) →
+      NamesMostUrgent (timing speeds (tasksIn block)) (actualTo n) (lastOrder (replyFrom first) (answersTo n))
+
+  -- demand 2: the queue shown after all passes is that of the plain schedule's book
+  abbrev pub PlayedQueueShown : List ℕ → Written → List ℕ → Type 0
+  PlayedQueueShown lent answer left = isOrder (replyFrom first) ≡ true → Shows (plainTo (length passes) .pending) lent answer left

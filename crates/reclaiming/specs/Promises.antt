@@ -4,36 +4,61 @@ use Prim.Native.Nat.{ℕ, _+_, _≤_}
 use mathlib.Core.Path.{_≡_}
 use mathlib.Core.Bool.{true}
 use mathlib.Core.List.{List, [], _∷_}
+use mathlib.Core.Logic.{_⊎_}
 use lib.Dec.{eqb}
 use lib.ListN.{length}
 use Rattle.arith.specs.Choice.{both}
+use Rattle.plan.specs.declared.Written.{Written}
 use Rattle.plan.specs.Blocks.{tasksIn}
-use Rattle.schedule.specs.PlainSchedule.{Timing, Job, Book, deadline, opened}
+use Rattle.plan.specs.Answers.{roomNumber, writtenBy, storedBy}
+use Rattle.schedule.specs.PlainSchedule.{Timing, Job, Pending, Book, deadline, moreUrgent, latest, opened}
 use Rattle.schedule.specs.Feasibility.{In}
 use Rattle.reclaiming.specs.declared.Reply.{Reply}
 use Rattle.reclaiming.specs.declared.Reply.the-variants as reply
 use Rattle.reclaiming.specs.StateBlock.{decode, timing}
 use Rattle.reclaiming.specs.Questions.{sound, largestClock, running, runningTime}
-use Rattle.reclaiming.specs.Calls.{refusalOf, startReply, passReply, queueBytes, shownBytes}
+use Rattle.reclaiming.specs.Calls.{isOrder, startReply, passReply, queueBytes, showReply, showBuffer}
 use Rattle.reclaiming.specs.Run.{Pass, Answered, DispatcherBook, Arrived, trace, bytesAfter, startedBytes, openedBook, bookedAll, ranAll}
 
 -- a job is open in the plain schedule's book
 abbrev pub OpenPlain : Book → Job → Type 0
 OpenPlain b j = (left : ℕ) × In (record { job = j; remaining = left }) (b .pending)
 
--- demand 3, of the two books: what is open or closed in them, and their clocks
+-- a job is open in the dispatcher's book "from its arrival until the book closes it"
+pub record OpenActual (τ : Timing) (b : DispatcherBook) (j : Job) : Type 0 where
+  pub arrived : Arrived τ (b .clock) j
+  pub unclosed : In j (b .closed) → ⊥
+
+-- demand 3, of the two books: what is open or closed in them, and what they share
 pub record OnTime (τ : Timing) (actual : DispatcherBook) (plain : Book) : Type 0 where
-  -- the two share the clock
+  -- "The two share the plan, the clock and every arrival": what is open in the plain schedule's book has arrived by the clock
   pub clocks : actual .clock ≡ plain .clock
+  pub arrivals : (j : Job) → OpenPlain plain j → Arrived τ (actual .clock) j
   -- "every job still open in the dispatcher is open in the plain schedule of that plan too"
-  pub ahead : (j : Job) → Arrived τ (actual .clock) j → (In j (actual .closed) → ⊥) → OpenPlain plain j
+  pub ahead : (j : Job) → OpenActual τ actual j → OpenPlain plain j
   -- "and in both every job whose deadline has come is closed"
   pub actual-closed : (j : Job) → Arrived τ (actual .clock) j → deadline τ j ≤ actual .clock → In j (actual .closed)
   pub plain-closed : (j : Job) → Arrived τ (plain .clock) j → deadline τ j ≤ plain .clock → OpenPlain plain j → ⊥
 
+-- 01: "A run order names the most urgent open job"
+pub record MostUrgent (τ : Timing) (b : DispatcherBook) (j : Job) : Type 0 where
+  pub is-open : OpenActual τ b j
+  pub most-urgent : (k : Job) → OpenActual τ b k → (k ≡ j) ⊎ (moreUrgent τ j k ≡ true)
+
+-- an order names the most urgent job that is open in the dispatcher's book, and is to stay idle exactly if none is
+abbrev pub NamesMostUrgent : Timing → DispatcherBook → Reply → Type 0
+NamesMostUrgent τ b (reply.Run task level hold) = MostUrgent τ b (latest τ (b .clock) task)
+NamesMostUrgent τ b (reply.Idle hold) = (j : Job) → OpenActual τ b j → ⊥
+NamesMostUrgent τ b (reply.Refused n) = ⊥
+
 -- "on an accepted plan": starting answered with an order
 abbrev pub Started : List ℕ → List ℕ → List ℕ → Type 0
-Started speeds block buffer = refusalOf (startReply speeds block (length buffer)) ≡ 0
+Started speeds block buffer = isOrder (startReply speeds block (length buffer)) ≡ true
+
+-- a queue is shown in a lent buffer: 9 if it is not long enough, else the count of the queue's bytes, and these at its front
+pub record Shows (queue : List Pending) (lent : List ℕ) (answer : Written) (left : List ℕ) : Type 0 where
+  pub answers : answer ≡ writtenBy (roomNumber (length (queueBytes queue)) (length lent)) (queueBytes queue)
+  pub leaves : left ≡ storedBy (roomNumber (length (queueBytes queue)) (length lent)) (queueBytes queue) lent
 
 -- a run: a start on a lent buffer, then any list of passes
 module _ (speeds block buffer : List ℕ) (passes : List Pass) where
@@ -57,11 +82,14 @@ Demand3 speeds =
     OnTime (timing speeds (tasksIn block)) (actualBook speeds block buffer passes) (plainBook speeds block buffer passes)
 
 -- Demand 2: "The queue shown is the ready queue of the plain schedule at that tick, from any accepted start on."
+-- So says what showing answers and leaves in any lent buffer.
 abbrev pub QueueShown : List ℕ → Type 0
 QueueShown speeds =
-    (block buffer : List ℕ) (passes : List Pass) →
+    (block buffer : List ℕ) (passes : List Pass) (lent : List ℕ) →
     Started speeds block buffer →
-    shownBytes speeds (stateAfter speeds block buffer passes) ≡ queueBytes (plainBook speeds block buffer passes .pending)
+    Shows (plainBook speeds block buffer passes .pending) lent
+    (showReply speeds (stateAfter speeds block buffer passes) (length lent))
+    (showBuffer speeds (stateAfter speeds block buffer passes) lent)
 
 -- A started state is sound, and so is every state that a pass leaves: in a run refusal 10 never comes.
 abbrev pub StaysSound : List ℕ → Type 0
@@ -86,22 +114,30 @@ abbrev pub lastOrder : Reply → List Answered → Reply
 lastOrder last [] = last
 lastOrder last (a ∷ rest) = lastOrder (orderAfter last (a .reply)) rest
 
+-- After any run the order that stands names the most urgent open job.
+abbrev pub RunsMostUrgent : List ℕ → Type 0
+RunsMostUrgent speeds =
+    (block buffer : List ℕ) (passes : List Pass) →
+    Started speeds block buffer →
+    NamesMostUrgent (timing speeds (tasksIn block)) (actualBook speeds block buffer passes)
+    (lastOrder (startReply speeds block (length buffer)) (replies speeds block buffer passes))
+
 -- No dead end: after any run, the pass that the order itself suggests (its hold; finished exactly if that is the whole time needed) is
 -- accepted, and so is every earlier finish, as long as the clock stays within the largest.
 pub record Open (speeds bytes : List ℕ) (order : Reply) (clock : ℕ) : Type 0 where
   pub suggested :
       clock + holdIn order ≤ largestClock →
-      refusalOf
+      isOrder
       (passReply speeds bytes (holdIn order)
       (both (running (decode bytes)) (eqb (holdIn order) (runningTime speeds (decode bytes)))))
-      ≡ 0
+      ≡ true
   pub early :
       (d : ℕ) →
       1 ≤ d →
       d ≤ holdIn order →
       clock + d ≤ largestClock →
       running (decode bytes) ≡ true →
-      refusalOf (passReply speeds bytes d true) ≡ 0
+      isOrder (passReply speeds bytes d true) ≡ true
 
 abbrev pub NoDeadEnd : List ℕ → Type 0
 NoDeadEnd speeds =
