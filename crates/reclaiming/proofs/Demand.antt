@@ -214,11 +214,18 @@ module _ (speeds : List ℕ) (rising : Rising speeds) (few : length speeds ≤ 2
           (canonical-good (timing speeds ts) (fits-run .allotments) (s .clock) .entries) (record { job = j; remaining = o.0 }) (plain-in j o) in
           record { task = entry .task; arrival = entry .arrived; multiple = entry .multiple }
 
+      -- an open job of the dispatcher's book is its task's latest, and has work left
+      open-latest : (j : Job) → OpenActual (timing speeds ts) a j → OpenLatest (timing speeds ts) (s .clock) (workOf s) j
+      open-latest j o = ⊎-elim (λ m. absurd (o .unclosed m)) (λ e. e) (t .held j (here j (o .arrived)))
+
+      stays-open : (j : Job) → OpenActual (timing speeds ts) a j → OpenPlain b j
+      stays-open j o = opened-plain j (o .arrived .task) (open-latest j o)
+
       on-time : OnTime (timing speeds ts) a b
       on-time = record {
         clocks = t .clock ∙ sym (ap (λ (k : Book). k .clock) plain-is);
         arrivals = λ j o. subst (λ (c : ℕ). Arrived (timing speeds ts) c j) (sym (t .clock)) (plain-arrived j o);
-        ahead = λ j o. ⊎-elim (λ m. absurd (o .unclosed m)) (opened-plain j (o .arrived .task)) (t .held j (here j (o .arrived)));
+        ahead = stays-open;
         actual-closed = λ j r l. ⊎-elim (λ m. m) (λ e. absurd (past j (r .task) e.0 l)) (t .held j (here j r));
         plain-closed = λ j r l o.
             let late : s .clock < deadline (timing speeds ts) j =
@@ -230,7 +237,7 @@ module _ (speeds : List ℕ) (rising : Rising speeds) (few : length speeds ≤ 2
       is-state : decode bytes ≡ s
       is-state = decoded speeds rising few ts good (t .stored) (t .fine)
 
-      -- what is open in the dispatcher's book, and what is not
+      -- a task's latest job that has work left is open there
       is-open : (i : ℕ) → i < length ts → 0 < workOf s i → OpenActual (timing speeds ts) a (latest (timing speeds ts) (a .clock) i)
       is-open i h w =
           let now : latest (timing speeds ts) (a .clock) i ≡ latest (timing speeds ts) (s .clock) i = ap (λ (c : ℕ). latest (timing speeds ts) c i) (t .clock) in
@@ -238,9 +245,6 @@ module _ (speeds : List ℕ) (rising : Rising speeds) (few : length speeds ≤ 2
             arrived = latest-arrived (timing speeds ts) (a .clock) i h;
             unclosed = λ m. omega (arith, t .ended .done (latest (timing speeds ts) (a .clock) i) m now);
           }
-
-      open-latest : (j : Job) → OpenActual (timing speeds ts) a j → OpenLatest (timing speeds ts) (s .clock) (workOf s) j
-      open-latest j o = ⊎-elim (λ m. absurd (o .unclosed m)) (λ e. e) (t .held j (here j (o .arrived)))
 
       names-most-urgent : NamesMostUrgent (timing speeds ts) a last
       names-most-urgent =

@@ -28,7 +28,7 @@ use Rattle.schedule.proofs.Drain.{latest-kept}
 use Rattle.reclaiming.specs.declared.Entry.{Entry}
 use Rattle.reclaiming.specs.StateBlock.{State, noEntry, taskOf, workOf, remainingOf, planIn, timing}
 use Rattle.reclaiming.specs.Orders.{nextArrival, allowance, openJobs, lowestLevel, holdOf, withOrder, orderFor, chooseOrder}
-use Rattle.reclaiming.specs.Passes.{newEntry, startState, drainedOf, workedOf, arrivesAt, entryAfter, movedState, choosesAnew, passedState, passedHold}
+use Rattle.reclaiming.specs.Passes.{newEntry, startState, drainedOf, workedOf, arrivesAt, agedEntry, entryAfter, movedState, choosesAnew, passedState, passedHold}
 use Rattle.reclaiming.specs.Questions.{largestClock, orderSound, running, runningTime}
 use Rattle.reclaiming.proofs.Fine.{nominalSpeed, FineEntries, Fine, Accepted}
 use Rattle.reclaiming.proofs.OrderFacts.{Runs, Ordered, idles, runs, facts-order, head-below}
@@ -36,7 +36,6 @@ use Rattle.reclaiming.proofs.NextArrival.{next-positive, next-quiet, no
 use Rattle.reclaiming.proofs.Allowances.{allowed, allowance-is}
 use Rattle.reclaiming.proofs.Worked.{worked-mine, worked-less, worked-was, worked-open, drained-less, drained-allowance}
 use Rattle.reclaiming.proofs.Worked.{runs-running, ordered, time-positive, time-after, stays-ahead}
-use Rattle.reclaiming.proofs.PassedStates.{aged}
 
 -- the order that is chosen where every task is ahead
 module _ (speeds : List ℕ) (ts : List Task) (admitted : nominal speeds ts < length speeds) (s : State)
@@ -142,7 +141,7 @@ module _ (speeds : List ℕ) (rising : Rising speeds) (ts : List Task) (plan : F
     entry = entryAfter speeds τ s d finished
 
     abbrev kept : ℕ → Entry
-    kept = aged speeds τ s d finished
+    kept = agedEntry speeds τ s d finished
 
     -- each entry is a new one or that
     after-is : (P : Entry → Type 0) (i : ℕ) → P (newEntry τ ts i) → P (kept i) → P (entry i)

@@ -16,7 +16,7 @@ use Rattle.schedule.specs.PlainSchedule.{Timing, Pending}
 use Rattle.reclaiming.specs.declared.Entry.{Entry}
 use Rattle.reclaiming.specs.StateBlock.{State, noEntry, workOf, remainingOf, planIn}
 use Rattle.reclaiming.specs.Orders.{chooseOrder, orderFor, openJobs}
-use Rattle.reclaiming.specs.Passes.{passedState, movedState, choosesAnew, newEntry, entryAfter, workedOf, drainedOf}
+use Rattle.reclaiming.specs.Passes.{passedState, movedState, choosesAnew, newEntry, agedEntry, entryAfter, workedOf, drainedOf}
 
 -- choosing an order leaves the clock and the entries
 chosen-clock : (speeds : List ℕ) (τ : Timing) (s : State) (q : List Pending) → orderFor speeds τ s q .clock ≡ s .clock
@@ -51,10 +51,6 @@ module _ (speeds : List ℕ) (τ : Timing) where
         elim (tested (choosesAnew τ s d finished)) as (λ b _. pick b (chooseOrder speeds τ moved) moved .entries ≡ listTo (τ .count) (entryAfter speeds τ s d finished))
         [ passed ↦ choose-entries moved | failed ↦ refl ]
 
-    -- the entry of a task that has no arrival
-    abbrev pub aged : ℕ → Entry
-    aged i = record { period = τ .period i; worst = getD (s .entries) i noEntry .worst; work = workedOf speeds s d finished i; remaining = drainedOf τ s d i }
-
     module _ (i : ℕ) (h : i < τ .count) where
       pub passed-entry : getD (next .entries) i noEntry ≡ entryAfter speeds τ s d finished i
       passed-entry =
@@ -66,7 +62,7 @@ module _ (speeds : List ℕ) (τ : Timing) where
       new-work z =
           ap (λ (e : Entry). e .work) passed-entry
           ∙ elim (testEq ((s .clock + d) % τ .period i) 0)
-          as (λ b _. pick {A = Entry} b (newEntry τ (planIn s) i) (aged i) .work ≡ getD (planIn s) i noTask .worst)
+          as (λ b _. pick {A = Entry} b (newEntry τ (planIn s) i) (agedEntry speeds τ s d finished i) .work ≡ getD (planIn s) i noTask .worst)
           [ eq-yes e ↦ refl | eq-not e ↦ absurd (e z) ]
 
       -- elsewhere it is what the ticks left of the old one
@@ -74,12 +70,12 @@ module _ (speeds : List ℕ) (τ : Timing) where
       old-work z =
           ap (λ (e : Entry). e .work) passed-entry
           ∙ elim (testEq ((s .clock + d) % τ .period i) 0)
-          as (λ b _. pick {A = Entry} b (newEntry τ (planIn s) i) (aged i) .work ≡ workedOf speeds s d finished i)
+          as (λ b _. pick {A = Entry} b (newEntry τ (planIn s) i) (agedEntry speeds τ s d finished i) .work ≡ workedOf speeds s d finished i)
           [ eq-yes e ↦ absurd (z e) | eq-not e ↦ refl ]
 
       pub passed-remaining : remainingOf next i ≡ pick (eqb ((s .clock + d) % τ .period i) 0) (τ .allotment i) (drainedOf τ s d i)
       passed-remaining =
           ap (λ (e : Entry). e .remaining) passed-entry
           ∙ elim (tested (eqb ((s .clock + d) % τ .period i) 0))
-          as (λ b _. pick {A = Entry} b (newEntry τ (planIn s) i) (aged i) .remaining ≡ pick b (τ .allotment i) (drainedOf τ s d i))
+          as (λ b _. pick {A = Entry} b (newEntry τ (planIn s) i) (agedEntry speeds τ s d finished i) .remaining ≡ pick b (τ .allotment i) (drainedOf τ s d i))
           [ passed ↦ refl | failed ↦ refl ]

@@ -39,19 +39,22 @@ abbrev pub workedOf : List ℕ → State → ℕ → Bool → ℕ → ℕ
 workedOf speeds s d finished i =
     pick (eqb i (s .task)) (pick finished 0 (workOf s i - d * speedOf speeds (s .level))) (workOf s i)
 
+-- so the ticks leave of task i's entry
+abbrev pub agedEntry : List ℕ → Timing → State → ℕ → Bool → ℕ → Entry
+agedEntry speeds τ s d finished i = record {
+  period = τ .period i;
+  worst = getD (s .entries) i noEntry .worst;
+  work = workedOf speeds s d finished i;
+  remaining = drainedOf τ s d i;
+}
+
 -- "the clock moves; tasks whose period divides the clock get a new job with full worst case and allotment, replacing what stood there"
 abbrev pub arrivesAt : Timing → ℕ → ℕ → Bool
 arrivesAt τ clock i = eqb (clock % τ .period i) 0
 
 abbrev pub entryAfter : List ℕ → Timing → State → ℕ → Bool → ℕ → Entry
 entryAfter speeds τ s d finished i =
-    pick (arrivesAt τ (s .clock + d) i) (newEntry τ (planIn s) i)
-    (record {
-      period = τ .period i;
-      worst = getD (s .entries) i noEntry .worst;
-      work = workedOf speeds s d finished i;
-      remaining = drainedOf τ s d i;
-    })
+    pick (arrivesAt τ (s .clock + d) i) (newEntry τ (planIn s) i) (agedEntry speeds τ s d finished i)
 
 abbrev pub movedState : List ℕ → Timing → State → ℕ → Bool → State
 movedState speeds τ s d finished = record {

@@ -19,7 +19,7 @@ use Rattle.reclaiming.specs.declared.Entry.{Entry}
 use Rattle.orders.specs.declared.Choice.{Choice}
 use Rattle.reclaiming.specs.StateBlock.{State, noEntry, taskOf, workOf, remainingOf, planIn, timing, encode, decode}
 use Rattle.reclaiming.specs.Orders.{nextArrival}
-use Rattle.reclaiming.specs.Passes.{newEntry, drainedOf, workedOf, arrivesAt, entryAfter, movedState}
+use Rattle.reclaiming.specs.Passes.{newEntry, drainedOf, workedOf, arrivesAt, agedEntry, entryAfter, movedState}
 use Rattle.arith.specs.Ranges.{listTo}
 use Rattle.reclaiming.specs.Questions.{stateSound}
 use Rattle.state.specs.Code.{timingIn, withJobs, withClock}
@@ -110,20 +110,12 @@ module _ (s : State) (keys : List ℕ) (keyed : Keyed (timing baseSpeeds (planIn
     task-same : taskOf (getD (s .entries) i noEntry) ≡ getD (planIn s) i noTask
     task-same = sym (planIn-at s i)
 
-    abbrev kept : Entry
-    kept = record {
-      period = τ .period i;
-      worst = getD (s .entries) i noEntry .worst;
-      work = workedOf baseSpeeds s d finished i;
-      remaining = drainedOf τ s d i;
-    }
-
     drained-same : drainedBy keys (remainingOf s) count d i ≡ drainedOf τ s d i
     drained-same =
         ap (λ (n : ℕ). drainedBy keys (remainingOf s) n d i) (sym all ∙ sym (length-planIn s))
         ∙ drained-is τ s keys keyed d i within-count
 
-    renewed-is : (b : Bool) → renewedIf b (aged s keys count d finished all i h (drainedOf τ s d i)) ≡ pick b (newEntry τ (planIn s) i) kept
+    renewed-is : (b : Bool) → renewedIf b (aged s keys count d finished all i h (drainedOf τ s d i)) ≡ pick b (newEntry τ (planIn s) i) (agedEntry baseSpeeds τ s d finished i)
     renewed-is true = λ k. record {
       period = task-same k .period;
       worst = task-same k .worst;
