@@ -3,23 +3,28 @@
 use Prim.Native.Nat.{ℕ, _-_, _<_, _≤_}
 use mathlib.Core.Bool.{Bool}
 use mathlib.Core.Path.{_≡_, sym, subst, ap, ap₂, _∙_}
-use mathlib.Core.List.{List, _++_}
+use mathlib.Core.List.{List, _++_, append-assoc}
 use native.Mathlib.Nat.{zero-add}
 use native.Mathlib.Omega.{arith}
 use borrow.Author.Tests.{le-leb, lt-leb}
 use borrow.Rule.Slice.PartAt.{part-to-end}
 use lib.ListN.{length, take, drop, replicate}
-use lib.Seq.{sets-eq, length-sets, length-take-le}
+use lib.Seq.{sets-eq, length-sets, length-take-le, take-all}
 use Rattle.arith.specs.Choice.{pick}
+use Rattle.arith.specs.Asking.{numberOf}
 use Rattle.plan.specs.declared.Judged.{Judged}
 use Rattle.plan.specs.declared.Verdict.{Verdict}
 use Rattle.plan.specs.declared.Verdict.the-variants as verdict
 use Rattle.plan.specs.Levels.{baseSpeeds}
-use Rattle.plan.specs.Answers.{readBlock, refusalOf}
+use Rattle.plan.specs.Blocks.{tasksIn}
+use Rattle.plan.specs.Answers.{verdictAnswer, readBlock}
 use Rattle.reclaiming.specs.declared.Reply.{Reply}
+use Rattle.reclaiming.specs.StateBlock.{timing}
 use Rattle.reclaiming.specs.Calls.{startReply, startBuffer}
-use Rattle.transcript.specs.Listing.{planLine, replyLine, refusedLine, planCut, passLines, startedLines, judgedLines, readLines, listing}
+use Rattle.reclaiming.specs.Run.{trace, startedBytes, openedBook, linesFrom}
+use Rattle.transcript.specs.Listing.{planLine, replyLine, refusedLine, planCut, passesIn, oddLine, linesText, startedLines, judgedLines, readLines, listing}
 use Rattle.lines.specs.Stores.{Put}
+use Rattle.listing.specs.Code.{passesText}
 
 -- a text at the front of a buffer: its length, every byte, and that it lies within
 abbrev pub Front : List ℕ → List ℕ → ℕ → List ℕ → Type 0
@@ -47,8 +52,13 @@ pub started-is :
     (block passes : List ℕ) {r : Reply} {s : List ℕ} →
     r ≡ startReply baseSpeeds block 200 →
     s ≡ startBuffer baseSpeeds block (replicate 200 0) →
-    replyLine 0 r ++ passLines baseSpeeds s 0 passes ≡ startedLines baseSpeeds block passes
-started-is block passes a b = ap₂ (λ (x : Reply) (y : List ℕ). replyLine 0 x ++ passLines baseSpeeds y 0 passes) a b
+    length s ≡ 200 →
+    replyLine 0 r ++ passesText (timing baseSpeeds (tasksIn block)) (openedBook r) s passes ≡ startedLines baseSpeeds block passes
+started-is block passes {r} {s} a b size =
+    let begun : s ≡ startedBytes baseSpeeds block (replicate 200 0) = sym (take-all 200 s (omega arith)) ∙ ap (take 200) b in
+    let lines : Reply → List ℕ → List ℕ = λ x y. linesText (linesFrom (timing baseSpeeds (tasksIn block)) (openedBook x) (trace baseSpeeds y (passesIn passes))) in
+    sym (append-assoc (replyLine 0 r) (lines r s) (oddLine passes))
+    ∙ ap₂ (λ (x : Reply) (y : List ℕ). replyLine 0 x ++ lines x y ++ oddLine passes) a begun
 
 -- the lines of an input that is cut and read
 abbrev linesAt : List ℕ → ℕ → List ℕ
@@ -81,9 +91,9 @@ module _ {input : List ℕ} {cut : ℕ} {j : Judged} (h : Read input cut j) wher
       sym (ap (λ (x : Verdict). judgedLines baseSpeeds (take cut input) x (j .plan .count) (drop cut input)) e) ∙ read-is
 
   pub refused-is :
-      {k n : ℕ} → k ≡ refusalOf (j .verdict) → j .verdict ≡ verdict.Refused n → refusedLine k ≡ listing baseSpeeds input
+      {k n : ℕ} → k ≡ numberOf (verdictAnswer (j .verdict)) → j .verdict ≡ verdict.Refused n → refusedLine k ≡ listing baseSpeeds input
   refused-is {k} {n} a e =
-      ap (λ (x : ℕ). refusedLine x) (a ∙ ap (λ (v : Verdict). refusalOf v) e) ∙ by-verdict (verdict.Refused n) e
+      ap (λ (x : ℕ). refusedLine x) (a ∙ ap (λ (v : Verdict). numberOf (verdictAnswer v)) e) ∙ by-verdict (verdict.Refused n) e
 
   pub admitted-is :
       {level span : ℕ} →

@@ -12,7 +12,8 @@ ghost use mathlib.Core.List.{_++_};
 ghost use Prim.Native.Nat.{_+_, _≤_};
 ghost use lib.ListN.{length, take, drop};
 ghost use Rattle.plan.specs.Levels.{baseSpeeds};
-ghost use Rattle.plan.specs.Answers.{refusalOf};
+ghost use Rattle.arith.specs.Asking.{numberOf};
+ghost use Rattle.plan.specs.Answers.{verdictAnswer};
 ghost use Rattle.transcript.specs.Listing.{planCut, startedLines, listing};
 ghost use Rattle.lines.specs.Stores.{Put};
 
@@ -41,7 +42,7 @@ pub fn plan_cut(input: &[u8]) -> usize
 
 // The number of a refusal, 0 where there is none.
 fn refusal_of(v: Verdict) -> u32
-    ensures { λ r. ⌜ r ≡ refusalOf v ⌝ }
+    ensures { λ r. ⌜ r ≡ numberOf (verdictAnswer v) ⌝ }
 {
     match v {
         Verdict::Refused(n) => n,
@@ -62,7 +63,7 @@ fn started_lines(block: &[u8], passes: &[u8], out: &mut [u8], from: usize) -> us
 
 // Stores the listing of an input at the front of a buffer, and returns its length.
 pub fn list_into(input: &[u8], out: &mut [u8]) -> usize
-    requires { ⌜ (length (now input) ≤ 65537) × (2000000 ≤ length (now out)) ⌝ }
+    requires { ⌜ 2000000 ≤ length (now out) ⌝ }
     ensures { λ r. ⌜ r ≡ length (listing baseSpeeds (now (input .entry))) ⌝ }
     ensures { λ _. ⌜ now (out .exit) ≡ listing baseSpeeds (now (input .entry)) ++ drop (length (listing baseSpeeds (now (input .entry)))) (now (out .entry)) ⌝ }
     ensures { λ r. ⌜ (r ≤ length (now (out .exit))) × (r ≡ length (take r (now (out .exit)))) ⌝ }

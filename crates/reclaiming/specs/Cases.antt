@@ -14,12 +14,12 @@ use Rattle.plan.specs.declared.Verdict.the-variants as verdict
 use Rattle.plan.specs.Levels.{baseSpeeds, speedOf, hyperperiod, demandWithin, nominal}
 use Rattle.plan.specs.Blocks.{planBlock, planOf}
 use Rattle.plan.specs.Answers.{verdictAnswer, writtenAnswer, judgedList, readBlock}
-use Rattle.schedule.specs.PlainSchedule.{Timing, moreUrgent}
+use Rattle.schedule.specs.PlainSchedule.{moreUrgent}
 use Rattle.reclaiming.specs.declared.Reply.{Reply}
 use Rattle.reclaiming.specs.declared.Reply.the-variants as reply
-use Rattle.reclaiming.specs.StateBlock.{sameBytes, timing}
-use Rattle.reclaiming.specs.Calls.{replyAnswer, startReply, passReply, showReply, showBuffer}
-use Rattle.reclaiming.specs.Run.{Pass, Answered, DispatcherBook, trace, bytesAfter, startedBytes, openedBook, booked}
+use Rattle.reclaiming.specs.StateBlock.{sameBytes}
+use Rattle.reclaiming.specs.Calls.{replyAnswer, passReply, showReply, showBuffer}
+use Rattle.reclaiming.specs.Run.{Pass, Line, bytesAfter, startedBytes, line, runLines}
 
 abbrev task : ℕ → ℕ → Task
 task p w = record { period = p; worst = w }
@@ -48,27 +48,10 @@ benchAfter n = bytesAfter baseSpeeds benchStarted (take n benchPasses)
 abbrev pub benchJudged : Judged
 benchJudged = record { verdict = verdict.Admitted 7 30; plan = planOf benchTasks }
 
--- 01: "Then one line for the start and one for each accepted pass: clock, then" the order
-pub record Line : Type 0 where
-  pub clock : ℕ
-  pub reply : Reply
-
-abbrev line : ℕ → Reply → Line
-line clock r = record { clock = clock; reply = r }
-
--- the lines of the passes of a run, each with the clock of the dispatcher's book after it
-abbrev pub linesFrom : Timing → DispatcherBook → List Answered → List Line
-linesFrom τ b [] = []
-linesFrom τ b (a ∷ rest) =
-    let next : DispatcherBook = booked τ b (a .pass) (a .reply) in
-    line (next .clock) (a .reply) ∷ linesFrom τ next rest
-
--- those of the example; the line that begins with `unfolding`, here and below, only lets them be computed
+-- the example's run, line for line; the line that begins with `unfolding`, here and below, only lets them be computed
 abbrev pub benchLines : List Line
 unfolding need lcm gcd moreUrgent
-benchLines =
-    let first : Reply = startReply baseSpeeds benchBlock 200 in
-    line 0 first ∷ linesFrom (timing baseSpeeds benchTasks) (openedBook first) (trace baseSpeeds benchStarted benchPasses)
+benchLines = runLines baseSpeeds benchBlock (replicate 200 0) benchPasses
 
 -- the example's lines after the first
 abbrev pub listedLines : List Line

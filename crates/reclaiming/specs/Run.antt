@@ -1,15 +1,18 @@
--- 01, "The run in demand 3": a list of passes, the replies to them, and the two books, which take nothing from the state block.
+-- 01, "The run in demand 3": a list of passes, the replies to them, the two books, which take nothing from the state block, and the lines
+-- of a run.
 -- Assumes nothing.
 use Prim.Native.Nat.{ℕ, _+_, _%_, _≤_, _<_}
 use mathlib.Core.Path.{_≡_}
 use mathlib.Core.Bool.{Bool}
 use mathlib.Core.List.{List, [], _∷_}
-use lib.ListN.{take}
+use lib.ListN.{length, take}
 use Rattle.arith.specs.Choice.{pick}
+use Rattle.plan.specs.Blocks.{tasksIn}
 use Rattle.schedule.specs.PlainSchedule.{Timing, Job, Book, latest, after}
 use Rattle.reclaiming.specs.declared.Reply.{Reply}
 use Rattle.reclaiming.specs.declared.Reply.the-variants as reply
-use Rattle.reclaiming.specs.Calls.{startBuffer, passReply, passBytes}
+use Rattle.reclaiming.specs.StateBlock.{timing}
+use Rattle.reclaiming.specs.Calls.{startReply, startBuffer, passReply, passBytes}
 
 -- 01: "A pass says that d ticks went by (32 bits) and whether the running job finished at their end."
 pub record Pass : Type 0 where
@@ -87,3 +90,26 @@ pub record Arrived (τ : Timing) (clock : ℕ) (j : Job) : Type 0 where
   pub task : j .task < τ .count
   pub arrival : j .arrival ≤ clock
   pub multiple : j .arrival % τ .period (j .task) ≡ 0
+
+-- 01: "Then one line for the start and one for each accepted pass: clock, then run, task, level, hold; or idle, hold."; "A refused
+-- pass prints its line"
+pub record Line : Type 0 where
+  pub clock : ℕ
+  pub reply : Reply
+
+abbrev pub line : ℕ → Reply → Line
+line clock r = record { clock = clock; reply = r }
+
+-- the lines of the passes of a run, each with the clock of the dispatcher's book after it
+abbrev pub linesFrom : Timing → DispatcherBook → List Answered → List Line
+linesFrom τ b [] = []
+linesFrom τ b (a ∷ rest) =
+    let next : DispatcherBook = booked τ b (a .pass) (a .reply) in
+    line (next .clock) (a .reply) ∷ linesFrom τ next rest
+
+-- the lines of a run: one for the start, at clock 0, and one for each pass
+abbrev pub runLines : List ℕ → List ℕ → List ℕ → List Pass → List Line
+runLines speeds block buffer passes =
+    let first : Reply = startReply speeds block (length buffer) in
+    line 0 first
+    ∷ linesFrom (timing speeds (tasksIn block)) (openedBook first) (trace speeds (startedBytes speeds block buffer) passes)

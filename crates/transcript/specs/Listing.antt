@@ -1,9 +1,8 @@
 -- 01, "The bench program": the listing of an input, every byte of it.
 -- Assumes nothing.
 use Prim.Native.Nat.{ℕ, _+_, _*_, _%_, min}
-use mathlib.Core.Bool.{Bool}
 use mathlib.Core.List.{List, [], _∷_, _++_}
-use lib.Dec.{leb}
+use lib.Dec.{leb, eqb}
 use lib.ListN.{length, take, drop, replicate}
 use Rattle.arith.specs.Choice.{pick}
 use Rattle.arith.specs.Asking.{within}
@@ -14,7 +13,7 @@ use Rattle.plan.specs.Blocks.{countIn, blockLength}
 use Rattle.plan.specs.Answers.{readBlock}
 use Rattle.reclaiming.specs.declared.Reply.{Reply}
 use Rattle.reclaiming.specs.declared.Reply.the-variants as reply
-use Rattle.reclaiming.specs.Calls.{startReply, startBuffer, passReply, passBytes}
+use Rattle.reclaiming.specs.Run.{Pass, Line, runLines}
 use Rattle.transcript.specs.Text.{decimal, spaced, lineEnd, planWord, runWord, idleWord, refusedWord}
 
 -- 01: "First line: count, nominal level, hyperperiod."
@@ -36,36 +35,28 @@ replyLine clock (reply.Refused n) = refusedLine n
 abbrev pub planCut : List ℕ → ℕ
 planCut input = pick (within 1 16 (countIn input)) (min (blockLength (countIn input)) (length input)) (length input)
 
--- the clock after a reply: it rises by d where the pass was accepted
-abbrev pub clockAfter : ℕ → ℕ → Reply → ℕ
-clockAfter clock d (reply.Run task level hold) = clock + d
-clockAfter clock d (reply.Idle hold) = clock + d
-clockAfter clock d (reply.Refused n) = clock
+-- 01: "two bytes each (1 bit finished, 15 bits d)"
+abbrev pub passOf : ℕ → ℕ → Pass
+passOf high low = record { d = high % 128 * 256 + low; finished = leb 128 high }
 
--- 01: "passes, which follow the block without a gap, two bytes each (1 bit finished, 15 bits d)"; "A refused pass prints its line and
--- the next is read."; "At the end: is no odd byte left? 16."
-abbrev pub passLines : List ℕ → List ℕ → ℕ → List ℕ → List ℕ
-passLines speeds state clock [] = []
-passLines speeds state clock (odd ∷ []) = refusedLine 16
-passLines speeds state clock (high ∷ low ∷ rest) =
-    let d : ℕ = high % 128 * 256 + low in
-    let finished : Bool = leb 128 high in
-    let answer : Reply = passReply speeds state d finished in
-    replyLine (clockAfter clock d answer) answer
-    ++ passLines speeds (passBytes speeds state d finished) (clockAfter clock d answer) rest
+-- 01: "passes, which follow the block without a gap"; an odd byte at the end is no pass
+abbrev pub passesIn : List ℕ → List Pass
+passesIn [] = []
+passesIn (odd ∷ []) = []
+passesIn (high ∷ low ∷ rest) = passOf high low ∷ passesIn rest
 
--- the state's bytes after all passes
-abbrev pub passStates : List ℕ → List ℕ → List ℕ → List ℕ
-passStates speeds state [] = state
-passStates speeds state (odd ∷ []) = state
-passStates speeds state (high ∷ low ∷ rest) =
-    passStates speeds (passBytes speeds state (high % 128 * 256 + low) (leb 128 high)) rest
+-- 01: "At the end: is no odd byte left? 16."
+abbrev pub oddLine : List ℕ → List ℕ
+oddLine passes = pick (eqb (length passes % 2) 0) [] (refusedLine 16)
 
--- the lines from the start on
+-- the text of a run's lines, one after another
+abbrev pub linesText : List Line → List ℕ
+linesText [] = []
+linesText (l ∷ ls) = replyLine (l .clock) (l .reply) ++ linesText ls
+
+-- the lines from the start on: those of the run over a fresh state
 abbrev pub startedLines : List ℕ → List ℕ → List ℕ → List ℕ
-startedLines speeds block passes =
-    replyLine 0 (startReply speeds block 200)
-    ++ passLines speeds (startBuffer speeds block (replicate 200 0)) 0 passes
+startedLines speeds block passes = linesText (runLines speeds block (replicate 200 0) (passesIn passes)) ++ oddLine passes
 
 -- the lines from a plan that was read on; "If the reading is refused, the bench program prints that line and ends."
 abbrev pub judgedLines : List ℕ → List ℕ → Verdict → ℕ → List ℕ → List ℕ

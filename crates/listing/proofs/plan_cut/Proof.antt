@@ -2,6 +2,7 @@
 -- Assumes nothing.
 use Prim.Native.Nat.{ℕ}
 use mathlib.Core.List.{List}
+use native.Mathlib.Omega.{arith}
 use Rattle.listing.proofs.Cuts.{Wanted, cut-short, cut-low, cut-high, cut-part, cut-whole}
 use borrow.Author.Needs.{needs}
 use Rattle.listing.proofs.plan_cut.Statement.{statement}
@@ -23,10 +24,10 @@ returns-2 : tie.Need-returns-2
 returns-2 c = cut-low (input (c .before)) (c .before .bits-at .ensures) (c .if2 .taken)
 
 returns-3 : tie.Need-returns-3
-returns-3 c = cut-high (input (c .before .before)) (c .before .before .bits-at .ensures) (c .if3 .taken)
+returns-3 c = cut-high (input (c .before .before)) (c .before .before .bits-at .ensures) (omega (arith, c .if3 .taken))
 
 block-length-requires : tie.Need-block-length-requires
-block-length-requires c κs = search needs
+block-length-requires c κs = omega arith
 
 abbrev counted : tie.After-block-length → tie.After-bits-at
 counted c = c .before .before .before

@@ -1,6 +1,14 @@
 -- `started_lines` meets its contract.
 -- Assumes nothing.
+use Prim.Native.Nat.{ℕ}
+use mathlib.Core.Path.{refl}
+use mathlib.Core.List.{List}
 use native.Mathlib.Omega.{arith}
+use Rattle.plan.specs.Levels.{baseSpeeds}
+use Rattle.plan.specs.Blocks.{tasksIn}
+use Rattle.schedule.specs.PlainSchedule.{Timing}
+use Rattle.reclaiming.specs.StateBlock.{timing}
+use Rattle.reclaiming.specs.Run.{openedBook}
 use Rattle.lines.proofs.Puts.{_then_, as-text}
 use Rattle.listing.proofs.Whole.{started-is}
 use borrow.Author.Needs.{needs}
@@ -31,8 +39,10 @@ returns c =
     let replied : tie.After-reply-line = search in
     let started : tie.After-start = search in
     let start : tie.Start = search in
-    as-text (replied .reply-line .ensures then listed .pass-lines .ensures .0)
-    (started-is (start .args .block .now) (start .args .passes .now) (started .start .ensures .0) (started .start .ensures .1))
+    let block : List ℕ = start .args .block .now in
+    let τ : Timing = timing baseSpeeds (tasksIn block) in
+    as-text (replied .reply-line .ensures then listed .pass-lines .ensures .0 τ (openedBook (started .start .result)) refl)
+    (started-is block (start .args .passes .now) (started .start .ensures .0) (started .start .ensures .1) (started .start .kept .1 .0))
     (omega arith)
 
 pub started-lines-spec : {M : Type 1} → statement M

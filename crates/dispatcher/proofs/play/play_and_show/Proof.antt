@@ -3,6 +3,7 @@
 use Prim.Native.Nat.{ℕ}
 use mathlib.Core.Path.{sym}
 use mathlib.Core.List.{List}
+use native.Mathlib.Omega.{arith}
 use borrow.Author.Needs.{needs}
 use lib.ListN.{length}
 use lib.Seq.{length-take-le}
@@ -46,19 +47,17 @@ same-length-2 c = search needs
 returns : tie.Need-returns
 returns c =
     let played : tie.After-play = search in
-    let refused : tie.Then1 = search in
-    shown-not (ran played) (lent played) (refused .if1 .taken)
+    shown-not (ran played) (lent played) (omega arith)
 
 slice-reshare-prefix-show : tie.Need-slice-reshare-prefix-show
 slice-reshare-prefix-show c =
     let played : tie.After-play = search in
-    shown-room (ran played) (lent played) (c .if1 .left)
+    shown-room (ran played) (lent played) (omega arith)
 
 slice-aggregate-show : tie.Need-slice-aggregate-show
 slice-aggregate-show c =
     let played : tie.After-play = search in
-    let accepted : tie.Else1 = search in
-    sym (length-take-le 200 (state played) (shown-room (ran played) (lent played) (accepted .if1 .left)))
+    sym (length-take-le 200 (state played) (shown-room (ran played) (lent played) (omega arith)))
 
 show-requires : tie.Need-show-requires
 show-requires c κs = search needs
@@ -75,9 +74,8 @@ same-length-5 c = search needs
 returns-2 : tie.Need-returns-2
 returns-2 c =
     let shown : tie.After-show = search in
-    let accepted : tie.Else1 = search in
     let played : tie.After-play = search in
-    shown-is (ran played) (lent played) (accepted .if1 .left) (shown .show .ensures .0) (shown .show .ensures .1)
+    shown-is (ran played) (lent played) (omega arith) (shown .show .ensures .0) (shown .show .ensures .1)
 
 pub play-and-show-spec : {M : Type 1} → statement M
 play-and-show-spec =

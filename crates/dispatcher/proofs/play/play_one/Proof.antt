@@ -15,6 +15,11 @@ cast-d c = search needs
 pass-requires : tie.Need-pass-requires
 pass-requires c κs = search needs
 
+returns : tie.Need-returns
+returns c =
+    let p : tie.After-pass = c .before .before .before in
+    (c .reply-number .ensures ∙ ap replyNumber (p .pass .ensures .0), p .pass .ensures .1)
+
 reply-number-requires : tie.Need-reply-number-requires
 reply-number-requires c κs =
     let p : tie.After-pass = c .before .before in
@@ -23,11 +28,6 @@ reply-number-requires c κs =
 
 same-length : tie.Need-same-length
 same-length c = search needs
-
-returns : tie.Need-returns
-returns c =
-    let p : tie.After-pass = c .before .before .before in
-    (c .reply-number .ensures ∙ ap replyNumber (p .pass .ensures .0), p .pass .ensures .1)
 
 pub play-one-spec : {M : Type 1} → statement M
 play-one-spec = tie.close (tie.spec cast-d pass-requires reply-number-requires same-length returns)

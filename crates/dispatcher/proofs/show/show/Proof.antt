@@ -65,7 +65,7 @@ mul-wanted : tie.Need-mul-wanted
 mul-wanted c = omega (arith, listed-few (showing (c .before) .listed))
 
 returns-2 : tie.Need-returns-2
-returns-2 c = show-short (showing (c .before .before)) (buffer (c .before .before)) (c .if2 .taken)
+returns-2 c = show-short (showing (c .before .before)) (buffer (c .before .before)) (omega arith)
 
 put-queue-requires : tie.Need-put-queue-requires
 put-queue-requires c κs =

@@ -1,10 +1,12 @@
 -- `pass_lines` meets its contract.
 -- Assumes nothing.
 use Prim.Native.Nat.{_+_, _-_, _<_}
+use mathlib.Core.Path.{refl}
 use native.Mathlib.Omega.{arith}
 use lib.ListN.{length}
 use borrow.Author.Needs.{needs}
-use Rattle.listing.proofs.Going.{Going, going-first, going-again, going-even, going-odd}
+use Rattle.transcript.specs.Listing.{passOf}
+use Rattle.listing.proofs.Going.{Going, noTasks, bookAt, going-first, going-again, going-even, going-odd}
 use Rattle.listing.proofs.passes.pass_lines.Statement.{statement}
 use Rattle.listing.proofs.passes.pass_lines.Tie as tie
 
@@ -84,7 +86,8 @@ loop-again c =
       replied = passed .pass .ensures .0;
       stored = passed .pass .ensures .1;
       kept = passed .pass .kept .0;
-      moved = moved .clock-after .ensures .0;
+      moved =
+          moved .clock-after .ensures .0 noTasks (bookAt (at-loop .loop .clock)) (passOf (high .wide .result) (low .wide2 .result)) refl refl;
       later = moved .clock-after .ensures .1;
     } (told .reply-line .ensures) (told .reply-line .kept .0)
 
