@@ -4,14 +4,12 @@ use Prim.Native.Nat.{ℕ, zero, suc, _+_, _-_, _*_, _<_, _≤_}
 use mathlib.Core.Path.{_≡_, refl, sym, subst, ap, ap₂, _∙_}
 use mathlib.Core.Bool.{Bool}
 use mathlib.Core.List.{List, [], _∷_, _++_, map}
-use native.Mathlib.Nat.{le-trans, mul-le-mul-left}
 use native.Mathlib.Omega.{arith}
 use borrow.Author.Tests.{le-leb, lt-leb}
 use lib.ListN.{length, getD, take, drop, replicate, length-append, length-replicate}
 use lib.Seq.{sets, length-take-le, getD-take, take-all}
 use Rattle.arith.specs.Choice.{pick}
 use Rattle.arith.specs.Need.{need}
-use Rattle.arith.proofs.Needs.{need-covers}
 use Rattle.plan.specs.declared.Task.{Task}
 use Rattle.plan.specs.declared.Plan.{Plan}
 use Rattle.plan.specs.declared.Judged.{Judged}
@@ -31,14 +29,14 @@ use Rattle.schedule.specs.PlainSchedule.{Timing}
 use Rattle.reclaiming.specs.declared.Entry.{Entry}
 use Rattle.reclaiming.specs.declared.Reply.{Reply}
 use Rattle.reclaiming.specs.declared.Reply.the-variants as reply
-use Rattle.reclaiming.specs.StateBlock.{State, noEntry, taskOf, timingAt, timing, planIn, entryBytes, entriesBytes, encode, decode}
+use Rattle.reclaiming.specs.StateBlock.{State, noEntry, workOf, remainingOf, taskOf, timingAt, timing, planIn, entryBytes, entriesBytes, encode, decode}
 use Rattle.reclaiming.specs.Orders.{chooseOrder, holdOf, orderWith}
 use Rattle.reclaiming.specs.Passes.{newEntry, startState}
 use Rattle.reclaiming.specs.Calls.{repliedBy, startNumber, startOrder}
 use Rattle.state.specs.Code.{Holds, entryIn, timingIn}
 use Rattle.urgency.specs.Code.{latestKey, keysIn, Keyed}
 use Rattle.arith.proofs.ArrayLaws.{value-at}
-use Rattle.orders.specs.Code.{Doable}
+use Rattle.orders.specs.Code.{Enough}
 use Rattle.dispatcher.specs.Code.{newState}
 use Rattle.reclaiming.proofs.Fine.{Fine, nominalSpeed}
 use Rattle.reclaiming.proofs.Plans.{task-range}
@@ -48,7 +46,7 @@ use Rattle.arith.proofs.RangeLaws.{length-listTo, getD-listTo}
 use Rattle.reclaiming.proofs.PassedStates.{choose-entries}
 use Rattle.reclaiming.proofs.PassSound.{start-fine}
 use Rattle.state.proofs.BlockLaws.{storedTo, stored-more, count-in, entry-at}
-use Rattle.judging.proofs.LevelSpeeds.{speed-positive, speed-most}
+use Rattle.judging.proofs.LevelSpeeds.{speed-positive}
 
 -- the eight bytes in front of the entries of a new state
 abbrev newFront : ℕ → List ℕ
@@ -258,15 +256,17 @@ module _ {ts : List Task} {image : List ℕ} (new : Newly ts image) where
   new-periods i h =
       subst (λ (e : Entry). 1 ≤ e .period) (sym (new-in i h)) (task-range baseSpeeds ts (new .good) baseRising i h .period-low)
 
-  -- every job can be done in its ticks at the top speed
-  new-doable : Doable (decode image)
-  new-doable i h =
-      let k : i < length ts = omega (arith, count-in image, new-tasks) in
-      let level : nominal baseSpeeds ts < 8 = new .good .tasks .admitted in
-      let worst : ℕ = getD ts i noTask .worst in
-      subst (λ (e : Entry). e .work ≤ e .remaining * 100) (sym (new-at i k))
-      (le-trans (need-covers speed worst (speed-positive (nominal baseSpeeds ts) speed level refl))
-      (mul-le-mul-left (need speed worst) (speed-most (nominal baseSpeeds ts) speed level refl)))
+  -- at the nominal level every job can be done in its ticks
+  new-enough : (highest : ℕ) → highest ≡ nominal baseSpeeds ts → Enough (decode image) highest
+  new-enough highest e =
+      let same : S .entries ≡ decode image .entries = entries-are ∙ sym (ap (λ (s : State). s .entries) new-read) in
+      record {
+        level = omega (arith, new .good .tasks .admitted);
+        each = λ i h.
+            subst (λ (es : List Entry). need (speedOf baseSpeeds highest) (getD es i noEntry .work) ≤ getD es i noEntry .remaining) same
+            (subst (λ (level : ℕ). need (speedOf baseSpeeds level) (workOf S i) ≤ remainingOf S i) (sym e)
+            (fine .entries .ahead i (omega (arith, count-in image, new-tasks))));
+      }
 
   -- with the keys that are found
   module _ {count : ℕ} (same : count ≡ length ts) {keys : List ℕ} (found : keys ≡ keysIn image count 0) where
@@ -288,9 +288,11 @@ module _ {ts : List Task} {image : List ℕ} (new : Newly ts image) where
         (subst (λ (t : ℕ). Keyed τ t keys) (sym (ap (λ (s : State). s .clock) new-read)) keyed)
 
     pub new-ready :
-        (Holds image × (1 ≤ getD image 6 0) × (encode (decode image) ≡ image) × Doable (decode image))
+        (highest : ℕ) →
+        highest ≡ nominal baseSpeeds ts →
+        (Holds image × (1 ≤ getD image 6 0) × (encode (decode image) ≡ image) × Enough (decode image) highest)
         × Keyed (timingIn image) (decode image .clock) keys
-    new-ready = ((new-holds, omega (arith, new-tasks, new .good .count-low), new-back, new-doable), new-keyed)
+    new-ready highest e = ((new-holds, omega (arith, new-tasks, new .good .count-low), new-back, new-enough highest e), new-keyed)
 
   -- the order that is chosen in it is that of the start
   abbrev chosen : State

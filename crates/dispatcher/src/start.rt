@@ -68,7 +68,7 @@ fn started(p: Plan, highest: usize, state: &mut [u8]) -> Reply
     let speed = judging::speed_of(highest);
     let mut image = fresh(p, speed);
     let keys = keys_of(&image, p.count, 0);
-    let r = choose(&mut image, &keys);
+    let r = choose(&mut image, &keys, highest);
     store(state, &image);
     r
 }

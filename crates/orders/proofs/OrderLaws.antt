@@ -1,7 +1,7 @@
 -- What the functions that choose an order find in a block is the order of the definitions.
 -- Assumes nothing.
 use Prim.Native.Nat.{ℕ, _+_, _-_, _*_, _<_, _≤_, min}
-use mathlib.Core.Path.{_≡_, refl, sym, ap, ap₂, subst, _∙_}
+use mathlib.Core.Path.{_≡_, sym, ap, ap₂, subst, _∙_}
 use mathlib.Core.Bool.{Bool, true}
 use mathlib.Core.List.{List}
 use native.Mathlib.Numerals.{add-one}
@@ -18,7 +18,7 @@ use Rattle.arith.proofs.Tests.{passed, failed, tested}
 use Rattle.arith.proofs.Needs.{need-faster}
 use Rattle.plan.specs.Levels.{baseSpeeds, speedOf}
 use Rattle.plan.proofs.LevelLaws.{baseRising}
-use Rattle.arith.proofs.Searches.{first-most, first-le, first-after}
+use Rattle.arith.proofs.Searches.{first-le, first-after}
 use Rattle.schedule.specs.PlainSchedule.{Timing, Pending}
 use Rattle.orders.specs.declared.Choice.{Choice}
 use Rattle.reclaiming.specs.declared.Reply.{Reply}
@@ -29,7 +29,7 @@ use Rattle.arith.specs.Ranges.{leastTo}
 use Rattle.reclaiming.specs.Questions.{runningTime}
 use Rattle.state.specs.Code.{Holds, entryIn, timingIn}
 use Rattle.urgency.specs.Code.{Keyed, noKey, deadlineIn}
-use Rattle.orders.specs.Code.{choiceOf, runOf, holdBy, orderOf, Runnable, Doable}
+use Rattle.orders.specs.Code.{choiceOf, runOf, holdBy, orderOf, Runnable, Enough}
 use Rattle.reclaiming.proofs.PassedStates.{choose-clock, choose-entries}
 use Rattle.reclaiming.proofs.Allowances.{allowance-is}
 use Rattle.state.proofs.BlockLaws.{count-in, store-order}
@@ -38,13 +38,13 @@ use Rattle.judging.proofs.LevelSpeeds.{Tried, tried-does}
 use Rattle.urgency.proofs.HeadLaws.{work-is, Looked, none-open, Head, first-open, told-task, Read, read-below, read-work, read-allowed}
 use Rattle.urgency.proofs.OpenJobs.{timing-count}
 
--- the lowest level that meets an allowance is one of the eight, or 8
+-- the lowest level that meets an allowance is no higher than one that does
 module _ (work allowed : ℕ) where
   abbrev meets : ℕ → Bool
   meets speed = leb (need speed work) allowed
 
-  pub level-most : lowestLevel baseSpeeds work allowed ≤ 8
-  level-most = first-most meets baseSpeeds
+  pub level-most : (level : ℕ) → level < 8 → need (speedOf baseSpeeds level) work ≤ allowed → lowestLevel baseSpeeds work allowed ≤ level
+  level-most level low h = first-le meets baseSpeeds level 0 low (le-leb (need (speedOf baseSpeeds level) work) allowed h)
 
   -- a level above one that meets it meets it too
   meets-higher : (i j : ℕ) → i ≤ j → j < 8 → meets (speedOf baseSpeeds i) ≡ true → meets (speedOf baseSpeeds j) ≡ true
@@ -69,12 +69,6 @@ module _ {work allowed level speed : ℕ} (k : Tried work allowed level speed) w
       rw add-one
       (first-after (meets work allowed) baseSpeeds 0 (meets-higher work allowed) level (k .low)
       (sym (tried-does k) ∙ lt-leb work (speed * allowed) lt))
-
--- work that the top level does in time has one of the eight
-level-some : (work allowed : ℕ) → work ≤ allowed * 100 → lowestLevel baseSpeeds work allowed < 8
-level-some work allowed le =
-    let top : Tried work allowed 7 100 = record { low = omega arith; speed-is = refl } in
-    omega (arith, level-high top (omega arith))
 
 -- the hold, by each way out
 module _ (c : Choice) (next : ℕ) where
@@ -104,11 +98,24 @@ pub chosen-none :
     _≡_ {A = Choice} (record { task = 255; level = 0; time = 0 }) (choiceOf (chooseOrder baseSpeeds (timingIn b) (decode b)))
 chosen-none {b} k e = ap (λ (q : List Pending). choiceOf (orderFor baseSpeeds (timingIn b) (decode b) q)) (sym (none-open k e))
 
--- one is, and its level was found
+-- one is: a level at which every job can be done in its own ticks meets the allowance, of which they are a part
+pub read-enough :
+    {b l : List ℕ} {count best i work allowed highest : ℕ} →
+    Read b l count best i work allowed →
+    Enough (decode b) highest →
+    need (speedOf baseSpeeds highest) work ≤ allowed
+read-enough {b} {i = i} {highest = highest} k enough =
+    let s : State = decode b in
+    let τ : Timing = timingIn b in
+    let own : remainingOf s i ≤ allowance τ s i = omega (arith, allowance-is τ (s .clock) (remainingOf s) (τ .count) i (read-below k)) in
+    let can : need (speedOf baseSpeeds highest) (workOf s i) ≤ remainingOf s i = enough .each i (omega (arith, read-below k, timing-count b, count-in b)) in
+    omega (arith, read-allowed k, ap (need (speedOf baseSpeeds highest)) (read-work k))
+
+-- and its level was found
 pub record Picked (b l : List ℕ) (count best i work allowed level : ℕ) : Type 0 where
   pub read : Read b l count best i work allowed
-  pub doable : Doable (decode b)
   pub level-is : level ≡ lowestLevel baseSpeeds work allowed
+  pub low : level < 8
 
 module _ {b l : List ℕ} {count best i work allowed level : ℕ} (k : Picked b l count best i work allowed level) where
   abbrev s : State
@@ -129,17 +136,9 @@ module _ {b l : List ℕ} {count best i work allowed level : ℕ} (k : Picked b 
       ap (orderFor baseSpeeds τ s) (h .queue)
       ∙ ap (λ (n : ℕ). withOrder s n (lowestLevel baseSpeeds (workOf s n) (allowance τ s n))) (h .task)
 
-  -- the level is one of the eight: the top one does the work
-  pub chosen-level : level < 8
-  chosen-level =
-      let within : i < τ .count = read-below (k .read) in
-      let own : remainingOf s i ≤ allowance τ s i = omega (arith, allowance-is τ (s .clock) (remainingOf s) (τ .count) i within) in
-      let can : workOf s i ≤ remainingOf s i * 100 = k .doable i (omega (arith, timing-count b, count-in b)) in
-      omega (arith, k .level-is, level-some work allowed (omega (arith, read-work (k .read), read-allowed (k .read))))
-
   pub chosen-small : {r : Choice} → r ≡ runOf i level work → (r .task < 256) × (r .level < 256)
   chosen-small e =
-      subst (λ (x : Choice). (x .task < 256) × (x .level < 256)) (sym e) (omega (arith, told-task (k .read .told)), omega (arith, chosen-level))
+      subst (λ (x : Choice). (x .task < 256) × (x .level < 256)) (sym e) (omega (arith, told-task (k .read .told)), omega (arith, k .low))
 
   pub chosen-some : runOf i level work ≡ choiceOf (chooseOrder baseSpeeds τ s)
   chosen-some =

@@ -1,6 +1,6 @@
 -- What the code holds of an order, as the definitions see it.
 -- Assumes nothing.
-use Prim.Native.Nat.{ℕ, _*_, _<_, _≤_, min}
+use Prim.Native.Nat.{ℕ, _<_, _≤_, min}
 use mathlib.Core.Path.{_≡_}
 use lib.Dec.{eqb}
 use lib.ListN.{length}
@@ -38,6 +38,7 @@ pub record Runnable (s : State) : Type 0 where
   pub task : (s .task ≡ 255 → ⊥) → s .task < length (s .entries)
   pub level : (s .task ≡ 255 → ⊥) → s .level < 8
 
--- every job's work can be done in its plain ticks left at the top speed
-abbrev pub Doable : State → Type 0
-Doable s = (i : ℕ) → i < length (s .entries) → workOf s i ≤ remainingOf s i * 100
+-- at a level, every job's work can be done in its plain ticks left
+pub record Enough (s : State) (highest : ℕ) : Type 0 where
+  pub level : highest < 8
+  pub each : (i : ℕ) → i < length (s .entries) → need (speedOf baseSpeeds highest) (workOf s i) ≤ remainingOf s i

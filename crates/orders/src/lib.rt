@@ -13,12 +13,13 @@ ghost use Prim.Native.Nat.{_<_, _≤_};
 ghost use lib.ListN.{length, getD};
 ghost use lib.Seq.{sets};
 ghost use Rattle.arith.specs.Digits.{digits};
-ghost use Rattle.plan.specs.Levels.{baseSpeeds};
+ghost use Rattle.arith.specs.Need.{need};
+ghost use Rattle.plan.specs.Levels.{baseSpeeds, speedOf};
 ghost use Rattle.reclaiming.specs.StateBlock.{encode, decode};
 ghost use Rattle.reclaiming.specs.Orders.{nextArrival, lowestLevel, holdOf, chooseOrder, orderWith};
 ghost use Rattle.state.specs.Code.{Holds, timingIn};
 ghost use Rattle.urgency.specs.Code.{Keyed};
-ghost use Rattle.orders.specs.Code.{choiceOf, runOf, holdBy, orderOf, Runnable, Doable};
+ghost use Rattle.orders.specs.Code.{choiceOf, runOf, holdBy, orderOf, Runnable, Enough};
 
 // An order without its hold: the task (255 for idle), the level, and the time that the work left needs there.
 pub struct Choice {
@@ -27,14 +28,14 @@ pub struct Choice {
     pub time: u32,
 }
 
-// The lowest level at which the work needs no more than is allowed, or 8: at which the ticks that are allowed do the work. A faster
-// level does no less, so the table is halved.
-pub fn level_for(work: u32, allowed: u32) -> usize
-    requires { ⌜ allowed ≤ 1048560 ⌝ }
-    ensures { λ r. ⌜ (r ≡ lowestLevel baseSpeeds work allowed) × (r ≤ 8) ⌝ }
+// The lowest level at which the work needs no more than is allowed: at which the ticks that are allowed do the work. The highest does it,
+// and a faster level does no less, so the levels up to it are halved.
+pub fn level_for(work: u32, allowed: u32, highest: usize) -> usize
+    requires { ⌜ (allowed ≤ 1048560) × (highest < 8) × (need (speedOf baseSpeeds highest) work ≤ allowed) ⌝ }
+    ensures { λ r. ⌜ (r ≡ lowestLevel baseSpeeds work allowed) × (r ≤ highest) ⌝ }
 {
     let mut low: usize = 0;
-    let mut high: usize = 8;
+    let mut high: usize = highest;
     while low < high {
         let middle = (low + high) / 2;
         let speed = judging::speed_of(middle);
@@ -60,9 +61,9 @@ fn running_order(i: usize, level: usize, work: u32) -> Choice
     }
 }
 
-// The order that is chosen in a state.
-pub fn chosen(block: &[u8], keys: &[u64; 16], count: usize) -> Choice
-    requires { ⌜ Holds (now block) × (count ≡ getD (now block) 6 0) × Doable (decode (now block)) ⌝ }
+// The order that is chosen in a state, where a level is known at which every job can be done in time.
+pub fn chosen(block: &[u8], keys: &[u64; 16], count: usize, highest: usize) -> Choice
+    requires { ⌜ Holds (now block) × (count ≡ getD (now block) 6 0) × Enough (decode (now block)) highest ⌝ }
     requires { ⌜ Keyed (timingIn (now block)) (decode (now block) .clock) (now keys) ⌝ }
     ensures { λ r. ⌜ r ≡ choiceOf (chooseOrder baseSpeeds (timingIn (now (block .entry))) (decode (now (block .entry)))) ⌝ }
     ensures { λ r. ⌜ (r .task < 256) × (r .level < 256) ⌝ }
@@ -77,7 +78,7 @@ pub fn chosen(block: &[u8], keys: &[u64; 16], count: usize) -> Choice
     }
     let i = task_in(best);
     let work = work_at(block, i);
-    let level = level_for(work, allowance_of(block, keys, count, best));
+    let level = level_for(work, allowance_of(block, keys, count, best), highest);
     running_order(i, level, work)
 }
 
@@ -135,25 +136,25 @@ pub fn order_of(c: Choice, hold: u32) -> Reply
 }
 
 // Chooses an order where the next arrival is so many ticks away, stores it, and answers it with its hold.
-pub fn choose_until(block: &mut [u8], keys: &[u64; 16], next: u32) -> Reply
-    requires { ⌜ Holds (now block) × (encode (decode (now block)) ≡ now block) × Doable (decode (now block)) ⌝ }
+pub fn choose_until(block: &mut [u8], keys: &[u64; 16], highest: usize, next: u32) -> Reply
+    requires { ⌜ Holds (now block) × (encode (decode (now block)) ≡ now block) × Enough (decode (now block)) highest ⌝ }
     requires { ⌜ Keyed (timingIn (now block)) (decode (now block) .clock) (now keys) ⌝ }
     requires { ⌜ next ≡ nextArrival (timingIn (now block)) (decode (now block) .clock) ⌝ }
     ensures { λ r. ⌜ r ≡ orderWith (chooseOrder baseSpeeds (timingIn (now (block .entry))) (decode (now (block .entry)))) (holdOf baseSpeeds (timingIn (now (block .entry))) (chooseOrder baseSpeeds (timingIn (now (block .entry))) (decode (now (block .entry))))) ⌝ }
     ensures { λ _. ⌜ now (block .exit) ≡ encode (chooseOrder baseSpeeds (timingIn (now (block .entry))) (decode (now (block .entry)))) ⌝ }
 {
-    let c = chosen(block, keys, count_at(block));
+    let c = chosen(block, keys, count_at(block), highest);
     put_order(block, c);
     order_of(c, hold_of(c, next))
 }
 
 // The same where the next arrival is still to be found.
-pub fn choose(block: &mut [u8], keys: &[u64; 16]) -> Reply
-    requires { ⌜ Holds (now block) × (1 ≤ getD (now block) 6 0) × (encode (decode (now block)) ≡ now block) × Doable (decode (now block)) ⌝ }
+pub fn choose(block: &mut [u8], keys: &[u64; 16], highest: usize) -> Reply
+    requires { ⌜ Holds (now block) × (1 ≤ getD (now block) 6 0) × (encode (decode (now block)) ≡ now block) × Enough (decode (now block)) highest ⌝ }
     requires { ⌜ Keyed (timingIn (now block)) (decode (now block) .clock) (now keys) ⌝ }
     ensures { λ r. ⌜ r ≡ orderWith (chooseOrder baseSpeeds (timingIn (now (block .entry))) (decode (now (block .entry)))) (holdOf baseSpeeds (timingIn (now (block .entry))) (chooseOrder baseSpeeds (timingIn (now (block .entry))) (decode (now (block .entry))))) ⌝ }
     ensures { λ _. ⌜ now (block .exit) ≡ encode (chooseOrder baseSpeeds (timingIn (now (block .entry))) (decode (now (block .entry)))) ⌝ }
 {
     let next = next_arrival(keys, count_at(block), clock_at(block));
-    choose_until(block, keys, next)
+    choose_until(block, keys, highest, next)
 }

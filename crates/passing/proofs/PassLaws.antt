@@ -1,19 +1,17 @@
 -- What a pass makes of a state, and its order, are those of the definitions.
 -- Assumes nothing.
-use Prim.Native.Nat.{ℕ, zero, suc, _+_, _-_, _*_, _<_, _≤_, min}
+use Prim.Native.Nat.{ℕ, zero, suc, _+_, _-_, _<_, _≤_, min}
 use mathlib.Core.Path.{_≡_, refl, sym, ap, ap₂, subst, _∙_}
 use mathlib.Core.Bool.{Bool, true, false, not}
 use mathlib.Core.List.{List, _++_, append-nil}
-use native.Mathlib.Nat.{le-trans, mul-le-mul}
 use native.Mathlib.Decide.{ℕ-discrete}
 use native.Mathlib.Omega.{arith}
 use borrow.Author.Tests.{eq-eqb, ne-eqb}
+use lib.Dec.{eqb}
 use lib.ListN.{length, getD, drop}
 use lib.Seq.{drop-length}
 use Rattle.arith.specs.Choice.{pick}
 use Rattle.arith.specs.Need.{need}
-use Rattle.arith.proofs.Needs.{need-covers}
-use Rattle.arith.proofs.Tests.{passed, failed, tested}
 use Rattle.plan.specs.declared.Task.{Task}
 use Rattle.plan.specs.Levels.{baseSpeeds, speedOf, nominal}
 use Rattle.plan.specs.Blocks.{noTask}
@@ -35,10 +33,10 @@ use Rattle.reclaiming.specs.Questions.{largestClock, sound, stateSound, running
 use Rattle.reclaiming.specs.Calls.{repliedBy, passNumber, passOrder, passReply, passBytes}
 use Rattle.state.specs.Code.{Holds, entryIn, timingIn}
 use Rattle.urgency.specs.Code.{keyOf, noKey, dueAt, Keyed}
-use Rattle.orders.specs.Code.{choiceOf, holdBy, orderOf, Doable}
+use Rattle.orders.specs.Code.{choiceOf, holdBy, orderOf, Enough}
 use Rattle.soundness.specs.Code.{Good, testedBy}
 use Rattle.ticks.specs.Code.{Stepping, renewedKeys}
-use Rattle.reclaiming.proofs.Fine.{nominalSpeed, FineEntries, Accepted}
+use Rattle.reclaiming.proofs.Fine.{FineEntries, Accepted}
 use Rattle.reclaiming.proofs.StateCodec.{Storable, StorableEntry, decode-encode, length-encode}
 use Rattle.reclaiming.proofs.Soundness.{planIn-at, length-planIn, accepted, fine-storable}
 use Rattle.reclaiming.proofs.NextArrival.{next-arrives, before-next, next-on}
@@ -49,12 +47,44 @@ use Rattle.urgency.proofs.KeyLaws.{key-below, keyed-after, keyed-on}
 use Rattle.orders.proofs.OrderLaws.{hold-is}
 use Rattle.soundness.proofs.SoundLaws.{tested-sound}
 use Rattle.arith.proofs.ArrayLaws.{value-at}
-use Rattle.judging.proofs.LevelSpeeds.{speed-most}
-use Rattle.soundness.proofs.SoundFacts.{sound-plan, sound-facts, nominal-small, nominal-above, entries-few, period-some, sound-state, sound-size, count-some}
+use Rattle.soundness.proofs.SoundFacts.{sound-plan, sound-facts, nominal-small, entries-few, period-some, sound-state, sound-size, count-some}
 
--- work whose time at some speed is at most the ticks left is done in them at the top speed
-doable-at : (speed work left : ℕ) → 0 < speed → speed ≤ 100 → need speed work ≤ left → work ≤ left * 100
-doable-at speed work left h k e = le-trans (need-covers speed work h) (mul-le-mul e k)
+-- ticks from a sound block on, up to its next arrival
+pub record Reaching (bytes : List ℕ) (next d : ℕ) : Type 0 where
+  pub ok : sound baseSpeeds bytes ≡ true
+  pub some : 1 ≤ d
+  pub within : d ≤ next
+  pub arrival : next ≡ nextArrival (timingIn bytes) (decode bytes .clock)
+
+-- the periods of a sound state's tasks are above 0
+periods : (s : State) → stateSound baseSpeeds s ≡ true → (i : ℕ) → i < length (planIn s) → 0 < timing baseSpeeds (planIn s) .period i
+periods s ok i h = period-some s ok i (omega (arith, length-planIn s))
+
+module _ {bytes : List ℕ} {next d : ℕ} (k : Reaching bytes next d) where
+  abbrev s : State
+  s = decode bytes
+
+  abbrev arrives : Bool
+  arrives = someTo (timingIn bytes .count) (arrivesAt (timingIn bytes) (s .clock + d))
+
+  -- a job arrives exactly at the next arrival
+  arrives-then : eqb d next ≡ arrives
+  arrives-then =
+      let ok : stateSound baseSpeeds s ≡ true = sound-state bytes (k .ok) in
+      let some : 1 ≤ timingIn bytes .count = sound-plan s ok .count-low in
+      elim (ℕ-discrete d next) [
+        | yes e ↦ eq-eqb d next e ∙ sym (next-arrives (timingIn bytes) some (periods s ok) (s .clock) d (e ∙ k .arrival))
+        | no e ↦
+            ne-eqb d next e
+            ∙ sym (before-next (timingIn bytes) some (periods s ok) (s .clock) d (k .some) (omega (arith, k .arrival, k .within, e)))
+      ]
+
+  -- so an order is chosen anew if the job finished, or there
+  pub anew-finished : {finished : Bool} → finished ≡ true → true ≡ choosesAnew (timingIn bytes) s d finished
+  anew-finished f = sym (ap (λ (b : Bool). pick b true arrives) f)
+
+  pub anew-arrives : {finished : Bool} → finished ≡ false → eqb d next ≡ choosesAnew (timingIn bytes) s d finished
+  anew-arrives f = arrives-then ∙ sym (ap (λ (b : Bool). pick b true arrives) f)
 
 -- a pass from a sound state that the questions let through
 pub record Letting (s : State) (d : ℕ) (finished : Bool) : Type 0 where
@@ -73,29 +103,6 @@ module _ {s : State} {d : ℕ} {finished : Bool} (k : Letting s d finished) wher
 
   plan : FineList baseSpeeds (length (planIn s)) (planIn s)
   plan = sound-plan s (k .ok)
-
-  periods : (i : ℕ) → i < τ .count → 0 < τ .period i
-  periods i h = period-some s (k .ok) i (omega (arith, length-planIn s))
-
-  -- an order is chosen anew exactly if the job finished or the next arrival is reached
-  arrives : Bool
-  arrives = someTo (τ .count) (arrivesAt τ (s .clock + d))
-
-  anew-not : finished ≡ false → d < nextArrival τ (s .clock) → choosesAnew τ s d finished ≡ false
-  unfolding arrives
-  anew-not f h =
-      ap (λ (b : Bool). pick b true arrives) f
-      ∙ before-next τ (plan .count-low) periods (s .clock) d (lets .some) h
-
-  anew-arrives : finished ≡ false → nextArrival τ (s .clock) ≤ d → choosesAnew τ s d finished ≡ true
-  unfolding arrives
-  anew-arrives f h =
-      ap (λ (b : Bool). pick b true arrives) f
-      ∙ next-arrives τ (plan .count-low) periods (s .clock) d (omega (arith, lets .within))
-
-  anew-finished : finished ≡ true → choosesAnew τ s d finished ≡ true
-  unfolding arrives
-  anew-finished f = ap (λ (b : Bool). pick b true arrives) f
 
   -- the moved state is fine but for its order, so it fits its block
   moved-facts : FineEntries baseSpeeds (planIn s) moved
@@ -119,12 +126,14 @@ module _ {s : State} {d : ℕ} {finished : Bool} (k : Letting s d finished) wher
         entries = subst (λ (l : List Entry). (i : ℕ) → i < length l → StorableEntry (getD l i noEntry)) same (new .entries);
       }
 
-  moved-doable : Doable moved
-  moved-doable i h =
-      let w : i < length (planIn s) = omega (arith, moved-count, length-planIn s) in
-      doable-at (nominalSpeed baseSpeeds (planIn s)) (workOf moved i) (remainingOf moved i) (nominal-above s (k .ok))
-      (speed-most (nominal baseSpeeds (planIn s)) (speedOf baseSpeeds (nominal baseSpeeds (planIn s))) (nominal-small s (k .ok)) refl)
-      (moved-facts .ahead i w)
+  -- at the nominal level every job can be done in its ticks
+  moved-enough : {highest : ℕ} → highest ≡ nominal baseSpeeds (planIn s) → Enough moved highest
+  moved-enough e = record {
+    level = omega (arith, nominal-small s (k .ok));
+    each = λ i h.
+        subst (λ (level : ℕ). need (speedOf baseSpeeds level) (workOf moved i) ≤ remainingOf moved i) (sym e)
+        (moved-facts .ahead i (omega (arith, moved-count, length-planIn s)));
+  }
 
   -- the order where it stays, and where it is chosen anew
   abbrev ordered : Bool → Reply
@@ -154,6 +163,14 @@ module _ {bytes keys : List ℕ} {highest next d : ℕ} {finished : Bool} {c : C
     some = lets letting .some;
     within = lets letting .within;
     clock = lets letting .clock;
+  }
+
+  pub reaching : Reaching bytes next d
+  reaching = record {
+    ok = k .good .sound;
+    some = lets letting .some;
+    within = omega (arith, lets letting .within, k .arrival);
+    arrival = k .arrival;
   }
 
   hold-now : holdBy c next ≡ holdOf baseSpeeds (timingIn bytes) (decode bytes)
@@ -223,8 +240,8 @@ module _ {bytes keys : List ℕ} {highest next d : ℕ} {finished : Bool} {c : C
   pub after-again : encode (decode m) ≡ m
   after-again = ap encode back ∙ sym (k .moved)
 
-  pub after-does : Doable (decode m)
-  after-does = subst Doable (sym back) (moved-doable allowed)
+  pub after-enough : Enough (decode m) highest
+  after-enough = subst (λ (x : State). Enough x highest) (sym back) (moved-enough allowed (k .passing .good .nominal))
 
   -- keys at its clock are keys of its block
   keyed-then : (r : List ℕ) → Keyed T (start .clock + d) r → Keyed (timingIn m) (decode m .clock) r
@@ -266,31 +283,19 @@ module _ {bytes keys : List ℕ} {highest next d : ℕ} {finished : Bool} {c : C
     pub after-next : next - d ≡ nextArrival (timingIn m) (decode m .clock)
     after-next =
         ap (λ (x : ℕ). x - d) (k .passing .arrival)
-        ∙ sym (next-on T (plan allowed .count-low) (periods allowed) (start .clock) d before)
+        ∙ sym (next-on T (plan allowed .count-low) (periods start (allowed .ok)) (start .clock) d before)
         ∙ ap₂ nextArrival (sym same-timing) (sym clock-then)
 
-    -- and the order stays where the job goes on
-    module _ (f : finished ≡ false) where
-      pub kept-bytes : m ≡ encode (passedState baseSpeeds T start d finished)
-      kept-bytes = k .moved ∙ ap (λ (b : Bool). encode (pick b (chooseOrder baseSpeeds T then) then)) (sym (anew-not allowed f before))
+  -- an order stays, or is chosen
+  module _ (stays : choosesAnew T start d finished ≡ false) where
+    pub kept-bytes : m ≡ encode (passedState baseSpeeds T start d finished)
+    kept-bytes = k .moved ∙ ap (λ (b : Bool). encode (pick b (chooseOrder baseSpeeds T then) then)) (sym stays)
 
-      pub kept-reply : (hold : ℕ) → hold ≡ holdBy c next → (r : Reply) → r ≡ orderOf c (hold - d) → r ≡ passOrder baseSpeeds start d finished
-      kept-reply hold e r q =
-          q
-          ∙ ap₂ (λ (x : Choice) (y : ℕ). orderOf x (y - d)) (k .passing .order) (e ∙ hold-now (k .passing))
-          ∙ ap (ordered allowed) (sym (anew-not allowed f before))
-
-  -- an order is chosen where the job finished or the next arrival is reached
-  pub chosen-finished : finished ≡ true → choosesAnew T start d finished ≡ true
-  chosen-finished f = anew-finished allowed f
-
-  pub chosen-late : next ≤ d → choosesAnew T start d finished ≡ true
-  chosen-late h =
-      elim (tested finished) as (λ b _. finished ≡ b → choosesAnew T start d finished ≡ true) [
-        | passed ↦ λ f. chosen-finished f
-        | failed ↦ λ f. anew-arrives allowed f (omega (arith, k .passing .arrival))
-      ]
-      refl
+    pub kept-reply : (hold : ℕ) → hold ≡ holdBy c next → (r : Reply) → r ≡ orderOf c (hold - d) → r ≡ passOrder baseSpeeds start d finished
+    kept-reply hold e r q =
+        q
+        ∙ ap₂ (λ (x : Choice) (y : ℕ). orderOf x (y - d)) (k .passing .order) (e ∙ hold-now (k .passing))
+        ∙ ap (ordered allowed) (sym stays)
 
   module _ (anew : choosesAnew T start d finished ≡ true) where
     pub chosen-bytes : (l : List ℕ) → l ≡ encode (chooseOrder baseSpeeds (timingIn m) (decode m)) → l ≡ encode (passedState baseSpeeds T start d finished)

@@ -14,13 +14,14 @@ use ticks::move_on;
 use ticks::renewed;
 use urgency::next_arrival;
 ghost use mathlib.Core.Path.{_≡_};
+ghost use mathlib.Core.Bool.{true};
 ghost use Prim.Native.Nat.{_≤_};
 ghost use Rattle.plan.specs.Levels.{baseSpeeds};
 ghost use Rattle.arith.specs.Asking.{firstNo};
 ghost use Rattle.reclaiming.specs.StateBlock.{encode, decode};
 ghost use Rattle.reclaiming.specs.Orders.{nextArrival};
-ghost use Rattle.reclaiming.specs.Passes.{passedState};
-ghost use Rattle.reclaiming.specs.Questions.{largestClock, passQuestions};
+ghost use Rattle.reclaiming.specs.Passes.{choosesAnew, passedState};
+ghost use Rattle.reclaiming.specs.Questions.{largestClock, sound, passQuestions};
 ghost use Rattle.reclaiming.specs.Calls.{passOrder, passReply, passBytes};
 ghost use Rattle.state.specs.Code.{timingIn};
 ghost use Rattle.orders.specs.Code.{choiceOf};
@@ -70,6 +71,18 @@ fn pass_number(clock: Clock, c: Choice, next: u32, d: u32, finished: bool) -> u3
     0
 }
 
+// Whether an order is chosen anew after d ticks, of which the block knows nothing yet: the job finished, or one arrives.
+fn chooses_anew(block: &[u8], next: u32, d: u32, finished: bool) -> bool
+    requires { ⌜ (sound baseSpeeds (now block) ≡ true) × (1 ≤ d) × (d ≤ next) ⌝ }
+    requires { ⌜ next ≡ nextArrival (timingIn (now block)) (decode (now block) .clock) ⌝ }
+    ensures { λ r. ⌜ r ≡ choosesAnew (timingIn (now (block .entry))) (decode (now (block .entry))) d finished ⌝ }
+{
+    if finished {
+        return true;
+    }
+    d == next
+}
+
 // A pass that the questions let through: the state after it, and its order.
 fn passed(
     block: &mut [u8],
@@ -86,15 +99,16 @@ fn passed(
     ensures { λ r. ⌜ r ≡ passOrder baseSpeeds (decode (now (block .entry))) d finished ⌝ }
     ensures { λ _. ⌜ now (block .exit) ≡ encode (passedState baseSpeeds (timingIn (now (block .entry))) (decode (now (block .entry))) d finished) ⌝ }
 {
+    let anew = chooses_anew(block, next, d, finished);
     move_on(block, keys, c, highest, next, d, finished);
-    if d < next {
-        if finished {
-            return choose_until(block, keys, next - d);
-        }
+    if !anew {
         return order_of(c, hold_of(c, next) - d);
     }
+    if d < next {
+        return choose_until(block, keys, highest, next - d);
+    }
     let u = renewed(block, keys, count_at(block), clock_at(block));
-    choose(block, &u)
+    choose(block, &u, highest)
 }
 
 // A pass over the state in a block. Refused, it leaves every byte; accepted, the block holds the state after it.

@@ -20,7 +20,9 @@ count-at-requires : tie.Need-count-at-requires
 count-at-requires c κs = search needs
 
 chosen-requires : tie.Need-chosen-requires
-chosen-requires c κs = search needs
+chosen-requires c κs =
+    let s : tie.Start = c .before .before .before in
+    ((s .pre .0 .0, c .count-at .ensures, s .pre .0 .2), s .pre .1 .0)
 
 put-order-requires : tie.Need-put-order-requires
 put-order-requires c κs = search needs

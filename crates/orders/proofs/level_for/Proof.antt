@@ -10,10 +10,11 @@ use Rattle.orders.proofs.level_for.Statement.{statement}
 use Rattle.orders.proofs.level_for.Tie as tie
 
 abbrev Inv-loop : tie.InvT-loop
-Inv-loop work allowed low₀ high₀ low high = (low ≤ lowestLevel baseSpeeds work allowed) × (lowestLevel baseSpeeds work allowed ≤ high) × (high ≤ 8)
+Inv-loop work allowed highest low₀ high₀ low high =
+    (low ≤ lowestLevel baseSpeeds work allowed) × (lowestLevel baseSpeeds work allowed ≤ high) × (high ≤ highest)
 
 abbrev μ-loop : tie.MeasureT-loop
-μ-loop work allowed low₀ high₀ low high = high - low
+μ-loop work allowed highest low₀ high₀ low high = high - low
 
 -- the level that a turn tries
 abbrev turn : tie.After-speed-of Inv-loop μ-loop → tie.At-loop Inv-loop μ-loop
@@ -25,7 +26,7 @@ tried :
 tried c = record { low = omega arith; speed-is = c .speed-of .ensures }
 
 loop-holds : tie.Need-loop-holds Inv-loop μ-loop
-loop-holds c = (omega arith, level-most (c .args .work) (c .args .allowed), omega arith)
+loop-holds c = (omega arith, level-most (c .args .work) (c .args .allowed) (c .args .highest) (c .pre .1) (c .pre .2), omega arith)
 
 add-middle : tie.Need-add-middle Inv-loop μ-loop
 add-middle c = omega arith
@@ -34,13 +35,13 @@ speed-of-requires : tie.Need-speed-of-requires Inv-loop μ-loop
 speed-of-requires c κs = omega arith
 
 mul-if1 : tie.Need-mul-if1 Inv-loop μ-loop
-mul-if1 c = omega (arith, tried-fits (tried c) (turn c .before .pre))
+mul-if1 c = omega (arith, tried-fits (tried c) (turn c .before .pre .0))
 
 loop-less : tie.Need-loop-less Inv-loop μ-loop
 loop-less c = omega arith
 
 loop-again : tie.Need-loop-again Inv-loop μ-loop
-loop-again c = (turn (c .before) .loop .inv .0, level-high (tried (c .before)) (c .if1 .taken), omega arith)
+loop-again c = (turn (c .before) .loop .inv .0, level-high (tried (c .before)) (omega (arith, c .if1 .taken)), omega arith)
 
 add-low : tie.Need-add-low Inv-loop μ-loop
 add-low c = omega arith
@@ -49,7 +50,7 @@ loop-less-2 : tie.Need-loop-less-2 Inv-loop μ-loop
 loop-less-2 c = omega arith
 
 loop-again-2 : tie.Need-loop-again-2 Inv-loop μ-loop
-loop-again-2 c = (level-low (tried (c .before)) (c .if1 .left), turn (c .before) .loop .inv .1, omega arith)
+loop-again-2 c = (level-low (tried (c .before)) (omega (arith, c .if1 .left)), turn (c .before) .loop .inv .1, omega arith)
 
 returns : tie.Need-returns Inv-loop μ-loop
 returns c = (omega arith, omega arith)

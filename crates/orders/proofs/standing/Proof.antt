@@ -32,7 +32,7 @@ returns : tie.Need-returns
 returns c = standing-idle (c .before .before .before .before .args .block .now) (c .if1 .taken)
 
 work-at-requires : tie.Need-work-at-requires
-work-at-requires c κs = (standing-task (runs c), runs c .holds .size)
+work-at-requires c κs = (omega (arith, standing-task (runs c), standing-level (runs c)), runs c .holds .size)
 
 running-order-requires : tie.Need-running-order-requires
 running-order-requires c κs = (standing-task (runs (c .before)), standing-level (runs (c .before)))

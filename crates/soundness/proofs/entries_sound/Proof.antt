@@ -25,7 +25,7 @@ loop-holds : tie.Need-loop-holds Inv-loop μ-loop
 loop-holds c = record { holds = c .before .pre .0; same = c .before .pre .1; below = omega arith; decide = refl }
 
 entry-sound-requires : tie.Need-entry-sound-requires Inv-loop μ-loop
-entry-sound-requires c κs = (turn-few c, c .before .loop .inv .holds .size, start (c .before) .pre .2, start (c .before) .pre .3)
+entry-sound-requires c κs = (omega (arith, turn-few c), c .before .loop .inv .holds .size, start (c .before) .pre .2, start (c .before) .pre .3)
 
 returns : tie.Need-returns Inv-loop μ-loop
 returns c =

@@ -1,7 +1,6 @@
 -- `order_sound` meets its contract, by each way out.
 -- Assumes nothing.
 use Prim.Native.Nat.{ℕ}
-use mathlib.Core.Path.{_∙_}
 use mathlib.Core.List.{List}
 use native.Mathlib.Omega.{arith}
 use borrow.Author.Needs.{needs}
@@ -41,14 +40,14 @@ told :
     (c : tie.After-task-in) →
     let a : tie.After-most-urgent = asked c in
     Told (block (start a)) (keys (start a)) (start a .args .count) (a .most-urgent .result) (c .task-in .result)
-told c = record { looked = looked (asked c); some = c .before .if1 .left; task = c .task-in .ensures .0 }
+told c = record { looked = looked (asked c); some = λ e. omega (arith, c .before .if1 .left, e); task = c .task-in .ensures .0 }
 
 runs :
     (c : tie.Else3) →
     Told (block (begun c)) (keys (begun c)) (begun c .args .count) (asked (c .before) .most-urgent .result) (getD (block (begun c)) 4 0)
 runs c =
     let k = told (c .before) in
-    record { looked = k .looked; some = k .some; task = c .if3 .left ∙ k .task }
+    record { looked = k .looked; some = k .some; task = omega (arith, c .if3 .left, k .task) }
 
 abbrev fast : tie.After-allowance-of → tie.Else4
 fast c = c .before .before .before
@@ -61,7 +60,7 @@ weighed :
 weighed c = record {
   read = record { told = runs (fast c .before); work-in = c .before .before .work-at .ensures .0; allowed-in = c .allowance-of .ensures .0 };
   top = begun (fast c .before) .pre .0 .2;
-  low = fast c .if4 .left;
+  low = omega (arith, fast c .if4 .left);
   speed-is = c .before .speed-of .ensures;
 }
 
@@ -85,12 +84,12 @@ most-urgent-requires c κs =
 returns : tie.Need-returns
 returns c =
     let a : tie.After-most-urgent = c .before .before in
-    not-idle (looked a) (start a .args .highest) (c .before .if1 .taken) (c .if2 .taken)
+    not-idle (looked a) (start a .args .highest) (omega (arith, c .before .if1 .taken)) (λ e. omega (arith, c .if2 .taken, e))
 
 returns-2 : tie.Need-returns-2
 returns-2 c =
     let a : tie.After-most-urgent = c .before .before in
-    idle-level (looked a) (start a .args .highest) (c .before .if1 .taken) (c .if2 .left)
+    idle-level (looked a) (start a .args .highest) (omega (arith, c .before .if1 .taken)) (omega (arith, c .if2 .left))
 
 task-in-requires : tie.Need-task-in-requires
 task-in-requires c κs = search needs

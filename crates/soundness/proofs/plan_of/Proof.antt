@@ -32,7 +32,7 @@ turn-few : (c : tie.In-loop Inv-loop μ-loop) → c .before .loop .i < 16
 turn-few c = omega (arith, c .loop-test .taken, c .before .loop .inv .holds .few, c .before .loop .inv .same)
 
 period-at-requires : tie.Need-period-at-requires Inv-loop μ-loop
-period-at-requires c κs = (turn-few c, c .before .loop .inv .holds .size)
+period-at-requires c κs = (omega (arith, turn-few c), c .before .loop .inv .holds .size)
 
 worst-at-requires : tie.Need-worst-at-requires Inv-loop μ-loop
 worst-at-requires c κs = (turn-few (c .before), c .before .before .loop .inv .holds .size)

@@ -38,7 +38,7 @@ not-sound-requires-2 : tie.Need-not-sound-requires-2
 not-sound-requires-2 c κs = search needs
 
 returns-2 : tie.Need-returns-2
-returns-2 c = count-none (start (c .before .before .before) .args .block .now) (c .before .if2 .taken) (c .not-sound2 .ensures)
+returns-2 c = count-none (start (c .before .before .before) .args .block .now) (omega (arith, c .before .if2 .taken)) (c .not-sound2 .ensures)
 
 not-sound-requires-3 : tie.Need-not-sound-requires-3
 not-sound-requires-3 c κs = search needs

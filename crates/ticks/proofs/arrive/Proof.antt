@@ -1,7 +1,7 @@
 -- `arrive` meets its contract. The tasks below i have had their turn.
 -- Assumes nothing.
 use Prim.Native.Nat.{_-_}
-use mathlib.Core.Path.{sym, _∙_}
+use mathlib.Core.Path.{_∙_}
 use mathlib.Core.Logic.{⊎-elim}
 use native.Mathlib.Omega.{arith}
 use borrow.Author.Needs.{needs}
@@ -40,8 +40,8 @@ loop-again : tie.Need-loop-again Inv-loop μ-loop
 loop-again c =
     let e : tie.In-loop Inv-loop μ-loop = c .before .before .before in
     ⊎-elim
-    (λ w. arrive-new (e .before .loop .inv) (e .loop-test .taken) (sym (c .before .deadline-in .ensures) ∙ w .0 .taken) (w .5 ∙ w .2 .ensures))
-    (λ w. arrive-old (e .before .loop .inv) (e .loop-test .taken) (λ z. w .0 .left (c .before .deadline-in .ensures ∙ z)) (w .1))
+    (λ w. arrive-new (e .before .loop .inv) (e .loop-test .taken) (omega (arith, c .before .deadline-in .ensures, w .0 .taken)) (w .5 ∙ w .2 .ensures))
+    (λ w. arrive-old (e .before .loop .inv) (e .loop-test .taken) (λ z. omega (arith, c .before .deadline-in .ensures, w .0 .left, z)) (w .1))
     (c .if1 .came)
 
 same-length : tie.Need-same-length Inv-loop μ-loop

@@ -63,7 +63,7 @@ after-requires : tie.Need-after-requires
 after-requires c κs = omega (arith, moving (c .before .before .before) .step .clock, c .new .ensures, c .before .clock-at .ensures)
 
 speed-of-requires : tie.Need-speed-of-requires
-speed-of-requires c κs = highest-small (moving (c .before .before .before .before))
+speed-of-requires c κs = omega (arith, highest-small (moving (c .before .before .before .before)))
 
 drain-requires : tie.Need-drain-requires
 drain-requires c κs =

@@ -1,7 +1,7 @@
 -- `renewed` meets its contract. The keys of the tasks below i are made.
 -- Assumes nothing.
 use Prim.Native.Nat.{_-_}
-use mathlib.Core.Path.{refl, sym, _∙_}
+use mathlib.Core.Path.{refl}
 use mathlib.Core.Logic.{⊎-elim}
 use native.Mathlib.Omega.{arith}
 use borrow.Author.Needs.{needs}
@@ -59,9 +59,9 @@ loop-again c =
     let e : tie.In-loop Inv-loop μ-loop = c .before .before .before in
     ⊎-elim
     (λ w.
-    renewed-new (e .before .loop .inv) (e .loop-test .taken) (sym (c .before .deadline-in .ensures) ∙ w .0 .taken)
+    renewed-new (e .before .loop .inv) (e .loop-test .taken) (omega (arith, c .before .deadline-in .ensures, w .0 .taken))
     (w .1 .ensures .0) (w .2 .ensures) _ (w .3))
-    (λ w. renewed-old (e .before .loop .inv) (e .loop-test .taken) (λ z. w .0 .left (c .before .deadline-in .ensures ∙ z)) (w .1))
+    (λ w. renewed-old (e .before .loop .inv) (e .loop-test .taken) (λ z. omega (arith, c .before .deadline-in .ensures, w .0 .left, z)) (w .1))
     (c .if1 .came)
 
 returns : tie.Need-returns Inv-loop μ-loop

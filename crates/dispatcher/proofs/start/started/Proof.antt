@@ -55,7 +55,9 @@ slice-aggregate-choose : tie.Need-slice-aggregate-choose
 slice-aggregate-choose c = search needs
 
 choose-requires : tie.Need-choose-requires
-choose-requires c κs = new-ready (new (fresh c)) (sym (count-is (accepted (start (fresh c)) .plan))) (c .before .before .keys-of .ensures)
+choose-requires c κs =
+    let s : tie.Start = start (fresh c) in
+    new-ready (new (fresh c)) (sym (count-is (accepted s .plan))) (c .before .before .keys-of .ensures) (s .args .highest) (s .pre .1)
 
 slice-aggregate-store : tie.Need-slice-aggregate-store
 slice-aggregate-store c = search needs
