@@ -8,6 +8,12 @@ use borrow.Author.Needs.{needs}
 use Rattle.dispatcher_calls.proofs.kilmstra_show.Statement.{statement}
 use Rattle.dispatcher_calls.proofs.kilmstra_show.Tie as tie
 
+-- first, so that a wrong answer is refused here
+returns : tie.Need-returns
+returns c =
+    let shown = c .before .before .before in
+    (c .written-number .ensures ∙ ap writtenNumber (shown .show .ensures .0), shown .show .ensures .1)
+
 show-requires : tie.Need-show-requires
 show-requires c κs = search needs
 
@@ -19,11 +25,6 @@ written-number-requires c κs =
 
 same-length : tie.Need-same-length
 same-length c = search needs
-
-returns : tie.Need-returns
-returns c =
-    let shown = c .before .before .before in
-    (c .written-number .ensures ∙ ap writtenNumber (shown .show .ensures .0), shown .show .ensures .1)
 
 pub kilmstra-show-spec : {M : Type 1} → statement M
 kilmstra-show-spec = tie.close (tie.spec show-requires written-number-requires same-length returns)

@@ -8,6 +8,12 @@ use borrow.Author.Needs.{needs}
 use Rattle.dispatcher_calls.proofs.kilmstra_start.Statement.{statement}
 use Rattle.dispatcher_calls.proofs.kilmstra_start.Tie as tie
 
+-- first, so that a wrong answer is refused here
+returns : tie.Need-returns
+returns c =
+    let started = c .before .before .before in
+    (c .reply-number .ensures ∙ ap replyNumber (started .start .ensures .0), started .start .ensures .1)
+
 start-requires : tie.Need-start-requires
 start-requires c κs = search needs
 
@@ -19,11 +25,6 @@ reply-number-requires c κs =
 
 same-length : tie.Need-same-length
 same-length c = search needs
-
-returns : tie.Need-returns
-returns c =
-    let started = c .before .before .before in
-    (c .reply-number .ensures ∙ ap replyNumber (started .start .ensures .0), started .start .ensures .1)
 
 pub kilmstra-start-spec : {M : Type 1} → statement M
 kilmstra-start-spec = tie.close (tie.spec start-requires reply-number-requires same-length returns)

@@ -6,13 +6,13 @@ use Rattle.judging.proofs.task_in_range.Statement.{statement}
 use Rattle.judging.proofs.task_in_range.Tie as tie
 
 returns : tie.Need-returns
-returns c = period-low (c .before .before .args .t) (c .if1 .taken)
+returns c = period-low (c .before .before .args .t) (omega arith)
 
 returns-2 : tie.Need-returns-2
 returns-2 c = period-high (c .before .before .before .before .args .t) (omega arith)
 
 returns-3 : tie.Need-returns-3
-returns-3 c = worst-low (c .before .before .before .before .before .before .args .t) (omega arith) (omega arith) (c .if3 .taken)
+returns-3 c = worst-low (c .before .before .before .before .before .before .args .t) (omega arith) (omega arith) (omega arith)
 
 returns-4 : tie.Need-returns-4
 returns-4 c = worst-high (c .before .before .before .before .before .before .before .args .t) (omega arith) (omega arith) (omega arith)

@@ -3,6 +3,7 @@
 use mathlib.Core.Path.{sym, _∙_}
 use mathlib.Core.List.{List}
 use Prim.Native.Nat.{ℕ}
+use native.Mathlib.Omega.{arith}
 use borrow.Author.Needs.{needs}
 use Rattle.plan.specs.Levels.{baseSpeeds}
 use Rattle.plan_block.proofs.Codec.{Opened, Counted, read-short, read-edition, read-low, read-high, read-size}
@@ -70,7 +71,7 @@ refused-requires-5 c κs = search needs
 returns-5 : tie.Need-returns-5
 returns-5 c =
     let wanted = c .before .before in
-    read-size baseSpeeds (counted (wanted .before)) (c .refused5 .ensures) (wanted .block-length .ensures) (c .before .if5 .taken)
+    read-size baseSpeeds (counted (wanted .before)) (c .refused5 .ensures) (wanted .block-length .ensures) (λ e. omega (arith, c .before .if5 .taken, e))
 
 read-counted-requires : tie.Need-read-counted-requires
 read-counted-requires c κs = search needs

@@ -8,6 +8,12 @@ use borrow.Author.Needs.{needs}
 use Rattle.plan_calls.proofs.kilmstra_plan_copy.Statement.{statement}
 use Rattle.plan_calls.proofs.kilmstra_plan_copy.Tie as tie
 
+-- first, so that a wrong answer is refused here
+returns : tie.Need-returns
+returns c =
+    let copied = c .before .before .before in
+    (c .written-number .ensures ∙ ap writtenNumber (copied .copy .ensures .0), copied .copy .ensures .1)
+
 copy-requires : tie.Need-copy-requires
 copy-requires c κs = search needs
 
@@ -19,11 +25,6 @@ written-number-requires c κs =
 
 same-length : tie.Need-same-length
 same-length c = search needs
-
-returns : tie.Need-returns
-returns c =
-    let copied = c .before .before .before in
-    (c .written-number .ensures ∙ ap writtenNumber (copied .copy .ensures .0), copied .copy .ensures .1)
 
 pub kilmstra-plan-copy-spec : {M : Type 1} → statement M
 kilmstra-plan-copy-spec =

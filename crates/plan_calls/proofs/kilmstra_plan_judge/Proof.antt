@@ -11,6 +11,13 @@ use borrow.Author.Needs.{needs}
 use Rattle.plan_calls.proofs.kilmstra_plan_judge.Statement.{statement}
 use Rattle.plan_calls.proofs.kilmstra_plan_judge.Tie as tie
 
+-- first, so that a wrong answer is refused here
+returns : tie.Need-returns
+returns c =
+    c .verdict-number .ensures
+    ∙ ap (λ (j : Judged). verdictNumber (j .verdict)) (c .before .judge .ensures)
+    ∙ ap (λ (p : Plan). verdictNumber (judgedPlan baseSpeeds p .verdict)) (c .before .before .plan-from .ensures)
+
 plan-from-requires : tie.Need-plan-from-requires
 plan-from-requires c κs = search needs
 
@@ -19,12 +26,6 @@ judge-requires c κs = search needs
 
 verdict-number-requires : tie.Need-verdict-number-requires
 verdict-number-requires c κs = judged-most (c .before .plan-from .result) (c .judge .ensures)
-
-returns : tie.Need-returns
-returns c =
-    c .verdict-number .ensures
-    ∙ ap (λ (j : Judged). verdictNumber (j .verdict)) (c .before .judge .ensures)
-    ∙ ap (λ (p : Plan). verdictNumber (judgedPlan baseSpeeds p .verdict)) (c .before .before .plan-from .ensures)
 
 pub kilmstra-plan-judge-spec : {M : Type 1} → statement M
 kilmstra-plan-judge-spec =

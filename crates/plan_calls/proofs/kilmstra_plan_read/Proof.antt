@@ -8,14 +8,17 @@ use borrow.Author.Needs.{needs}
 use Rattle.plan_calls.proofs.kilmstra_plan_read.Statement.{statement}
 use Rattle.plan_calls.proofs.kilmstra_plan_read.Tie as tie
 
+-- first, so that a wrong answer is refused here
+returns : tie.Need-returns
+returns c =
+    let done : tie.After-read = search in
+    c .verdict-number .ensures ∙ ap (λ (j : Judged). verdictNumber (j .verdict)) (done .read .ensures)
+
 read-requires : tie.Need-read-requires
 read-requires c κs = search needs
 
 verdict-number-requires : tie.Need-verdict-number-requires
 verdict-number-requires c κs = read-most (c .before .before .args .block .now) (c .read .ensures)
-
-returns : tie.Need-returns
-returns c = c .verdict-number .ensures ∙ ap (λ (j : Judged). verdictNumber (j .verdict)) (c .before .read .ensures)
 
 pub kilmstra-plan-read-spec : {M : Type 1} → statement M
 kilmstra-plan-read-spec = tie.close (tie.spec read-requires verdict-number-requires returns)

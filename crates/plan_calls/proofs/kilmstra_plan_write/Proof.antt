@@ -11,6 +11,18 @@ use borrow.Author.Needs.{needs}
 use Rattle.plan_calls.proofs.kilmstra_plan_write.Statement.{statement}
 use Rattle.plan_calls.proofs.kilmstra_plan_write.Tie as tie
 
+-- first, so that a wrong answer is refused here
+returns : tie.Need-returns
+returns c =
+    let wrote = c .before .before .before in
+    let plan = wrote .before .before in
+    let buffer = plan .before .before .before .args .buffer .now in (
+      c .written-number .ensures
+          ∙ ap writtenNumber (wrote .write .ensures .0)
+          ∙ ap (λ (p : Plan). writtenNumber (writePlan baseSpeeds p (length buffer))) (plan .plan-from .ensures),
+      wrote .write .ensures .1 ∙ ap (λ (p : Plan). writeBuffer baseSpeeds p buffer) (plan .plan-from .ensures),
+    )
+
 plan-from-requires : tie.Need-plan-from-requires
 plan-from-requires c κs = search needs
 
@@ -25,17 +37,6 @@ written-number-requires c κs =
 
 same-length : tie.Need-same-length
 same-length c = search needs
-
-returns : tie.Need-returns
-returns c =
-    let wrote = c .before .before .before in
-    let plan = wrote .before .before in
-    let buffer = plan .before .before .before .args .buffer .now in (
-      c .written-number .ensures
-          ∙ ap writtenNumber (wrote .write .ensures .0)
-          ∙ ap (λ (p : Plan). writtenNumber (writePlan baseSpeeds p (length buffer))) (plan .plan-from .ensures),
-      wrote .write .ensures .1 ∙ ap (λ (p : Plan). writeBuffer baseSpeeds p buffer) (plan .plan-from .ensures),
-    )
 
 pub kilmstra-plan-write-spec : {M : Type 1} → statement M
 kilmstra-plan-write-spec =

@@ -45,8 +45,8 @@ loop-again c =
     let turn : tie.In-loop Inv-loop μ-loop = read .before in
     ⊎-elim
     (λ w.
-    allowed-more (turn .before .loop .inv) (turn .loop-test .taken) (w .0 .taken) (read .remaining-at .ensures .0) (read .remaining-at .ensures .1) (w .1))
-    (λ w. allowed-same (turn .before .loop .inv) (turn .loop-test .taken) (w .0 .left) (w .1))
+    allowed-more (turn .before .loop .inv) (turn .loop-test .taken) (omega (arith, w .0 .taken)) (read .remaining-at .ensures .0) (read .remaining-at .ensures .1) (w .1))
+    (λ w. allowed-same (turn .before .loop .inv) (turn .loop-test .taken) (omega (arith, w .0 .left)) (w .1))
     (c .if1 .came)
 
 returns : tie.Need-returns Inv-loop μ-loop

@@ -8,14 +8,15 @@ use Rattle.plan_calls.proofs.Packing.{judged-most}
 use Rattle.plan_calls.proofs.lists.judged_number.Statement.{statement}
 use Rattle.plan_calls.proofs.lists.judged_number.Tie as tie
 
+-- first, so that a wrong answer is refused here
+returns : tie.Need-returns
+returns c = c .verdict-number .ensures ∙ ap (λ (j : Judged). verdictNumber (j .verdict)) (c .before .judge .ensures)
+
 judge-requires : tie.Need-judge-requires
 judge-requires c κs = search needs
 
 verdict-number-requires : tie.Need-verdict-number-requires
 verdict-number-requires c κs = judged-most (c .before .args .p) (c .judge .ensures)
-
-returns : tie.Need-returns
-returns c = c .verdict-number .ensures ∙ ap (λ (j : Judged). verdictNumber (j .verdict)) (c .before .judge .ensures)
 
 pub judged-number-spec : {M : Type 1} → statement M
 judged-number-spec = tie.close (tie.spec judge-requires verdict-number-requires returns)
