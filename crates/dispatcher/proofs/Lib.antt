@@ -1,3 +1,1 @@
-pub mod ShowLaws
-pub mod StartLaws
 pub mod PlaySteps

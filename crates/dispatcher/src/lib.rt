@@ -1,4 +1,2 @@
-// The dispatcher: starting, showing, and whole runs.
+// The dispatcher: whole runs on lent blocks.
 pub mod play;
-pub mod show;
-pub mod start;

@@ -1,10 +1,10 @@
 // A whole list of passes played on lent blocks: the run of demand 3, from its start to its last reply.
-use crate::show::show;
-use crate::start::start;
 use answers::reply_number;
 use passing::pass;
 use plan::Written;
 use reclaiming::Reply;
+use showing::show;
+use starting::start;
 ghost use mathlib.Core.Path.{_≡_};
 ghost use mathlib.Core.List.{_++_};
 ghost use lib.ListN.{length, drop};

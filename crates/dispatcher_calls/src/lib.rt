@@ -1,9 +1,9 @@
 // The dispatcher's calls, for C and for tests: on numbers and lent slices, an answer packed into one number.
 use answers::reply_number;
 use answers::written_number;
-use dispatcher::show::show;
-use dispatcher::start::start;
 use passing::pass;
+use showing::show;
+use starting::start;
 ghost use mathlib.Core.Path.{_≡_};
 ghost use lib.ListN.{length};
 ghost use Rattle.plan.specs.Levels.{baseSpeeds};

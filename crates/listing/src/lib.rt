@@ -2,11 +2,11 @@
 pub mod passes;
 
 use crate::passes::pass_lines;
-use dispatcher::start::start;
 use lines::plan_line;
 use lines::refused_line;
 use lines::reply_line;
 use plan::Verdict;
+use starting::start;
 ghost use mathlib.Core.Path.{_≡_};
 ghost use mathlib.Core.List.{_++_};
 ghost use Prim.Native.Nat.{_+_, _≤_};

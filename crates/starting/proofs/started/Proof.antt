@@ -7,9 +7,9 @@ use lib.ListN.{length}
 use Rattle.arith.proofs.Loops.{length-mapped}
 use Rattle.plan.specs.Blocks.{tasksOf}
 use Rattle.judging.proofs.Judgements.{count-is}
-use Rattle.dispatcher.proofs.StartLaws.{left-short, Planned, planned, level-below, speed-some, Newly, newly, new-size, new-periods, new-ready, new-left}
-use Rattle.dispatcher.proofs.start.started.Statement.{statement}
-use Rattle.dispatcher.proofs.start.started.Tie as tie
+use Rattle.starting.proofs.StartLaws.{left-short, Planned, planned, level-below, speed-some, Newly, newly, new-size, new-periods, new-ready, new-left}
+use Rattle.starting.proofs.started.Statement.{statement}
+use Rattle.starting.proofs.started.Tie as tie
 
 size : (c : tie.Start) → length (c .args .p .tasks) ≡ 16
 size c = search (length-mapped, needs)

@@ -6,9 +6,9 @@ use native.Mathlib.Omega.{arith}
 use borrow.Author.Needs.{needs}
 use lib.ListN.{length, getD, length-set}
 use Rattle.state.proofs.BlockLaws.{remainingIn}
-use Rattle.dispatcher.proofs.ShowLaws.{ShownTo, shown-more, shown-all}
-use Rattle.dispatcher.proofs.show.put_queue.Statement.{statement}
-use Rattle.dispatcher.proofs.show.put_queue.Tie as tie
+use Rattle.showing.proofs.ShowLaws.{ShownTo, shown-more, shown-all}
+use Rattle.showing.proofs.put_queue.Statement.{statement}
+use Rattle.showing.proofs.put_queue.Tie as tie
 
 abbrev Inv-loop : tie.InvT-loop
 Inv-loop buffer₀ state q len k₀ buffer k = ShownTo (remainingIn state) (q .tasks) (q .len) buffer₀ buffer k

@@ -1,9 +1,9 @@
 -- `start` meets its contract: the block is refused, or its plan is started.
 -- Assumes nothing.
 use borrow.Author.Needs.{needs}
-use Rattle.dispatcher.proofs.StartLaws.{Admitted, start-unread, start-read, start-left}
-use Rattle.dispatcher.proofs.start.start.Statement.{statement}
-use Rattle.dispatcher.proofs.start.start.Tie as tie
+use Rattle.starting.proofs.StartLaws.{Admitted, start-unread, start-read, start-left}
+use Rattle.starting.proofs.start.Statement.{statement}
+use Rattle.starting.proofs.start.Tie as tie
 
 -- the places that others are reached from
 abbrev begun : tie.After-p → tie.Start

@@ -6,9 +6,9 @@ use native.Mathlib.Omega.{arith}
 use borrow.Author.Needs.{needs}
 use lib.ListN.{length}
 use Rattle.arith.proofs.Loops.{length-mapped}
-use Rattle.dispatcher.proofs.StartLaws.{Making, making-none, making-more, making-all}
-use Rattle.dispatcher.proofs.start.fresh.Statement.{statement}
-use Rattle.dispatcher.proofs.start.fresh.Tie as tie
+use Rattle.starting.proofs.StartLaws.{Making, making-none, making-more, making-all}
+use Rattle.starting.proofs.fresh.Statement.{statement}
+use Rattle.starting.proofs.fresh.Tie as tie
 
 abbrev Inv-loop : tie.InvT-loop
 Inv-loop speed p count image₀ i₀ image i = Making speed p image i

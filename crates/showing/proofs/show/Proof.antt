@@ -8,9 +8,9 @@ use borrow.Author.Tests.{not-true, not-false}
 use Rattle.soundness.specs.Code.{Good}
 use Rattle.soundness.proofs.SoundLaws.{tested-good}
 use Rattle.urgency.proofs.ReadySteps.{listed-few, listed-below}
-use Rattle.dispatcher.proofs.ShowLaws.{Showing, show-unsound, show-short, show-stored}
-use Rattle.dispatcher.proofs.show.show.Statement.{statement}
-use Rattle.dispatcher.proofs.show.show.Tie as tie
+use Rattle.showing.proofs.ShowLaws.{Showing, show-unsound, show-short, show-stored}
+use Rattle.showing.proofs.show.Statement.{statement}
+use Rattle.showing.proofs.show.Tie as tie
 
 -- the places that others are reached from
 abbrev start : tie.After-test-block → tie.Start

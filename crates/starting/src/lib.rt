@@ -20,7 +20,7 @@ ghost use Rattle.reclaiming.specs.StateBlock.{encode};
 ghost use Rattle.reclaiming.specs.Passes.{startState};
 ghost use Rattle.reclaiming.specs.Questions.{stateLength};
 ghost use Rattle.reclaiming.specs.Calls.{repliedBy, startOrder, startReply, startBuffer};
-ghost use Rattle.dispatcher.specs.Code.{newState};
+ghost use Rattle.starting.specs.Code.{newState};
 
 // The image of a state at clock 0, with no entries yet.
 fn blank(count: usize) -> [u8; 200]

@@ -37,7 +37,7 @@ use Rattle.state.specs.Code.{Holds, entryIn, timingIn}
 use Rattle.urgency.specs.Code.{latestKey, keysIn, Keyed}
 use Rattle.arith.proofs.ArrayLaws.{value-at}
 use Rattle.orders.specs.Code.{Enough}
-use Rattle.dispatcher.specs.Code.{newState}
+use Rattle.starting.specs.Code.{newState}
 use Rattle.reclaiming.proofs.Fine.{Fine, nominalSpeed}
 use Rattle.reclaiming.proofs.Plans.{task-range}
 use Rattle.reclaiming.proofs.StateCodec.{Storable, StorableEntry, length-encode, length-entriesBytes, decode-encode}
