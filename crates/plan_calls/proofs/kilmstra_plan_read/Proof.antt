@@ -18,7 +18,9 @@ read-requires : tie.Need-read-requires
 read-requires c κs = search needs
 
 verdict-number-requires : tie.Need-verdict-number-requires
-verdict-number-requires c κs = read-most (c .before .before .args .block .now) (c .read .ensures)
+verdict-number-requires c κs =
+    let done : tie.After-read = search in
+    read-most (done .before .before .args .block .now) (done .read .ensures)
 
 pub kilmstra-plan-read-spec : {M : Type 1} → statement M
 kilmstra-plan-read-spec = tie.close (tie.spec read-requires verdict-number-requires returns)
