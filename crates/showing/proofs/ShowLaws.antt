@@ -14,8 +14,7 @@ use Rattle.arith.specs.Choice.{pick}
 use Rattle.plan.specs.declared.Written.{Written}
 use Rattle.plan.specs.declared.Written.the-variants as written
 use Rattle.plan.specs.Levels.{baseSpeeds}
-use Rattle.plan.specs.Questions.{roomQuestion}
-use Rattle.arith.specs.Asking.{firstNo}
+use Rattle.plan.specs.Answers.{roomNumber}
 use Rattle.plan_block.proofs.Codec.{Leaves, leaves-refused, leaves-written}
 use Rattle.schedule.specs.PlainSchedule.{Timing, Pending, queueOf}
 use Rattle.schedule.proofs.QueueLaws.{queueOf-cong}
@@ -107,7 +106,7 @@ LeftByShow bytes buffer r m = Leaves (showNumber baseSpeeds bytes (length buffer
 
 -- its number, by whether the block is sound
 abbrev showNo : List ℕ → List ℕ → Bool → ℕ
-showNo bytes buffer b = pick b (firstNo (roomQuestion (length (shownBytes baseSpeeds bytes)) (length buffer) ∷ [])) 10
+showNo bytes buffer b = pick b (roomNumber (length (shownBytes baseSpeeds bytes)) (length buffer)) 10
 
 pub show-unsound :
     (bytes buffer : List ℕ) (t : Tested) →
@@ -145,8 +144,8 @@ module _ {bytes keys : List ℕ} {highest n : ℕ} {q : ReadyList} (k : Showing 
       ∙ ap (λ (x : List ℕ). 3 * length x) (listed-front (k .listed))
       ∙ ap (λ (x : ReadyList). 3 * x .len) (sym (k .listed .is))
 
-  asked : showNumber baseSpeeds bytes (length buffer) ≡ firstNo (roomQuestion (3 * q .len) (length buffer) ∷ [])
-  asked = ap (showNo bytes buffer) (k .good .sound) ∙ ap (λ (x : ℕ). firstNo (roomQuestion x (length buffer) ∷ [])) wanted
+  asked : showNumber baseSpeeds bytes (length buffer) ≡ roomNumber (3 * q .len) (length buffer)
+  asked = ap (showNo bytes buffer) (k .good .sound) ∙ ap (λ (x : ℕ). roomNumber x (length buffer)) wanted
 
   pub show-short : length buffer < 3 * q .len → LeftByShow bytes buffer (written.Refused 9) buffer
   show-short h =

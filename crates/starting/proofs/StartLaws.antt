@@ -18,7 +18,7 @@ use Rattle.plan.specs.Levels.{baseSpeeds, speedOf, nominal}
 use Rattle.plan.specs.Blocks.{noTask, tasksOf, tasksIn, planOf}
 use Rattle.plan.specs.Questions.{judging, reading, roomQuestion}
 use Rattle.arith.specs.Asking.{firstNo}
-use Rattle.plan.specs.Answers.{answered, beside, readBlock, storedBy}
+use Rattle.plan.specs.Answers.{roomNumber, answered, beside, readBlock, storedBy}
 use Rattle.plan.proofs.Facts.{FineList, fine-list}
 use Rattle.plan.proofs.LevelLaws.{baseRising}
 use Rattle.plan.proofs.RoundTrip.{tasksOf-planOf, read-judged}
@@ -159,10 +159,6 @@ LeftBy number ts buffer r m =
     (r ≡ repliedBy number (startOrder baseSpeeds (startState baseSpeeds ts)))
     × (m ≡ storedBy number (encode (startState baseSpeeds ts)) buffer)
 
--- the number that asking for a state's 200 bytes gives
-abbrev roomNumber : List ℕ → ℕ
-roomNumber buffer = firstNo (roomQuestion 200 (length buffer) ∷ [])
-
 left-refused : (number n : ℕ) (ts : List Task) (buffer : List ℕ) → 0 < n → number ≡ n → LeftBy number ts buffer (reply.Refused n) buffer
 left-refused number zero ts buffer h e = absurd (omega arith)
 left-refused number (suc n) ts buffer h e = (
@@ -170,9 +166,9 @@ left-refused number (suc n) ts buffer h e = (
   sym (ap (λ (k : ℕ). storedBy k (encode (startState baseSpeeds ts)) buffer) e),
 )
 
-pub left-short : (ts : List Task) (buffer : List ℕ) → length buffer < 200 → LeftBy (roomNumber buffer) ts buffer (reply.Refused 9) buffer
+pub left-short : (ts : List Task) (buffer : List ℕ) → length buffer < 200 → LeftBy (roomNumber 200 (length buffer)) ts buffer (reply.Refused 9) buffer
 left-short ts buffer h =
-    left-refused (roomNumber buffer) 9 ts buffer (omega arith) (ap (λ (b : Bool). pick {A = ℕ} b 0 9) (lt-leb 200 (length buffer) h))
+    left-refused (roomNumber 200 (length buffer)) 9 ts buffer (omega arith) (ap (λ (b : Bool). pick {A = ℕ} b 0 9) (lt-leb 200 (length buffer) h))
 
 -- the image of a new state of an accepted plan, at its nominal speed
 pub record Newly (ts : List Task) (image : List ℕ) : Type 0 where
@@ -308,9 +304,9 @@ module _ {ts : List Task} {image : List ℕ} (new : Newly ts image) where
       r ≡ orderWith chosen (holdOf baseSpeeds (timingIn image) chosen) →
       l ≡ encode chosen →
       m ≡ l ++ drop 200 buffer →
-      LeftBy (roomNumber buffer) ts buffer r m
+      LeftBy (roomNumber 200 (length buffer)) ts buffer r m
   new-left buffer {l} {m} {r} h a b e =
-      let zero-is : 0 ≡ roomNumber buffer = sym (ap (λ (t : Bool). pick {A = ℕ} t 0 9) (le-leb 200 (length buffer) h)) in
+      let zero-is : 0 ≡ roomNumber 200 (length buffer) = sym (ap (λ (t : Bool). pick {A = ℕ} t 0 9) (le-leb 200 (length buffer) h)) in
       let order : r ≡ startOrder baseSpeeds S =
       a
       ∙ ap₂ (λ (x : Timing) (s : State). orderWith s (holdOf baseSpeeds x s)) new-timing chosen-is
@@ -364,9 +360,9 @@ module _ {block : List ℕ} {j : Judged} {level span : ℕ} (k : Admitted block 
 
   pub start-left :
       (buffer : List ℕ) {r : Reply} {m : List ℕ} →
-      LeftBy (roomNumber buffer) (tasksOf (j .plan)) buffer r m →
+      LeftBy (roomNumber 200 (length buffer)) (tasksOf (j .plan)) buffer r m →
       LeftBy (startNumber baseSpeeds block (length buffer)) (tasksIn block) buffer r m
   start-left buffer {r} {m} h =
       subst (λ (n : ℕ). LeftBy n (tasksIn block) buffer r m)
       (sym (yes-before (reading baseSpeeds block) (roomQuestion 200 (length buffer) ∷ []) refl accepted))
-      (subst (λ (ts : List Task). LeftBy (roomNumber buffer) ts buffer r m) tasks-are h)
+      (subst (λ (ts : List Task). LeftBy (roomNumber 200 (length buffer)) ts buffer r m) tasks-are h)

@@ -8,14 +8,14 @@ use state::image::put_entry;
 use state::image::store;
 use urgency::keys_of;
 ghost use mathlib.Core.Path.{_≡_};
-ghost use mathlib.Core.List.{[], _∷_};
+ghost use mathlib.Core.List.{_∷_};
 ghost use Prim.Native.Nat.{_<_, _≤_};
 ghost use lib.ListN.{length, replicate};
 ghost use Rattle.plan.specs.Levels.{baseSpeeds, nominal};
 ghost use Rattle.plan.specs.Blocks.{tasksOf};
-ghost use Rattle.plan.specs.Questions.{judging, roomQuestion};
+ghost use Rattle.plan.specs.Questions.{judging};
 ghost use Rattle.arith.specs.Asking.{firstNo};
-ghost use Rattle.plan.specs.Answers.{storedBy};
+ghost use Rattle.plan.specs.Answers.{roomNumber, storedBy};
 ghost use Rattle.reclaiming.specs.StateBlock.{encode};
 ghost use Rattle.reclaiming.specs.Passes.{startState};
 ghost use Rattle.reclaiming.specs.Questions.{stateLength};
@@ -59,8 +59,8 @@ fn fresh(p: Plan, speed: u32) -> [u8; 200]
 // Starting an accepted plan of which the nominal level is known: 9 for the 200 bytes.
 fn started(p: Plan, highest: usize, state: &mut [u8]) -> Reply
     requires { ⌜ (firstNo (judging baseSpeeds (p .count) (tasksOf p)) ≡ 0) × (highest ≡ nominal baseSpeeds (tasksOf p)) ⌝ }
-    ensures { λ r. ⌜ r ≡ repliedBy (firstNo (roomQuestion stateLength (length (now (state .entry))) ∷ [])) (startOrder baseSpeeds (startState baseSpeeds (tasksOf p))) ⌝ }
-    ensures { λ _. ⌜ now (state .exit) ≡ storedBy (firstNo (roomQuestion stateLength (length (now (state .entry))) ∷ [])) (encode (startState baseSpeeds (tasksOf p))) (now (state .entry)) ⌝ }
+    ensures { λ r. ⌜ r ≡ repliedBy (roomNumber stateLength (length (now (state .entry)))) (startOrder baseSpeeds (startState baseSpeeds (tasksOf p))) ⌝ }
+    ensures { λ _. ⌜ now (state .exit) ≡ storedBy (roomNumber stateLength (length (now (state .entry)))) (encode (startState baseSpeeds (tasksOf p))) (now (state .entry)) ⌝ }
 {
     if state.len() < 200 {
         return Reply::Refused(9);
