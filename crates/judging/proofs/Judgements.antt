@@ -1,22 +1,14 @@
--- Judging a plan: what each loop has made so far, and what each way out says of the questions.
+-- Judging a plan: a plan filled from the front, and what each way out says of the questions.
 -- Assumes nothing.
-use Prim.Native.Nat.{ℕ, zero, suc, _+_, _-_, _*_, _/_, _<_, _≤_, min}
-use mathlib.Core.Path.{_≡_, sym, subst, ap, ap₂, _∙_}
-use mathlib.Core.Bool.{Bool, true, false}
-use mathlib.Core.List.{List, [], _∷_}
+use Prim.Native.Nat.{ℕ, zero, suc, _+_, _<_, _≤_}
+use mathlib.Core.Path.{_≡_, sym, ap, _∙_}
+use mathlib.Core.List.{List, []}
 use native.Mathlib.Omega.{arith}
-use native.Mathlib.Numerals.{add-one}
-use borrow.Author.Tests.{le-leb, lt-leb, le-ltb, lt-ltb}
-use native.Mathlib.Nat.{mul-le-mul, div-le-self, not-suc-le-zero}
-use lib.Dec.{leb}
-use lib.ListN.{length, getD, take, drop, set}
+use borrow.Author.Tests.{le-leb, lt-leb}
+use native.Mathlib.Nat.{not-suc-le-zero}
+use lib.ListN.{length, getD, take, set}
 use lib.Seq.{length-take-le}
 use Rattle.arith.specs.Arrays.{padded}
-use Rattle.arith.specs.Choice.{every, first}
-use Rattle.arith.specs.Need.{need}
-use Rattle.arith.specs.Ranges.{listTo}
-use Rattle.arith.specs.Sum.{sumTo}
-use Rattle.arith.specs.Divisor.{lcm}
 use Rattle.arith.specs.Asking.{firstNo}
 use Rattle.plan.specs.declared.Task.{Task}
 use Rattle.plan.specs.declared.Plan.{Plan}
@@ -24,224 +16,10 @@ use Rattle.plan.specs.declared.Judged.{Judged}
 use Rattle.plan.specs.declared.Verdict.{Verdict}
 use Rattle.plan.specs.declared.Verdict.the-variants as verdict
 use Rattle.plan.specs.Answers.{judgedBy, judgedPlan, answered}
-use Rattle.plan.specs.Levels.{hyperperiod, demandWithin, baseSpeeds, speedOf, nominal, admits}
 use Rattle.plan.specs.Blocks.{noTask, planOf, tasksOf}
-use Rattle.plan.specs.Questions.{inRange, taskQuestions, judging}
-use Rattle.arith.proofs.ArrayLaws.{taken-more, value-at}
-use Rattle.arith.proofs.Loops.{rest-cons, rest-end, every-taken, every-again, every-not, every-end}
-use Rattle.arith.proofs.Needs.{need-le}
-use Rattle.arith.proofs.Searches.{first-found, first-next, first-weaker}
-use Rattle.arith.proofs.Sums.{sumTo-eq, sumOf-taken}
+use Rattle.plan.specs.Questions.{taskQuestions, judging}
+use Rattle.arith.proofs.ArrayLaws.{taken-more}
 use Rattle.arith.proofs.Tests.{both-false}
-use Rattle.plan.proofs.Facts.{InRange, in-range, length-tasksOf}
-use Rattle.plan.proofs.LevelLaws.{admits-covers, baseRising, hyperperiod-drop, range-positive}
-
-pub period-low : (t : Task) → t .period < 1 → false ≡ inRange t
-period-low t h = simp (lt-leb 1 (t .period) h)
-
-pub period-high : (t : Task) → 65535 < t .period → false ≡ inRange t
-period-high t h = simp (lt-leb (t .period) 65535 h, both-false)
-
-pub worst-low : (t : Task) → 1 ≤ t .period → t .period ≤ 65535 → t .worst < 1 → false ≡ inRange t
-worst-low t a b h = simp (le-leb 1 (t .period) a, le-leb (t .period) 65535 b, lt-leb 1 (t .worst) h)
-
-pub worst-high : (t : Task) → 1 ≤ t .period → t .period ≤ 65535 → 1 ≤ t .worst → leb (t .worst) 1048575 ≡ inRange t
-worst-high t a b h = simp (le-leb 1 (t .period) a, le-leb (t .period) 65535 b, le-leb 1 (t .worst) h)
-
--- a plan as the code holds it
-pub record Held (p : Plan) : Type 0 where
-  pub places : length (p .tasks) ≡ 16
-  pub most : p .count ≤ 16
-
-pub listed : {p : Plan} → Held p → p .count ≤ length (p .tasks)
-listed h = omega arith
-
-pub count-is : {p : Plan} → Held p → length (tasksOf p) ≡ p .count
-count-is {p} h = length-tasksOf p (h .places) (h .most)
-
--- the loop that tests the ranges: the tasks before i are in range
-pub record Scanned (p : Plan) (i : ℕ) : Type 0 where
-  pub within : i ≤ p .count
-  pub rest : every inRange (drop i (tasksOf p)) ≡ every inRange (tasksOf p)
-
-module _ {p : Plan} {i : ℕ} (held : Held p) (at : Scanned p i) where
-  pub scanned-more : i < p .count → inRange (getD (p .tasks) i noTask) ≡ true → Scanned p (i + 1)
-  scanned-more h t =
-      record { within = omega arith; rest = every-again inRange (p .tasks) (p .count) noTask (listed held) i h (at .rest) t }
-
-  pub scanned-not : i < p .count → inRange (getD (p .tasks) i noTask) ≡ false → false ≡ every inRange (tasksOf p)
-  scanned-not h t = every-not inRange (p .tasks) (p .count) noTask (listed held) i h (at .rest) t
-
-  pub scanned-all : p .count ≤ i → true ≡ every inRange (tasksOf p)
-  scanned-all h = every-end inRange (p .tasks) (p .count) noTask (listed held) i (omega arith) (at .rest)
-
--- a plan whose tasks are in range
-pub record Ranged (p : Plan) : Type 0 where
-  pub held : Held p
-  pub ranges : every inRange (tasksOf p) ≡ true
-
-pub task-at : {p : Plan} → Ranged p → (i : ℕ) → i < p .count → InRange (getD (p .tasks) i noTask)
-task-at {p} plan i h =
-    in-range (getD (p .tasks) i noTask)
-    (every-taken inRange (p .tasks) (p .count) noTask (listed (plan .held)) (plan .ranges) i h)
-
--- the loop that takes the periods in counts down: h is the hyperperiod of the tasks from i on
-pub record Spanned (p : Plan) (i h : ℕ) : Type 0 where
-  pub within : i ≤ p .count
-  pub span : h ≡ hyperperiod (drop i (tasksOf p))
-  pub small : h ≤ 1000000
-
-pub spanned-none : {p : Plan} → Ranged p → Spanned p (p .count) 1
-spanned-none {p} plan =
-    record {
-      within = omega arith;
-      span = ap hyperperiod (sym (rest-end (p .tasks) (p .count) (listed (plan .held))));
-      small = omega arith;
-    }
-
-pub spanned-all : {p : Plan} {i h : ℕ} → Spanned p i h → i ≡ 0 → h ≡ min (hyperperiod (tasksOf p)) 1000001
-spanned-all {p} at e = omega (arith, at .span ∙ ap (λ (n : ℕ). hyperperiod (drop n (tasksOf p))) e)
-
--- with one period more it is m
-pub record Widened (p : Plan) (i h m : ℕ) : Type 0 where
-  pub plan : Ranged p
-  pub at : Spanned p i h
-  pub positive : 0 < i
-  pub multiple : m ≡ lcm (getD (p .tasks) (i - 1) noTask .period) h
-
-module _ {p : Plan} {i h m : ℕ} (w : Widened p i h m) where
-  widened : m ≡ hyperperiod (drop (i - 1) (tasksOf p))
-  widened =
-      let t : Task = getD (p .tasks) (i - 1) noTask in
-      let e : i - 1 + 1 ≡ i = omega arith in
-      w .multiple
-      ∙ ap (λ (x : ℕ). lcm (t .period) x) (w .at .span)
-      ∙ sym (ap hyperperiod
-      (rest-cons (p .tasks) (p .count) (i - 1) noTask (listed (w .plan .held)) (omega arith)
-      ∙ ap (λ (k : ℕ). t ∷ drop k (tasksOf p)) e))
-
-  pub spanned-more : m ≤ 1000000 → Spanned p (i - 1) m
-  spanned-more le = record { within = omega arith; span = widened; small = le }
-
-  pub spanned-over : 1000000 < m → 1000001 ≡ min (hyperperiod (tasksOf p)) 1000001
-  spanned-over lt =
-      omega (arith, widened, hyperperiod-drop (tasksOf p) (range-positive (tasksOf p) (w .plan .ranges)) (i - 1))
-
--- how many jobs task i has within a span, and the time that so many of its jobs take at a speed
-abbrev pub jobsIn : ℕ → Plan → ℕ → ℕ
-jobsIn span p i = span / getD (p .tasks) i noTask .period
-
-abbrev pub timeOf : ℕ → Plan → List ℕ → ℕ → ℕ
-timeOf speed p jobs i = need speed (getD (p .tasks) i noTask .worst) * getD jobs i 0
-
--- what a demand is asked with
-pub record Asked (p : Plan) (jobs : List ℕ) (speed : ℕ) : Type 0 where
-  pub plan : Ranged p
-  pub positive : 0 < speed
-  pub few : (i : ℕ) → i < p .count → getD jobs i 0 ≤ 1000000
-
--- the loop that sums it up
-pub record Summed (p : Plan) (jobs : List ℕ) (speed total i : ℕ) : Type 0 where
-  pub within : i ≤ p .count
-  pub sum : total ≡ sumTo i (timeOf speed p jobs)
-  pub small : total ≤ 1048575000000 * i
-
-pub summed-all :
-    {p : Plan} {jobs : List ℕ} {speed total i : ℕ} →
-    Summed p jobs speed total i →
-    p .count ≤ i →
-    total ≡ sumTo (p .count) (timeOf speed p jobs)
-summed-all {p} {jobs} {speed} {total} {i} at h =
-    let e : i ≡ p .count = omega arith in
-    at .sum ∙ ap (λ (n : ℕ). sumTo n (timeOf speed p jobs)) e
-
--- a turn of it
-pub record Added (p : Plan) (jobs : List ℕ) (speed i ticks : ℕ) : Type 0 where
-  pub asked : Asked p jobs speed
-  pub below : i < p .count
-  pub needed : ticks ≡ need speed (getD (p .tasks) i noTask .worst)
-
-module _ {p : Plan} {jobs : List ℕ} {speed i ticks : ℕ} (a : Added p jobs speed i ticks) where
-  pub added-small : ticks * getD jobs i 0 ≤ 1048575000000
-  added-small =
-      let worst : ℕ = getD (p .tasks) i noTask .worst in
-      let short : ticks ≤ 1048575 = omega (arith, need-le speed worst (a .asked .positive), task-at (a .asked .plan) i (a .below) .worst-high) in
-      mul-le-mul short (a .asked .few i (a .below))
-
-  pub summed-more : {total : ℕ} → Summed p jobs speed total i → Summed p jobs speed (total + ticks * getD jobs i 0) (i + 1)
-  summed-more at =
-      record {
-        within = omega arith;
-        sum = rw add-one (ap₂ (λ (y z : ℕ). y + z) (at .sum) (ap (λ (x : ℕ). x * getD jobs i 0) (a .needed)));
-        small = omega (arith, added-small);
-      }
-
--- a search for the lowest level whose speed passes a test: the level that is tried, and its speed
-pub record Trying (test : ℕ → Bool) (level speed : ℕ) : Type 0 where
-  pub low : level ≤ first test baseSpeeds
-  pub below : level < 8
-  pub speed-is : speed ≡ speedOf baseSpeeds level
-
-module _ {test : ℕ → Bool} {level speed : ℕ} (at : Trying test level speed) where
-  pub level-found : test speed ≡ true → level ≡ first test baseSpeeds
-  level-found e = first-found test baseSpeeds level 0 (at .low) (at .below) (ap test (sym (at .speed-is)) ∙ e)
-
-  pub level-next : test speed ≡ false → level + 1 ≤ first test baseSpeeds
-  level-next e = first-next test baseSpeeds level 0 (at .low) (at .below) (ap test (sym (at .speed-is)) ∙ e)
-
--- a speed that does so much work within a span
-abbrev pub does : ℕ → ℕ → ℕ → Bool
-does work span speed = leb work (span * speed)
-
--- the jobs of each task within the hyperperiod, counted
-pub record Counted (p : Plan) (span : ℕ) (jobs : List ℕ) : Type 0 where
-  pub plan : Ranged p
-  pub span-is : span ≡ hyperperiod (tasksOf p)
-  pub small : span ≤ 1000000
-  pub jobs-are : jobs ≡ padded 16 0 (listTo (p .count) (jobsIn span p))
-
-module _ {p : Plan} {span : ℕ} {jobs : List ℕ} (c : Counted p span jobs) where
-  counted-at : (i : ℕ) → i < p .count → getD jobs i 0 ≡ jobsIn span p i
-  counted-at i h =
-      ap (λ (l : List ℕ). getD l i 0) (c .jobs-are) ∙ value-at 16 0 (p .count) (jobsIn span p) i h
-
-  pub counted-few : (i : ℕ) → i < p .count → getD jobs i 0 ≤ 1000000
-  counted-few i h = omega (arith, counted-at i h, div-le-self span (getD (p .tasks) i noTask .period))
-
-  -- the demand of them all at a speed: the speed admits the tasks, or it does not
-  module _ (speed : ℕ) {total : ℕ} (e : total ≡ sumTo (p .count) (timeOf speed p jobs)) where
-    pub demand-all : total ≡ demandWithin span speed (tasksOf p)
-    demand-all =
-        let time : ℕ → ℕ = λ i. need speed (getD (p .tasks) i noTask .worst) in
-        e
-        ∙ sumTo-eq (p .count) (timeOf speed p jobs) (λ i. time i * jobsIn span p i) (λ i h. ap (λ (n : ℕ). time i * n) (counted-at i h))
-        ∙ sumOf-taken (λ (t : Task). need speed (t .worst) * (span / t .period)) (p .tasks) noTask (p .count) (listed (c .plan .held))
-
-    compared : leb total span ≡ admits (tasksOf p) speed
-    compared =
-        ap (λ (x : ℕ). leb x span) demand-all
-        ∙ ap (λ (x : ℕ). leb (demandWithin x speed (tasksOf p)) x) (c .span-is)
-
-    pub admitted : total ≤ span → admits (tasksOf p) speed ≡ true
-    admitted le = sym compared ∙ le-leb total span le
-
-    pub not-admitted : span < total → admits (tasksOf p) speed ≡ false
-    not-admitted lt = sym compared ∙ lt-leb total span lt
-
-  -- a level that is too slow for the plain work does not admit
-  pub nominal-from :
-      {work level : ℕ} →
-      work ≡ sumTo (p .count) (timeOf 1 p jobs) →
-      level ≡ first (does work span) baseSpeeds →
-      level ≤ nominal baseSpeeds (tasksOf p)
-  nominal-from {work} e l =
-      subst (λ (x : ℕ). x ≤ nominal baseSpeeds (tasksOf p)) (sym l)
-      (first-weaker (admits (tasksOf p)) (does work span) baseSpeeds 0 covers)
-    where
-      covers : (k : ℕ) → k < 8 → admits (tasksOf p) (getD baseSpeeds k 0) ≡ true → does work span (getD baseSpeeds k 0) ≡ true
-      covers k h a =
-          let speed : ℕ = getD baseSpeeds k 0 in
-          le-leb work (span * speed) (admits-covers (tasksOf p) span work speed (baseRising .positive k h) (c .span-is) (demand-all 1 e) a)
 
 -- the loop that fills a plan with a list's first count tasks
 pub record Filled (l : List Task) (count : ℕ) (q : Plan) (i : ℕ) : Type 0 where
@@ -278,42 +56,6 @@ pub refused-is :
     _≡_ {A = Judged} (record { verdict = verdict.Refused n; plan = q }) (judgedBy n speeds ts)
 refused-is zero q speeds ts h e = absurd (not-suc-le-zero h)
 refused-is (suc n) q speeds ts h e = λ i. record { verdict = verdict.Refused (suc n); plan = e i }
-
--- the verdict, by the first no of the questions 6, 7 and 8
-abbrev pub verdictOf : List ℕ → List Task → Verdict
-verdictOf speeds ts = answered (firstNo (taskQuestions speeds ts)) speeds ts
-
-module _ (speeds : List ℕ) (ts : List Task) where
-  told : {n : ℕ} → firstNo (taskQuestions speeds ts) ≡ n → answered n speeds ts ≡ verdictOf speeds ts
-  told e = sym (ap (λ (n : ℕ). answered n speeds ts) e)
-
-  pub refused-6 : every inRange ts ≡ false → verdict.Refused 6 ≡ verdictOf speeds ts
-  refused-6 a = told {n = 6} (simp a)
-
-  pub refused-7 : every inRange ts ≡ true → 1000000 < hyperperiod ts → verdict.Refused 7 ≡ verdictOf speeds ts
-  refused-7 a b = told {n = 7} (simp (a, lt-leb (hyperperiod ts) 1000000 b))
-
--- 6 and 7 are answered yes, and the level is known
-pub record Levelled (speeds : List ℕ) (ts : List Task) (span level : ℕ) : Type 0 where
-  pub ranges : every inRange ts ≡ true
-  pub span-is : span ≡ hyperperiod ts
-  pub small : span ≤ 1000000
-  pub level-is : level ≡ nominal speeds ts
-
-module _ {speeds : List ℕ} {ts : List Task} {span level : ℕ} (k : Levelled speeds ts span level) where
-  seven : leb (hyperperiod ts) 1000000 ≡ true
-  seven = ap (λ (x : ℕ). leb x 1000000) (sym (k .span-is)) ∙ le-leb span 1000000 (k .small)
-
-  pub refused-8 : length speeds ≤ level → verdict.Refused 8 ≡ verdictOf speeds ts
-  refused-8 h =
-      told speeds ts {n = 8}
-      (simp (k .ranges, seven, le-ltb (nominal speeds ts) (length speeds) (subst (λ (n : ℕ). length speeds ≤ n) (k .level-is) h)))
-
-  pub admitted-at : level < length speeds → verdict.Admitted level span ≡ verdictOf speeds ts
-  admitted-at h =
-      ap₂ (λ (l x : ℕ). verdict.Admitted l x) (k .level-is) (k .span-is)
-      ∙ told speeds ts {n = 0}
-      (simp (k .ranges, seven, lt-ltb (nominal speeds ts) (length speeds) (subst (λ (n : ℕ). n < length speeds) (k .level-is) h)))
 
 -- a verdict, and the plan beside it
 module _ (speeds : List ℕ) (ts : List Task) {v : Verdict} {q : Plan} where

@@ -24,7 +24,7 @@ use Rattle.reclaiming.specs.Calls.{startReply, startBuffer}
 use Rattle.reclaiming.specs.Run.{trace, startedBytes, openedBook, linesFrom}
 use Rattle.transcript.specs.Listing.{planLine, replyLine, refusedLine, planCut, passesIn, oddLine, linesText, startedLines, judgedLines, readLines, listing}
 use Rattle.lines.specs.Stores.{Put}
-use Rattle.listing.specs.Code.{passesText}
+use Rattle.pass_lines.specs.Code.{passesText}
 
 -- a text at the front of a buffer: its length, every byte, and that it lies within
 abbrev pub Front : List ℕ → List ℕ → ℕ → List ℕ → Type 0

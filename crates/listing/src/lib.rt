@@ -1,10 +1,8 @@
 // The bench program's library: the listing of an input.
-pub mod passes;
-
-use crate::passes::pass_lines;
 use lines::plan_line;
 use lines::refused_line;
 use lines::reply_line;
+use pass_lines::pass_lines;
 use plan::Verdict;
 use starting::start;
 ghost use mathlib.Core.Path.{_≡_};
@@ -33,7 +31,7 @@ pub fn plan_cut(input: &[u8]) -> usize
     if count > 16 {
         return n;
     }
-    let wanted = plan_block::block_length(count);
+    let wanted = plan_reading::block_length(count);
     if wanted < n {
         return wanted;
     }
@@ -72,7 +70,7 @@ pub fn list_into(input: &[u8], out: &mut [u8]) -> usize
         return refused_line(out, 0, 17);
     }
     let cut = plan_cut(input);
-    let judged = plan_block::read(&input[..cut]);
+    let judged = plan_reading::read(&input[..cut]);
     let verdict = judged.verdict;
     let Verdict::Admitted {
         nominal,

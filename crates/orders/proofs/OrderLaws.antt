@@ -34,7 +34,7 @@ use Rattle.reclaiming.proofs.PassedStates.{choose-clock, choose-entries}
 use Rattle.reclaiming.proofs.Allowances.{allowance-is}
 use Rattle.state.proofs.BlockLaws.{count-in, store-order}
 use Rattle.urgency.proofs.KeyLaws as keys
-use Rattle.judging.proofs.LevelSpeeds.{Tried, tried-does}
+use Rattle.admission.proofs.LevelSpeeds.{Tried, tried-does}
 use Rattle.urgency.proofs.HeadLaws.{work-is, Looked, none-open, Head, first-open, told-task, Read, read-below, read-work, read-allowed}
 use Rattle.urgency.proofs.OpenJobs.{timing-count}
 

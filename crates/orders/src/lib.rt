@@ -1,8 +1,8 @@
 // Choosing an order: the task, the level and the hold.
 use reclaiming::Reply;
-use state::image::clock_at;
-use state::image::count_at;
-use state::image::work_at;
+use state::clock_at;
+use state::count_at;
+use state::work_at;
 use urgency::NO_KEY;
 use urgency::allowance_of;
 use urgency::most_urgent;
@@ -38,7 +38,7 @@ pub fn level_for(work: u32, allowed: u32, highest: usize) -> usize
     let mut high: usize = highest;
     while low < high {
         let middle = (low + high) / 2;
-        let speed = judging::speed_of(middle);
+        let speed = admission::speed_of(middle);
         if work <= speed * allowed {
             high = middle;
         } else {
@@ -53,7 +53,7 @@ fn running_order(i: usize, level: usize, work: u32) -> Choice
     requires { ⌜ (i < 16) × (level < 8) ⌝ }
     ensures { λ r. ⌜ r ≡ runOf i level work ⌝ }
 {
-    let speed = judging::speed_of(level);
+    let speed = admission::speed_of(level);
     Choice {
         task: i as u32,
         level: level as u32,

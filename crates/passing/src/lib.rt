@@ -1,4 +1,5 @@
 // A pass: its questions, and what it makes of a state, in its bytes.
+use clock::Clock;
 use orders::Choice;
 use orders::choose;
 use orders::choose_until;
@@ -7,9 +8,8 @@ use orders::order_of;
 use orders::standing;
 use reclaiming::Reply;
 use soundness::test_block;
-use state::clock::Clock;
-use state::image::clock_at;
-use state::image::count_at;
+use state::clock_at;
+use state::count_at;
 use ticks::move_on;
 use ticks::renewed;
 use urgency::next_arrival;

@@ -5,3 +5,4 @@ pub mod TimeLaws
 pub mod Fields
 pub mod RoundTrip
 pub mod NumberLaws
+pub mod AnswerLaws

@@ -15,7 +15,7 @@ use Rattle.plan.specs.declared.Written.{Written}
 use Rattle.plan.specs.declared.Written.the-variants as written
 use Rattle.plan.specs.Levels.{baseSpeeds}
 use Rattle.plan.specs.Answers.{roomNumber}
-use Rattle.plan_block.proofs.Codec.{Leaves, leaves-refused, leaves-written}
+use Rattle.plan.proofs.AnswerLaws.{Leaves, leaves-refused, leaves-written}
 use Rattle.schedule.specs.PlainSchedule.{Timing, Pending, queueOf}
 use Rattle.schedule.proofs.QueueLaws.{queueOf-cong}
 use Rattle.urgency.specs.declared.ReadyList.{ReadyList}

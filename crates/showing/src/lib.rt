@@ -1,8 +1,8 @@
 // Showing the queue: the tasks that have remaining ticks, most urgent first.
 use plan::Written;
 use soundness::test_block;
-use state::image::count_at;
-use state::image::remaining_at;
+use state::count_at;
+use state::remaining_at;
 use urgency::ReadyList;
 use urgency::ready;
 ghost use mathlib.Core.Path.{_≡_};

@@ -36,7 +36,7 @@ use Rattle.state.specs.Code.{Holds, entryIn, timingIn}
 use Rattle.urgency.specs.Code.{Keyed, latestKey, keysIn, noKey}
 use Rattle.soundness.specs.Code.{Good, testedBy}
 use Rattle.plan.proofs.TimeLaws.{need-test, need-above}
-use Rattle.judging.proofs.LevelSpeeds.{speed-positive, speed-most, Tried, tried-does}
+use Rattle.admission.proofs.LevelSpeeds.{speed-positive, speed-most, Tried, tried-does}
 use Rattle.soundness.proofs.SoundFacts.{sound-holds, sound-plan-yes, sound-clock}
 use Rattle.urgency.proofs.HeadLaws.{task-is, period-is, Looked, none-open, Told, first-open, Read, read-work, read-allowed}
 use Rattle.urgency.proofs.OpenJobs.{timing-count}

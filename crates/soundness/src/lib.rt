@@ -1,14 +1,14 @@
 // Whether a state block is sound.
+use clock::Clock;
 use plan::Plan;
 use plan::Task;
 use plan::Verdict;
-use state::clock::Clock;
-use state::image::clock_at;
-use state::image::laid_out;
-use state::image::period_at;
-use state::image::remaining_at;
-use state::image::work_at;
-use state::image::worst_at;
+use state::clock_at;
+use state::laid_out;
+use state::period_at;
+use state::remaining_at;
+use state::work_at;
+use state::worst_at;
 use urgency::NO_KEY;
 use urgency::allowance_of;
 use urgency::keys_of;
@@ -112,7 +112,7 @@ fn order_sound(block: &[u8], keys: &[u64; 16], count: usize, highest: usize) -> 
         return false;
     }
     let work = work_at(block, task);
-    let speed = judging::speed_of(level);
+    let speed = admission::speed_of(level);
     work <= speed * allowance_of(block, keys, count, best)
 }
 
@@ -134,7 +134,7 @@ fn test_admitted(block: &[u8], count: usize, clock: u32, level: usize) -> Tested
     requires { ⌜ (firstNo (taskQuestions baseSpeeds (planIn (decode (now block)))) ≡ 0) × (level ≡ nominal baseSpeeds (planIn (decode (now block)))) ⌝ }
     ensures { λ r. ⌜ r ≡ testedBy (stateSound baseSpeeds (decode (now (block .entry)))) (now (block .entry)) ⌝ }
 {
-    let speed = judging::speed_of(level);
+    let speed = admission::speed_of(level);
     if !entries_sound(block, count, speed) {
         return not_sound();
     }
@@ -159,7 +159,7 @@ fn test_state(block: &[u8], count: usize) -> Tested
         return not_sound();
     }
     let p = plan_of(block, count);
-    let v = judging::verdict_of(p);
+    let v = admission::verdict_of(p);
     match v {
         Verdict::Refused(_) => not_sound(),
         Verdict::Admitted {

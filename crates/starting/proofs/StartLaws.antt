@@ -22,8 +22,8 @@ use Rattle.plan.specs.Answers.{roomNumber, answered, beside, readBlock, storedB
 use Rattle.plan.proofs.Facts.{FineList, fine-list}
 use Rattle.plan.proofs.LevelLaws.{baseRising}
 use Rattle.plan.proofs.RoundTrip.{tasksOf-planOf, read-judged}
-use Rattle.judging.proofs.Judgements.{Held, count-is}
-use Rattle.plan_block.proofs.Codec.{told-refused, told-admitted}
+use Rattle.admission.proofs.Admissions.{Held, count-is}
+use Rattle.plan.proofs.AnswerLaws.{told-refused, told-admitted}
 use Rattle.arith.proofs.QuestionLaws.{no-before, yes-before}
 use Rattle.schedule.specs.PlainSchedule.{Timing}
 use Rattle.reclaiming.specs.declared.Entry.{Entry}
@@ -46,7 +46,7 @@ use Rattle.arith.proofs.RangeLaws.{length-listTo, getD-listTo}
 use Rattle.reclaiming.proofs.PassedStates.{choose-entries}
 use Rattle.reclaiming.proofs.PassSound.{start-fine}
 use Rattle.state.proofs.BlockLaws.{storedTo, stored-more, count-in, entry-at}
-use Rattle.judging.proofs.LevelSpeeds.{speed-positive}
+use Rattle.admission.proofs.LevelSpeeds.{speed-positive}
 
 -- the eight bytes in front of the entries of a new state
 abbrev newFront : ℕ → List ℕ

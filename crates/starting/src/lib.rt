@@ -4,8 +4,8 @@ use plan::Plan;
 use plan::Verdict;
 use reclaiming::Entry;
 use reclaiming::Reply;
-use state::image::put_entry;
-use state::image::store;
+use state::put_entry;
+use state::store;
 use urgency::keys_of;
 ghost use mathlib.Core.Path.{_≡_};
 ghost use mathlib.Core.List.{_∷_};
@@ -65,7 +65,7 @@ fn started(p: Plan, highest: usize, state: &mut [u8]) -> Reply
     if state.len() < 200 {
         return Reply::Refused(9);
     }
-    let speed = judging::speed_of(highest);
+    let speed = admission::speed_of(highest);
     let mut image = fresh(p, speed);
     let keys = keys_of(&image, p.count, 0);
     let r = choose(&mut image, &keys, highest);
@@ -78,7 +78,7 @@ pub fn start(block: &[u8], state: &mut [u8]) -> Reply
     ensures { λ r. ⌜ r ≡ startReply baseSpeeds (now (block .entry)) (length (now (state .entry))) ⌝ }
     ensures { λ _. ⌜ now (state .exit) ≡ startBuffer baseSpeeds (now (block .entry)) (now (state .entry)) ⌝ }
 {
-    let j = plan_block::read(block);
+    let j = plan_reading::read(block);
     let v = j.verdict;
     let p = j.plan;
     match v {

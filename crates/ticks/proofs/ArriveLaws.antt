@@ -20,7 +20,7 @@ use Rattle.reclaiming.specs.Passes.{workedOf}
 use Rattle.state.specs.Code.{entryIn, changed, withJobs}
 use Rattle.urgency.specs.Code.{keyOf, deadlineIn, dueAt}
 use Rattle.ticks.specs.Code.{arrivedState, renewedKeys}
-use Rattle.judging.proofs.LevelSpeeds.{work-short}
+use Rattle.admission.proofs.LevelSpeeds.{work-short}
 use Rattle.state.proofs.BlockLaws.{changed-there, changed-else, encode-worst, encode-work, jobs-count, jobs-worst, jobs-same, jobs-eq, store-work, store-remaining}
 use Rattle.arith.proofs.ArrayLaws.{values-more}
 

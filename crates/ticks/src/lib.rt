@@ -1,14 +1,14 @@
 // What d ticks make of a state, in its bytes.
+use clock::Clock;
 use orders::Choice;
-use state::clock::Clock;
-use state::image::clock_at;
-use state::image::count_at;
-use state::image::period_at;
-use state::image::put_remaining;
-use state::image::put_work;
-use state::image::remaining_at;
-use state::image::work_at;
-use state::image::worst_at;
+use state::clock_at;
+use state::count_at;
+use state::period_at;
+use state::put_remaining;
+use state::put_work;
+use state::remaining_at;
+use state::work_at;
+use state::worst_at;
 use urgency::NO_KEY;
 use urgency::deadline_in;
 use urgency::key_of;
@@ -85,7 +85,7 @@ fn work_off(block: &mut [u8], c: Choice, d: u32, finished: bool)
         put_work(block, i, 0);
         return;
     }
-    let speed = judging::speed_of(c.level as usize);
+    let speed = admission::speed_of(c.level as usize);
     let work = work_at(block, i);
     put_work(block, i, less(work, d * speed));
 }
@@ -162,7 +162,7 @@ pub fn move_on(
 {
     let count = count_at(block);
     let clock = Clock::new(clock_at(block)).after(d);
-    let speed = judging::speed_of(highest);
+    let speed = admission::speed_of(highest);
     drain(block, keys, count, d);
     work_off(block, c, d, finished);
     numeric::put_number(block, 0, 4, clock.ticks);

@@ -6,7 +6,8 @@ use native.Mathlib.Omega.{arith}
 use borrow.Author.Needs.{needs}
 use Rattle.plan.specs.declared.Plan.{Plan}
 use Rattle.arith.proofs.Loops.{length-mapped}
-use Rattle.judging.proofs.Judgements.{Held, listed, Filled, filled-more, filled-all}
+use Rattle.admission.proofs.Admissions.{Held, listed}
+use Rattle.judging.proofs.Judgements.{Filled, filled-more, filled-all}
 use Rattle.judging.proofs.cleared.Statement.{statement}
 use Rattle.judging.proofs.cleared.Tie as tie
 

@@ -4,7 +4,7 @@ use Prim.Native.Nat.{_≤_, _-_, _+_, _/_}
 use native.Mathlib.Omega.{arith}
 use Rattle.plan.specs.Levels.{baseSpeeds}
 use Rattle.reclaiming.specs.Orders.{lowestLevel}
-use Rattle.judging.proofs.LevelSpeeds.{Tried, tried-fits}
+use Rattle.admission.proofs.LevelSpeeds.{Tried, tried-fits}
 use Rattle.orders.proofs.OrderLaws.{level-most, level-high, level-low}
 use Rattle.orders.proofs.level_for.Statement.{statement}
 use Rattle.orders.proofs.level_for.Tie as tie

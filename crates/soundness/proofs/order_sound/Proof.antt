@@ -5,7 +5,7 @@ use mathlib.Core.List.{List}
 use native.Mathlib.Omega.{arith}
 use borrow.Author.Needs.{needs}
 use lib.ListN.{getD}
-use Rattle.judging.proofs.LevelSpeeds.{tried-fits}
+use Rattle.admission.proofs.LevelSpeeds.{tried-fits}
 use Rattle.urgency.proofs.HeadLaws.{Looked, Told, told-task}
 use Rattle.soundness.proofs.SoundLaws.{Weighed, not-idle, idle-level, other-task, level-high, level-tried, level-meets}
 use Rattle.soundness.proofs.order_sound.Statement.{statement}

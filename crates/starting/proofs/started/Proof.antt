@@ -6,7 +6,7 @@ use borrow.Author.Needs.{needs}
 use lib.ListN.{length}
 use Rattle.arith.proofs.Loops.{length-mapped}
 use Rattle.plan.specs.Blocks.{tasksOf}
-use Rattle.judging.proofs.Judgements.{count-is}
+use Rattle.admission.proofs.Admissions.{count-is}
 use Rattle.starting.proofs.StartLaws.{left-short, Planned, planned, level-below, speed-some, Newly, newly, new-size, new-periods, new-ready, new-left}
 use Rattle.starting.proofs.started.Statement.{statement}
 use Rattle.starting.proofs.started.Tie as tie

@@ -1,0 +1,2 @@
+pub mod LevelSpeeds
+pub mod Admissions

@@ -1,0 +1,170 @@
+// Whether a plan is admitted: its ranges, its hyperperiod and its nominal level.
+use plan::Plan;
+use plan::Task;
+use plan::Verdict;
+ghost use mathlib.Core.Path.{_≡_};
+ghost use mathlib.Core.Bool.{true};
+ghost use Prim.Native.Nat.{ℕ, _*_, _/_, _<_, _≤_, min};
+ghost use lib.Dec.{leb};
+ghost use lib.ListN.{getD};
+ghost use Rattle.arith.specs.Arrays.{padded};
+ghost use Rattle.arith.specs.Choice.{every, first};
+ghost use Rattle.arith.specs.Need.{need};
+ghost use Rattle.arith.specs.Ranges.{listTo};
+ghost use Rattle.arith.specs.Sum.{sumTo};
+ghost use Rattle.plan.specs.Levels.{baseSpeeds, speedOf, hyperperiod, nominal};
+ghost use Rattle.plan.specs.Questions.{inRange, taskQuestions};
+ghost use Rattle.arith.specs.Asking.{firstNo};
+ghost use Rattle.plan.specs.Blocks.{noTask, tasksOf};
+ghost use Rattle.plan.specs.Answers.{answered};
+
+const SPEEDS: [u32; 8] = [10, 20, 30, 40, 50, 60, 80, 100];
+
+pub fn speed_of(level: usize) -> u32
+    requires { ⌜ level < 8 ⌝ }
+    ensures { λ r. ⌜ r ≡ speedOf baseSpeeds level ⌝ }
+{
+    SPEEDS[level]
+}
+
+fn task_in_range(t: Task) -> bool
+    ensures { λ r. ⌜ r ≡ inRange t ⌝ }
+{
+    if t.period < 1 {
+        return false;
+    }
+    if t.period > 65535 {
+        return false;
+    }
+    if t.worst < 1 {
+        return false;
+    }
+    t.worst <= 1048575
+}
+
+// Whether each period and worst case is in its range.
+fn in_range(p: Plan) -> bool
+    requires { ⌜ p .count ≤ 16 ⌝ }
+    ensures { λ r. ⌜ r ≡ every inRange (tasksOf p) ⌝ }
+{
+    let count = p.count;
+    let mut i: usize = 0;
+    while i < count {
+        let t = p.tasks[i];
+        if !task_in_range(t) {
+            return false;
+        }
+        i += 1;
+    }
+    true
+}
+
+// The hyperperiod, or 1,000,001 where it is above 1,000,000.
+fn hyperperiod_of(p: Plan) -> u32
+    requires { ⌜ (p .count ≤ 16) × (every inRange (tasksOf p) ≡ true) ⌝ }
+    ensures { λ r. ⌜ r ≡ min (hyperperiod (tasksOf p)) 1000001 ⌝ }
+{
+    let mut i = p.count;
+    let mut h: u32 = 1;
+    while 0 < i {
+        i -= 1;
+        let t = p.tasks[i];
+        let l = numeric::lcm_of(t.period, h);
+        if l > 1000000 {
+            return 1000001;
+        }
+        h = l as u32;
+    }
+    h
+}
+
+// How many jobs each task has within a span, and 0 past the count.
+fn jobs_within(p: Plan, span: u32) -> [u32; 16]
+    requires { ⌜ (p .count ≤ 16) × (every inRange (tasksOf p) ≡ true) ⌝ }
+    ensures { λ r. ⌜ r ≡ padded 16 0 (listTo (p .count) (λ i. span / getD (p .tasks) i noTask .period)) ⌝ }
+{
+    let count = p.count;
+    let mut jobs = [0u32; 16];
+    let mut i: usize = 0;
+    while i < count {
+        let t = p.tasks[i];
+        jobs[i] = span / t.period;
+        i += 1;
+    }
+    jobs
+}
+
+// The time that the worst cases of so many jobs of each task take at a speed.
+fn demand(p: Plan, jobs: &[u32; 16], speed: u32) -> u64
+    requires { ⌜ (p .count ≤ 16) × (every inRange (tasksOf p) ≡ true) × (0 < speed) ⌝ }
+    requires { ⌜ ((i : ℕ) → i < p .count → getD (now jobs) i 0 ≤ 1000000) ⌝ }
+    ensures { λ r. ⌜ r ≡ sumTo (p .count) (λ i. need speed (getD (p .tasks) i noTask .worst) * getD (now (jobs .entry)) i 0) ⌝ }
+{
+    let count = p.count;
+    let mut total: u64 = 0;
+    let mut i: usize = 0;
+    while i < count {
+        let t = p.tasks[i];
+        let ticks = numeric::time_needed(speed, t.worst);
+        let n = jobs[i];
+        total += (ticks as u64) * (n as u64);
+        i += 1;
+    }
+    total
+}
+
+// The lowest level whose speed does so much work within a span, or 8.
+fn slowest_for(work: u64, span: u32) -> usize
+    ensures { λ r. ⌜ r ≡ first (λ (speed : ℕ). leb work (span * speed)) baseSpeeds ⌝ }
+{
+    let mut lowest: usize = 0;
+    while lowest < 8 {
+        let speed = speed_of(lowest);
+        if work <= (span as u64) * (speed as u64) {
+            return lowest;
+        }
+        lowest += 1;
+    }
+    lowest
+}
+
+// The lowest level that admits a plan of this hyperperiod, or 8. A level too slow for the plain work is passed over at once.
+fn nominal_of(p: Plan, span: u32) -> usize
+    requires { ⌜ (p .count ≤ 16) × (every inRange (tasksOf p) ≡ true) ⌝ }
+    requires { ⌜ (span ≡ hyperperiod (tasksOf p)) × (span ≤ 1000000) ⌝ }
+    ensures { λ r. ⌜ r ≡ nominal baseSpeeds (tasksOf p) ⌝ }
+{
+    let jobs = jobs_within(p, span);
+    let work = demand(p, &jobs, 1);
+    let mut level = slowest_for(work, span);
+    while level < 8 {
+        let speed = speed_of(level);
+        if demand(p, &jobs, speed) <= (span as u64) {
+            return level;
+        }
+        level += 1;
+    }
+    level
+}
+
+// The questions 6, 7 and 8.
+pub fn verdict_of(p: Plan) -> Verdict
+    requires { ⌜ p .count ≤ 16 ⌝ }
+    ensures { λ r. ⌜ r ≡ answered (firstNo (taskQuestions baseSpeeds (tasksOf p))) baseSpeeds (tasksOf p) ⌝ }
+{
+    if !in_range(p) {
+        return Verdict::Refused(6);
+    }
+    let span = hyperperiod_of(p);
+    if span > 1000000 {
+        return Verdict::Refused(7);
+    }
+    let level = nominal_of(p, span);
+    if level >= 8 {
+        return Verdict::Refused(8);
+    }
+    Verdict::Admitted {
+        nominal: level,
+        hyperperiod: span,
+    }
+}

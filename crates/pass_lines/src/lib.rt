@@ -1,0 +1,52 @@
+// The passes of an input, two bytes each: each is put to the dispatcher, and its line stored.
+use lines::refused_line;
+use lines::reply_line;
+use passing::pass;
+use reclaiming::Reply;
+ghost use mathlib.Core.Path.{_≡_};
+ghost use Prim.Native.Nat.{_+_, _^_, _<_, _≤_};
+ghost use lib.ListN.{length};
+ghost use Rattle.plan.specs.Levels.{baseSpeeds};
+ghost use Rattle.schedule.specs.PlainSchedule.{Timing};
+ghost use Rattle.reclaiming.specs.Run.{Pass, DispatcherBook, booked, bytesAfter};
+ghost use Rattle.transcript.specs.Listing.{passesIn};
+ghost use Rattle.lines.specs.Stores.{Put};
+ghost use Rattle.pass_lines.specs.Code.{passesText};
+
+// The clock of the dispatcher's book after a reply: it rises by d where the pass was accepted.
+fn clock_after(clock: u32, d: u32, r: Reply) -> u32
+    requires { ⌜ clock + d < 2 ^ 32 ⌝ }
+    ensures { λ q. ⌜ ((τ : Timing) (b : DispatcherBook) (p : Pass) → b .clock ≡ clock → p .d ≡ d → booked τ b p r .clock ≡ q) ⌝ }
+    ensures { λ q. ⌜ q ≤ clock + d ⌝ }
+{
+    match r {
+        Reply::Run { .. } => clock + d,
+        Reply::Idle { .. } => clock + d,
+        Reply::Refused(_) => clock,
+    }
+}
+
+// Stores the lines of all passes from a state on: of a book only its clock is told, so they are those of any book at clock 0.
+pub fn pass_lines(passes: &[u8], state: &mut [u8], out: &mut [u8], from: usize) -> usize
+    requires { ⌜ (length (now passes) ≤ 65536) × (from + 1800000 ≤ length (now out)) ⌝ }
+    ensures { λ r. ⌜ ((τ : Timing) (b : DispatcherBook) → b .clock ≡ 0 →
+        Put 1800000 (now (out .entry)) from (passesText τ b (now (state .entry)) (now (passes .entry))) r (now (out .exit))) ⌝ }
+    ensures { λ _. ⌜ now (state .exit) ≡ bytesAfter baseSpeeds (now (state .entry)) (passesIn (now (passes .entry))) ⌝ }
+{
+    let mut at = from;
+    let mut clock: u32 = 0;
+    let mut i: usize = 0;
+    while i + 1 < passes.len() {
+        let high = numeric::wide(passes[i]);
+        let d = high % 128 * 256 + numeric::wide(passes[i + 1]);
+        let reply = pass(state, d, 128 <= high);
+        let after = clock_after(clock, d, reply);
+        at = reply_line(out, at, after, reply);
+        clock = after;
+        i += 2;
+    }
+    if i < passes.len() {
+        return refused_line(out, at, 16);
+    }
+    at
+}

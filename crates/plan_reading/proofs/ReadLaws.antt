@@ -1,0 +1,169 @@
+-- Reading a plan block: what each way out of the code says of the block.
+-- Assumes nothing.
+use Prim.Native.Nat.{ℕ, zero, suc, _+_, _-_, _*_, _<_, _≤_}
+use mathlib.Core.Bool.{true}
+use mathlib.Core.Path.{_≡_, refl, sym, ap, _∙_}
+use mathlib.Core.List.{List, [], _∷_}
+use native.Mathlib.Omega.{arith}
+use borrow.Author.Tests.{le-leb, lt-leb, eq-eqb, ne-eqb}
+use lib.Dec.{eqb}
+use lib.ListN.{length, getD, drop}
+use lib.Seq.{drop-drop, take-all}
+use Rattle.arith.specs.Choice.{every}
+use Rattle.arith.specs.Digits.{number}
+use Rattle.arith.specs.Bits.{unpacked}
+use Rattle.plan.specs.declared.Task.{Task}
+use Rattle.plan.specs.declared.Plan.{Plan}
+use Rattle.plan.specs.declared.Judged.{Judged}
+use Rattle.plan.specs.declared.Verdict.the-variants as verdict
+use Rattle.plan.specs.declared.Written.the-variants as written
+use Rattle.plan.specs.Blocks.{bitCount, blockLength, editionIn, countIn, closingBits, taskFrom, tasksFrom, tasksIn, tasksOf, planOf, noTask}
+use Rattle.plan.specs.Questions.{countQuestion, taskQuestions, reading}
+use Rattle.arith.specs.Asking.{Question, ask, firstNo}
+use Rattle.plan.specs.Answers.{judgedBy, readBlock}
+use Rattle.judging.proofs.Judgements.{Filled, filled-all}
+use Rattle.arith.proofs.QuestionLaws.{within-true, ask-no, ask-yes, within-over, within-under}
+use Rattle.plan.proofs.BlockBits.{length-tasksFrom, tasksFrom-at, closing-zero}
+use Rattle.plan.proofs.RoundTrip.{tasksOf-planOf}
+
+-- a task read at its place
+pub task-read :
+    (bits : List ℕ) (i : ℕ) {p w : ℕ} →
+    p ≡ number 2 16 (drop (9 + 36 * i) bits) →
+    w ≡ number 2 20 (drop (25 + 36 * i) bits) →
+    _≡_ {A = Task} (record { period = p; worst = w }) (taskFrom (drop (bitCount i) bits))
+task-read bits i {p} {w} a b =
+    let e : 25 + 36 * i ≡ 9 + 36 * i + 16 = omega arith in
+    let later : w ≡ number 2 20 (drop 16 (drop (9 + 36 * i) bits)) =
+    b
+    ∙ ap (λ (k : ℕ). number 2 20 (drop k bits)) e
+    ∙ sym (ap (λ (l : List ℕ). number 2 20 l) (drop-drop 16 (9 + 36 * i) bits)) in
+    λ j. record { period = a j; worst = later j }
+
+-- a plan filled from the front with the tasks of a block
+module _ (bits : List ℕ) (count : ℕ) where
+  abbrev pub tasksAt : List Task
+  tasksAt = tasksFrom count (drop 9 bits)
+
+  pub tasks-listed : count ≤ length tasksAt
+  tasks-listed = omega (arith, length-tasksFrom count (drop 9 bits))
+
+  pub task-from : {i : ℕ} {t : Task} → i < count → t ≡ taskFrom (drop (bitCount i) bits) → t ≡ getD tasksAt i noTask
+  task-from {i} h e =
+      e
+      ∙ ap (λ (x : List ℕ). taskFrom x) (sym (drop-drop (36 * i) 9 bits))
+      ∙ sym (tasksFrom-at count (drop 9 bits) i h)
+
+  pub plan-read : {q : Plan} {i : ℕ} → Filled tasksAt count q i → count ≤ i → q ≡ planOf tasksAt
+  plan-read at h =
+      filled-all at tasks-listed h
+      ∙ ap (λ (x : List Task). planOf x) (take-all count tasksAt (omega (arith, length-tasksFrom count (drop 9 bits))))
+
+-- a refusal's number is all that is told, whatever the tasks are
+pub refused-as :
+    (speeds : List ℕ) (ts us : List Task) {r : Judged} {number n : ℕ} →
+    r ≡ judgedBy n speeds ts →
+    0 < n →
+    number ≡ n →
+    r ≡ judgedBy number speeds us
+refused-as speeds ts us {n = zero} a h e = absurd (omega arith)
+refused-as speeds ts us {n = suc n} a h e = a ∙ sym (ap (λ (k : ℕ). judgedBy k speeds us) e)
+
+-- the questions that a block is asked past its count
+abbrev sized : List ℕ → List ℕ → List Question
+sized speeds block =
+    ask 4 (eqb (length block) (blockLength (countIn block)))
+    ∷ ask 5 (every (eqb 0) (closingBits block))
+    ∷ taskQuestions speeds (tasksIn block)
+
+-- each way out of reading a block, by the first no of its questions
+module _ (speeds block : List ℕ) {r : Judged} where
+  refused-at : (n : ℕ) → r ≡ judgedBy (suc n) speeds [] → firstNo (reading speeds block) ≡ suc n → r ≡ readBlock speeds block
+  refused-at n a e = refused-as speeds [] (tasksIn block) a (omega arith) e
+
+  pub read-short : r ≡ judgedBy 1 speeds [] → length block < 2 → r ≡ readBlock speeds block
+  read-short a h = refused-at 0 a (ask-no 1 _ (lt-leb 2 (length block) h))
+
+  pub read-edition :
+      {x : ℕ} →
+      r ≡ judgedBy 2 speeds [] →
+      2 ≤ length block →
+      x ≡ editionIn block →
+      (x ≡ 1 → ⊥) →
+      r ≡ readBlock speeds block
+  read-edition a l e h =
+      refused-at 1 a (ask-yes 1 (le-leb 2 (length block) l) (ask-no 2 _ (ne-eqb (editionIn block) 1 (λ q. h (e ∙ q)))))
+
+-- 1 and 2 are answered yes, and the count is read
+pub record Opened (block : List ℕ) (count : ℕ) : Type 0 where
+  pub long : 2 ≤ length block
+  pub edition : editionIn block ≡ 1
+  pub counted : count ≡ countIn block
+
+module _ (speeds : List ℕ) {block : List ℕ} {count : ℕ} (o : Opened block count) where
+  opened : (m : ℕ) → firstNo (countQuestion (countIn block) ∷ sized speeds block) ≡ m → firstNo (reading speeds block) ≡ m
+  opened m h = ask-yes 1 (le-leb 2 (length block) (o .long)) (ask-yes 2 (eq-eqb (editionIn block) 1 (o .edition)) h)
+
+  pub read-low : {r : Judged} → r ≡ judgedBy 3 speeds [] → count < 1 → r ≡ readBlock speeds block
+  read-low a h = refused-at speeds block 2 a (opened 3 (ask-no 3 _ (within-under 1 16 (countIn block) (omega arith))))
+
+  pub read-high : {r : Judged} → r ≡ judgedBy 3 speeds [] → 16 < count → r ≡ readBlock speeds block
+  read-high a h = refused-at speeds block 2 a (opened 3 (ask-no 3 _ (within-over 1 16 (countIn block) (omega arith))))
+
+-- 3 is answered yes too
+pub record Counted (block : List ℕ) (count : ℕ) : Type 0 where
+  pub opens : Opened block count
+  pub low : 1 ≤ count
+  pub high : count ≤ 16
+
+module _ (speeds : List ℕ) {block : List ℕ} {count : ℕ} (c : Counted block count) where
+  counted : (m : ℕ) → firstNo (sized speeds block) ≡ m → firstNo (reading speeds block) ≡ m
+  counted m h = opened speeds (c .opens) m (ask-yes 3 (within-true 1 16 (countIn block) (omega arith) (omega arith)) h)
+
+  pub read-size :
+      {r : Judged} {n : ℕ} →
+      r ≡ judgedBy 4 speeds [] →
+      n ≡ blockLength count →
+      (length block ≡ n → ⊥) →
+      r ≡ readBlock speeds block
+  read-size a b h =
+      let e = ap (λ (k : ℕ). blockLength k) (c .opens .counted) in
+      refused-at speeds block 3 a
+      (counted 4 (ask-no 4 _ (ne-eqb (length block) (blockLength (countIn block)) (λ q. h (q ∙ sym (b ∙ e))))))
+
+-- 4 is answered yes too, and x is the number of the closing bits
+pub record Closing (block : List ℕ) (count x : ℕ) : Type 0 where
+  pub counts : Counted block count
+  pub size : length block ≡ blockLength count
+  pub closing : x ≡ number 2 (8 * length block - bitCount count) (drop (bitCount count) (unpacked block))
+
+module _ (speeds : List ℕ) {block : List ℕ} {count x : ℕ} (c : Closing block count x) where
+  four : eqb (length block) (blockLength (countIn block)) ≡ true
+  four = eq-eqb (length block) (blockLength (countIn block)) (c .size ∙ ap (λ (k : ℕ). blockLength k) (c .counts .opens .counted))
+
+  five : every (eqb 0) (closingBits block) ≡ eqb x 0
+  five =
+      let bits : ℕ → ℕ = λ k. number 2 (8 * length block - bitCount k) (drop (bitCount k) (unpacked block)) in
+      closing-zero block ∙ sym (ap (λ (m : ℕ). eqb m 0) (c .closing ∙ ap bits (c .counts .opens .counted)))
+
+  pub read-closing : {r : Judged} → r ≡ judgedBy 5 speeds [] → (x ≡ 0 → ⊥) → r ≡ readBlock speeds block
+  read-closing a h =
+      refused-at speeds block 4 a (counted speeds (c .counts) 5 (ask-yes 4 four (ask-no 5 _ (five ∙ ne-eqb x 0 h))))
+
+  pub read-tasks :
+      {q : Plan} {r : Judged} →
+      x ≡ 0 →
+      q ≡ planOf (tasksFrom count (drop 9 (unpacked block))) →
+      r ≡ judgedBy (firstNo (taskQuestions speeds (tasksOf q))) speeds (tasksOf q) →
+      r ≡ readBlock speeds block
+  read-tasks {q} h p a =
+      let bits : List ℕ = drop 9 (unpacked block) in
+      let rest : ℕ = firstNo (taskQuestions speeds (tasksIn block)) in
+      let ts : tasksOf q ≡ tasksIn block =
+      ap (λ (z : Plan). tasksOf z) p
+      ∙ tasksOf-planOf (tasksFrom count bits)
+      ∙ ap (λ (k : ℕ). tasksFrom k bits) (c .counts .opens .counted) in
+      let n : firstNo (reading speeds block) ≡ rest = counted speeds (c .counts) rest (ask-yes 4 four (ask-yes 5 (five ∙ eq-eqb x 0 h) refl)) in
+      a
+      ∙ ap (λ (l : List Task). judgedBy (firstNo (taskQuestions speeds l)) speeds l) ts
+      ∙ sym (ap (λ (m : ℕ). judgedBy m speeds (tasksIn block)) n)

@@ -1,0 +1,85 @@
+// Reading a plan block.
+use judging::empty_plan;
+use judging::judged_with;
+use judging::refused;
+use plan::Judged;
+use plan::Plan;
+use plan::Task;
+ghost use mathlib.Core.Path.{_≡_};
+ghost use Prim.Native.Nat.{_+_, _*_, _/_, _<_, _≤_};
+ghost use lib.ListN.{length, drop};
+ghost use Rattle.arith.specs.Bits.{unpacked};
+ghost use Rattle.plan.specs.Levels.{baseSpeeds};
+ghost use Rattle.plan.specs.Blocks.{tasksFrom, taskFrom, planOf, bitCount, blockLength, editionIn, countIn};
+ghost use Rattle.plan.specs.Answers.{readBlock};
+
+// Task i of a block.
+fn task_in(block: &[u8], i: usize) -> Task
+    requires { ⌜ (i < 16) × (bitCount (i + 1) ≤ 8 * length (now block)) ⌝ }
+    ensures { λ r. ⌜ r ≡ taskFrom (drop (bitCount i) (unpacked (now (block .entry)))) ⌝ }
+{
+    let period = numeric::bits_at(block, 9 + 36 * i, 16);
+    let worst = numeric::bits_at(block, 25 + 36 * i, 20);
+    Task { period, worst }
+}
+
+// The plan of a block of so many tasks.
+fn plan_in(block: &[u8], count: usize) -> Plan
+    requires { ⌜ (count ≤ 16) × (bitCount count ≤ 8 * length (now block)) ⌝ }
+    ensures { λ r. ⌜ r ≡ planOf (tasksFrom count (drop 9 (unpacked (now (block .entry))))) ⌝ }
+{
+    let mut q = empty_plan();
+    q.count = count;
+    let mut i: usize = 0;
+    while i < count {
+        let t = task_in(block, i);
+        q.tasks[i] = t;
+        i += 1;
+    }
+    q
+}
+
+// How many bytes the block of so many tasks has.
+pub fn block_length(count: usize) -> usize
+    requires { ⌜ count ≤ 16 ⌝ }
+    ensures { λ r. ⌜ r ≡ blockLength count ⌝ }
+{
+    (16 + 36 * count) / 8
+}
+
+// Questions 5 to 8, of a block of which 1 to 4 are answered yes.
+fn read_counted(block: &[u8], count: usize) -> Judged
+    requires { ⌜ (editionIn (now block) ≡ 1) × (count ≡ countIn (now block)) ⌝ }
+    requires { ⌜ (1 ≤ count) × (count ≤ 16) × (length (now block) ≡ blockLength count) ⌝ }
+    ensures { λ r. ⌜ r ≡ readBlock baseSpeeds (now (block .entry)) ⌝ }
+{
+    let used = 9 + 36 * count;
+    let closing = numeric::bits_at(block, used, 8 * block.len() - used);
+    if closing != 0 {
+        return refused(5);
+    }
+    judged_with(plan_in(block, count))
+}
+
+// A block read: the questions 1 to 8.
+pub fn read(block: &[u8]) -> Judged
+    ensures { λ r. ⌜ r ≡ readBlock baseSpeeds (now (block .entry)) ⌝ }
+{
+    if block.len() < 2 {
+        return refused(1);
+    }
+    if numeric::bits_at(block, 0, 4) != 1 {
+        return refused(2);
+    }
+    let count = numeric::bits_at(block, 4, 5) as usize;
+    if count < 1 {
+        return refused(3);
+    }
+    if count > 16 {
+        return refused(3);
+    }
+    if block.len() != block_length(count) {
+        return refused(4);
+    }
+    read_counted(block, count)
+}

@@ -1,0 +1,295 @@
+-- Writing a plan block, and the round trips: what each way out of the code says of the block.
+-- Assumes nothing.
+use Prim.Native.Nat.{ℕ, _+_, _-_, _*_, _/_, _%_, _^_, _<_, _≤_}
+use mathlib.Core.Path.{_≡_, refl, sym, subst, ap, ap₂, _∙_}
+use mathlib.Core.List.{List, [], _∷_, _++_}
+use native.Mathlib.Numerals.{add-one}
+use native.Mathlib.Omega.{arith}
+use borrow.Author.Tests.{le-leb, lt-leb}
+use lib.ListN.{length, getD, take, drop, set, length-set, length-take}
+use lib.Seq.{getD-take, take-all, take-at, paste, paste-zero, paste-suc}
+use Rattle.arith.specs.Digits.{number}
+use Rattle.plan.specs.declared.Task.{Task}
+use Rattle.plan.specs.declared.Plan.{Plan}
+use Rattle.plan.specs.declared.Judged.{Judged}
+use Rattle.plan.specs.declared.Verdict.{Verdict}
+use Rattle.plan.specs.declared.Verdict.the-variants as verdict
+use Rattle.plan.specs.declared.Written.{Written}
+use Rattle.plan.specs.declared.Written.the-variants as written
+use Rattle.plan.specs.Blocks.{planBits, planBlock, blockLength, tasksIn, tasksOf, planOf, noTask}
+use Rattle.plan.specs.Questions.{taskQuestions, judging, reading, roomQuestion}
+use Rattle.arith.specs.Asking.{Question, firstNo}
+use Rattle.plan.specs.Answers.{answered, beside, judgedBy, readBlock, writeNumber, writtenBy, storedBy, writePlan, writeBuffer}
+use Rattle.plan.specs.Laws.{Bytes}
+use Rattle.admission.proofs.Admissions.{Held, count-is}
+use Rattle.judging.proofs.Judgements.{count-low, count-high, count-good}
+use Rattle.plan.proofs.Facts.{fine-block}
+use Rattle.arith.proofs.QuestionLaws.{ask-no, ask-yes, no-before, yes-before, yes-of}
+use Rattle.plan.proofs.BlockBits.{planBits-edition, planBits-count, planBits-period, planBits-worst, planBits-past}
+use Rattle.plan.proofs.BlockBits.{length-planBlock, planBlock-at}
+use Rattle.plan.proofs.RoundTrip.{written-reads-back, none-accepted, accepted-block, tasksOf-planOf, read-judged}
+use Rattle.plan.proofs.AnswerLaws.{told-refused, told-admitted, told-written, Leaves, leaves-refused, leaves-written}
+
+-- the length of a plan's block, and the block's byte j
+module _ {p : Plan} (plan : Held p) where
+  pub planBlock-length : length (planBlock (tasksOf p)) ≡ blockLength (p .count)
+  planBlock-length = length-planBlock (tasksOf p) ∙ ap (λ (n : ℕ). blockLength n) (count-is plan)
+
+  pub planBlock-byte :
+      {j x : ℕ} →
+      j < blockLength (p .count) →
+      x ≡ number 2 8 (drop (8 * j) (planBits (tasksOf p))) →
+      x ≡ getD (planBlock (tasksOf p)) j 0
+  planBlock-byte {j} h e =
+      e ∙ sym (planBlock-at (tasksOf p) j (subst (λ (n : ℕ). j < blockLength n) (sym (count-is plan)) h))
+
+  -- bit k of its block: of the count, and past the last task
+  pub bit-count : {k x : ℕ} → 4 ≤ k → k < 9 → x ≡ p .count / 2 ^ (8 - k) % 2 → x ≡ getD (planBits (tasksOf p)) k 0
+  bit-count {k} low high e =
+      e
+      ∙ sym (ap (λ (n : ℕ). n / 2 ^ (8 - k) % 2) (count-is plan))
+      ∙ sym (planBits-count (tasksOf p) k low high)
+
+  pub bit-past : {k : ℕ} → 9 ≤ k → p .count ≤ (k - 9) / 36 → 0 ≡ getD (planBits (tasksOf p)) k 0
+  bit-past {k} low h = sym (planBits-past (tasksOf p) k low (omega (arith, count-is plan)))
+
+pub bit-edition : (ts : List Task) {k x : ℕ} → k < 4 → x ≡ 1 / 2 ^ (3 - k) % 2 → x ≡ getD (planBits ts) k 0
+bit-edition ts {k} h e = e ∙ sym (planBits-edition ts k h)
+
+-- bit k stands in a task
+pub record InTask (p : Plan) (k : ℕ) : Type 0 where
+  pub plan : Held p
+  pub low : 9 ≤ k
+  pub below : (k - 9) / 36 < p .count
+
+module _ {p : Plan} {k : ℕ} (b : InTask p k) where
+  here : getD (tasksOf p) ((k - 9) / 36) noTask ≡ getD (p .tasks) ((k - 9) / 36) noTask
+  here = getD-take (p .count) (p .tasks) ((k - 9) / 36) noTask (b .below)
+
+  inside : (k - 9) / 36 < length (tasksOf p)
+  inside = omega (arith, count-is (b .plan))
+
+  pub bit-period :
+      {x : ℕ} →
+      (k - 9) % 36 < 16 →
+      x ≡ getD (p .tasks) ((k - 9) / 36) noTask .period / 2 ^ (15 - (k - 9) % 36) % 2 →
+      x ≡ getD (planBits (tasksOf p)) k 0
+  bit-period r e =
+      e
+      ∙ sym (ap (λ (t : Task). t .period / 2 ^ (15 - (k - 9) % 36) % 2) here)
+      ∙ sym (planBits-period (tasksOf p) k (b .low) inside r)
+
+  pub bit-worst :
+      {x : ℕ} →
+      16 ≤ (k - 9) % 36 →
+      x ≡ getD (p .tasks) ((k - 9) / 36) noTask .worst / 2 ^ (35 - (k - 9) % 36) % 2 →
+      x ≡ getD (planBits (tasksOf p)) k 0
+  bit-worst r e =
+      e
+      ∙ sym (ap (λ (t : Task). t .worst / 2 ^ (35 - (k - 9) % 36) % 2) here)
+      ∙ sym (planBits-worst (tasksOf p) k (b .low) inside r)
+
+-- bytes stored from the front, one a turn
+pub record Stored (bytes buffer m : List ℕ) (j : ℕ) : Type 0 where
+  pub room : length bytes ≤ length buffer
+  pub within : j ≤ length bytes
+  pub same : length m ≡ length buffer
+  pub pasted : m ≡ paste buffer 0 bytes j
+
+pub stored-none : {bytes buffer : List ℕ} → length bytes ≤ length buffer → Stored bytes buffer buffer 0
+stored-none {bytes} {buffer} h =
+    record { room = h; within = omega arith; same = refl; pasted = paste-zero buffer 0 bytes }
+
+module _ {bytes buffer m : List ℕ} {j : ℕ} (at : Stored bytes buffer m j) where
+  pub stored-more : {x : ℕ} → j < length bytes → x ≡ getD bytes j 0 → Stored bytes buffer (set m j x) (j + 1)
+  stored-more {x} h v =
+      let z : j ≡ 0 + j = omega arith in
+      record {
+        room = at .room;
+        within = omega arith;
+        same = length-set m j x ∙ at .same;
+        pasted =
+            ap₂ (λ (l : List ℕ) (y : ℕ). set l j y) (at .pasted) v
+            ∙ ap (λ (i : ℕ). set (paste buffer 0 bytes j) i (getD bytes j 0)) z
+            ∙ paste-suc buffer 0 bytes j 0 (omega arith) h
+            ∙ sym (ap (λ (i : ℕ). paste buffer 0 bytes i) (add-one j));
+      }
+
+  pub stored-all : length bytes ≤ j → m ≡ storedBy 0 bytes buffer
+  stored-all h =
+      let all : j ≡ length bytes = omega arith in
+      let z : 0 + length bytes ≡ length bytes = omega arith in
+      at .pasted
+      ∙ ap (λ (i : ℕ). paste buffer 0 bytes i) all
+      ∙ ap₂ (λ (l : List ℕ) (i : ℕ). l ++ drop i buffer) (take-all (length bytes) bytes (omega arith)) z
+
+-- the questions of writing a plan into so much room: those of judging it, and the room
+module _ (speeds : List ℕ) (p : Plan) where
+  abbrev asked : List Question
+  asked = judging speeds (p .count) (tasksOf p)
+
+  abbrev last : ℕ → List Question
+  last room = roomQuestion (length (planBlock (tasksOf p))) room ∷ []
+
+  write-last : (room : ℕ) → firstNo asked ≡ 0 → writeNumber speeds p room ≡ firstNo (last room)
+  write-last room e = yes-before asked (last room) refl e
+
+  write-short : (room : ℕ) → firstNo asked ≡ 0 → room < length (planBlock (tasksOf p)) → writeNumber speeds p room ≡ 9
+  write-short room e h = write-last room e ∙ ask-no 9 0 (lt-leb (length (planBlock (tasksOf p))) room h)
+
+  write-fits : (room : ℕ) → firstNo asked ≡ 0 → length (planBlock (tasksOf p)) ≤ room → writeNumber speeds p room ≡ 0
+  write-fits room e h = write-last room e ∙ ask-yes 9 (le-leb (length (planBlock (tasksOf p))) room h) refl
+
+-- each way out of writing a plan
+abbrev Wrote : List ℕ → Plan → List ℕ → Written → List ℕ → Type 0
+Wrote speeds p buffer r m = Leaves (writeNumber speeds p (length buffer)) (planBlock (tasksOf p)) buffer r m
+
+module _ (speeds : List ℕ) (p : Plan) (buffer : List ℕ) where
+  wrote-no : (n : ℕ) → 0 < n → firstNo (asked speeds p) ≡ n → Wrote speeds p buffer (written.Refused n) buffer
+  wrote-no n h e =
+      leaves-refused (writeNumber speeds p (length buffer)) n (planBlock (tasksOf p)) buffer h
+      (no-before (asked speeds p) (last speeds p (length buffer)) n h e)
+
+  pub wrote-low : p .count < 1 → Wrote speeds p buffer (written.Refused 3) buffer
+  wrote-low h = wrote-no 3 (omega arith) (count-low speeds (tasksOf p) (p .count) h)
+
+  pub wrote-high : 16 < p .count → Wrote speeds p buffer (written.Refused 3) buffer
+  wrote-high h = wrote-no 3 (omega arith) (count-high speeds (tasksOf p) (p .count) h)
+
+-- the count is in its range, and the tasks are judged
+pub record Rated (speeds : List ℕ) (p : Plan) (v : Verdict) : Type 0 where
+  pub low : 1 ≤ p .count
+  pub high : p .count ≤ 16
+  pub verdict-is : v ≡ answered (firstNo (taskQuestions speeds (tasksOf p))) speeds (tasksOf p)
+
+module _ {speeds : List ℕ} {p : Plan} {v : Verdict} (r : Rated speeds p v) where
+  asked-is : firstNo (asked speeds p) ≡ firstNo (taskQuestions speeds (tasksOf p))
+  asked-is = count-good speeds (tasksOf p) (p .count) (r .low) (r .high)
+
+  pub wrote-refused : (buffer : List ℕ) {n : ℕ} → v ≡ verdict.Refused n → Wrote speeds p buffer (written.Refused n) buffer
+  wrote-refused buffer {n} b =
+      let t = told-refused speeds (tasksOf p) v (firstNo (taskQuestions speeds (tasksOf p))) n (r .verdict-is) b in
+      wrote-no speeds p buffer n (t .0) (asked-is ∙ t .1)
+
+  pub rated-fine : {level span : ℕ} → v ≡ verdict.Admitted level span → firstNo (asked speeds p) ≡ 0
+  rated-fine {level} {span} b =
+      asked-is
+      ∙ told-admitted speeds (tasksOf p) v (firstNo (taskQuestions speeds (tasksOf p))) level span (r .verdict-is) b
+
+-- the tasks are admitted, and n bytes are wanted
+pub record Wanted (speeds : List ℕ) (p : Plan) (n : ℕ) : Type 0 where
+  pub fine : firstNo (asked speeds p) ≡ 0
+  pub wanted : n ≡ length (planBlock (tasksOf p))
+
+module _ {speeds : List ℕ} {p : Plan} {n : ℕ} (w : Wanted speeds p n) (buffer : List ℕ) where
+  pub wrote-short : length buffer < n → Wrote speeds p buffer (written.Refused 9) buffer
+  wrote-short h =
+      leaves-refused (writeNumber speeds p (length buffer)) 9 (planBlock (tasksOf p)) buffer (omega arith)
+      (write-short speeds p (length buffer) (w .fine) (subst (λ (k : ℕ). length buffer < k) (w .wanted) h))
+
+  pub wrote-block : {m : List ℕ} → n ≤ length buffer → m ≡ storedBy 0 (planBlock (tasksOf p)) buffer → Wrote speeds p buffer (written.Bytes n) m
+  wrote-block {m} h s =
+      leaves-written (writeNumber speeds p (length buffer)) n (planBlock (tasksOf p)) buffer m
+      (write-fits speeds p (length buffer) (w .fine) (subst (λ (k : ℕ). k ≤ length buffer) (w .wanted) h))
+      (w .wanted)
+      s
+
+-- a block read, and what writes it again
+module _ (speeds block : List ℕ) where
+  abbrev room-asked : ℕ → List Question
+  room-asked room = roomQuestion (length block) room ∷ []
+
+  abbrev Copied : List ℕ → Written → List ℕ → Type 0
+  Copied buffer r m = Leaves (firstNo (reading speeds block ++ room-asked (length buffer))) block buffer r m
+
+  -- accepted: its plan's block is the block itself, and its plan is accepted too
+  module _ (bytes : Bytes block) {p : Plan} (accepted : firstNo (reading speeds block) ≡ 0) (e : p ≡ planOf (tasksIn block)) where
+    copied : planBlock (tasksOf p) ≡ block
+    copied =
+        ap (λ (q : Plan). planBlock (tasksOf q)) e
+        ∙ ap (λ (ts : List Task). planBlock ts) (tasksOf-planOf (tasksIn block))
+        ∙ accepted-block speeds block bytes (fine-block speeds block accepted)
+
+    judged : firstNo (asked speeds p) ≡ 0
+    judged = read-judged speeds block p accepted e
+
+    copy-number : (room : ℕ) → writeNumber speeds p room ≡ firstNo (reading speeds block ++ room-asked room)
+    copy-number room =
+        write-last speeds p room judged
+        ∙ ap (λ (l : List ℕ). firstNo (roomQuestion (length l) room ∷ [])) copied
+        ∙ sym (yes-before (reading speeds block) (room-asked room) refl accepted)
+
+    leaves-copy :
+        (buffer : List ℕ) {r : Written} {m : List ℕ} →
+        r ≡ writePlan speeds p (length buffer) →
+        m ≡ writeBuffer speeds p buffer →
+        Copied buffer r m
+    leaves-copy buffer a b = (
+      a ∙ ap₂ (λ (k : ℕ) (l : List ℕ). writtenBy k l) (copy-number (length buffer)) copied,
+      b ∙ ap₂ (λ (k : ℕ) (l : List ℕ). storedBy k l buffer) (copy-number (length buffer)) copied,
+    )
+
+  pub leaves-read :
+      (buffer : List ℕ) {j : Judged} {level span : ℕ} {r : Written} {m : List ℕ} →
+      Bytes block →
+      j ≡ readBlock speeds block →
+      j .verdict ≡ verdict.Admitted level span →
+      r ≡ writePlan speeds (j .plan) (length buffer) →
+      m ≡ writeBuffer speeds (j .plan) buffer →
+      Copied buffer r m
+  leaves-read buffer {j} {level} {span} bytes a b =
+      let n : firstNo (reading speeds block) ≡ 0 =
+      told-admitted speeds (tasksIn block) (j .verdict) (firstNo (reading speeds block)) level span (ap (λ (x : Judged). x .verdict) a) b in
+      leaves-copy bytes n (ap (λ (x : Judged). x .plan) a ∙ ap (λ (k : ℕ). beside k (tasksIn block)) n) buffer
+
+  -- refused: its number is all that is left
+  pub leaves-unread :
+      (buffer : List ℕ) {j : Judged} {n : ℕ} →
+      j ≡ readBlock speeds block →
+      j .verdict ≡ verdict.Refused n →
+      Copied buffer (written.Refused n) buffer
+  leaves-unread buffer {j} {n} a b =
+      let t = told-refused speeds (tasksIn block) (j .verdict) (firstNo (reading speeds block)) n (ap (λ (x : Judged). x .verdict) a) b in
+      leaves-refused (firstNo (reading speeds block ++ room-asked (length buffer))) n block buffer (t .0)
+      (no-before (reading speeds block) (room-asked (length buffer)) n (t .0) (t .1))
+
+-- a plan written: the front of the buffer is its block, which reads back
+pub record Rewritten (speeds : List ℕ) (p : Plan) (buffer m : List ℕ) (n : ℕ) : Type 0 where
+  pub number : writeNumber speeds p (length buffer) ≡ 0
+  pub wanted : n ≡ length (planBlock (tasksOf p))
+  pub stored : m ≡ writeBuffer speeds p buffer
+
+pub rewritten :
+    {speeds : List ℕ} {p : Plan} {buffer m : List ℕ} {n : ℕ} {w : Written} →
+    w ≡ writePlan speeds p (length buffer) →
+    w ≡ written.Bytes n →
+    m ≡ writeBuffer speeds p buffer →
+    Rewritten speeds p buffer m n
+rewritten {speeds} {p} {buffer} a b s =
+    let t = told-written (planBlock (tasksOf p)) (writeNumber speeds p (length buffer)) a b in
+    record { number = t .0; wanted = t .1; stored = s }
+
+module _ {speeds : List ℕ} {p : Plan} {buffer m : List ℕ} {n : ℕ} (w : Rewritten speeds p buffer m n) where
+  front : take n m ≡ planBlock (tasksOf p)
+  front =
+      let bytes : List ℕ = planBlock (tasksOf p) in
+      ap (λ (x : List ℕ). take n x) (w .stored ∙ ap (λ (k : ℕ). storedBy k bytes buffer) (w .number))
+      ∙ take-at bytes (drop (length bytes) buffer) n (sym (w .wanted))
+
+  pub front-length : n ≡ length (take n m)
+  front-length = w .wanted ∙ sym (ap (λ (x : List ℕ). length x) front)
+
+  pub front-fits : n ≤ length m
+  front-fits = omega (arith, length-take n m, front-length)
+
+  pub reads-back :
+      {r : Judged} →
+      length (p .tasks) ≡ 16 →
+      r ≡ readBlock speeds (take n m) →
+      r ≡ judgedBy (writeNumber speeds p (length buffer)) speeds (tasksOf p)
+  reads-back places a =
+      let z : firstNo (asked speeds p) ≡ 0 = yes-of (asked speeds p) (last speeds p (length buffer)) (w .number) in
+      a
+      ∙ ap (λ (l : List ℕ). readBlock speeds l) front
+      ∙ written-reads-back speeds p places (none-accepted speeds (tasksOf p) (firstNo (asked speeds p)) z)
+      ∙ ap (λ (k : ℕ). judgedBy k speeds (tasksOf p)) (z ∙ sym (w .number))

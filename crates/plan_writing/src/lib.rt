@@ -1,0 +1,137 @@
+// Writing a plan block, bit by bit; the round trips.
+use admission::verdict_of;
+use judging::refused;
+use plan::Judged;
+use plan::Plan;
+use plan::Verdict;
+use plan::Written;
+use plan_reading::block_length;
+use plan_reading::read;
+ghost use mathlib.Core.Path.{_≡_};
+ghost use Prim.Native.Nat.{_+_, _*_, _/_, _%_, _^_, _<_, _≤_};
+ghost use lib.ListN.{length, drop, getD};
+ghost use Rattle.arith.specs.Digits.{number};
+ghost use Rattle.plan.specs.Levels.{baseSpeeds};
+ghost use Rattle.plan.specs.Blocks.{tasksOf, planBits, planBlock, blockLength};
+ghost use Rattle.plan.specs.Answers.{writePlan, writeBuffer, writtenBy, storedBy, writeNumber, judgedBy, copyNumber};
+
+// Bit k of a number, counted from its lowest.
+fn bit_of(x: u32, k: usize) -> u32
+    requires { ⌜ k < 32 ⌝ }
+    ensures { λ r. ⌜ r ≡ x / 2 ^ k % 2 ⌝ }
+{
+    (x >> k) % 2
+}
+
+// Bit k of a plan's block, past the edition and the count.
+fn task_bit(p: Plan, k: usize) -> u32
+    requires { ⌜ (p .count ≤ 16) × (9 ≤ k) × (k < 1024) ⌝ }
+    ensures { λ r. ⌜ r ≡ getD (planBits (tasksOf p)) k 0 ⌝ }
+{
+    let i = (k - 9) / 36;
+    let r = (k - 9) % 36;
+    let count = p.count;
+    if count <= i {
+        return 0;
+    }
+    let t = p.tasks[i];
+    if r < 16 {
+        return bit_of(t.period, 15 - r);
+    }
+    bit_of(t.worst, 35 - r)
+}
+
+// Bit k of a plan's block.
+fn plan_bit(p: Plan, k: usize) -> u32
+    requires { ⌜ (p .count ≤ 16) × (k < 1024) ⌝ }
+    ensures { λ r. ⌜ r ≡ getD (planBits (tasksOf p)) k 0 ⌝ }
+{
+    if k < 4 {
+        return bit_of(1, 3 - k);
+    }
+    if k < 9 {
+        return bit_of(p.count as u32, 8 - k);
+    }
+    task_bit(p, k)
+}
+
+// Byte j of a plan's block.
+fn plan_byte(p: Plan, j: usize) -> u8
+    requires { ⌜ (p .count ≤ 16) × (j < 74) ⌝ }
+    ensures { λ r. ⌜ r ≡ number 2 8 (drop (8 * j) (planBits (tasksOf p))) ⌝ }
+{
+    let mut acc: u32 = 0;
+    let mut i: usize = 0;
+    while i < 8 {
+        acc = acc * 2 + plan_bit(p, 8 * j + i);
+        i += 1;
+    }
+    acc as u8
+}
+
+// Stores the block of a plan.
+fn put_block(p: Plan, buffer: &mut [u8])
+    requires { ⌜ (p .count ≤ 16) × (blockLength (p .count) ≤ length (now buffer)) ⌝ }
+    ensures { λ _. ⌜ now (buffer .exit) ≡ storedBy 0 (planBlock (tasksOf p)) (now (buffer .entry)) ⌝ }
+{
+    let n = block_length(p.count);
+    let mut j: usize = 0;
+    while j < n {
+        buffer[j] = plan_byte(p, j);
+        j += 1;
+    }
+}
+
+// A plan written: the questions 3, 6, 7, 8, then 9.
+pub fn write(p: Plan, buffer: &mut [u8]) -> Written
+    ensures { λ r. ⌜ r ≡ writePlan baseSpeeds p (length (now (buffer .entry))) ⌝ }
+    ensures { λ _. ⌜ now (buffer .exit) ≡ writeBuffer baseSpeeds p (now (buffer .entry)) ⌝ }
+{
+    let count = p.count;
+    if count < 1 {
+        return Written::Refused(3);
+    }
+    if count > 16 {
+        return Written::Refused(3);
+    }
+    let v = verdict_of(p);
+    if let Verdict::Refused(n) = v {
+        return Written::Refused(n);
+    }
+    let wanted = block_length(count);
+    if buffer.len() < wanted {
+        return Written::Refused(9);
+    }
+    put_block(p, buffer);
+    Written::Bytes(wanted)
+}
+
+// A block read and written again: the very same bytes, where the reading accepts it and there is room.
+pub fn copy(block: &[u8], buffer: &mut [u8]) -> Written
+    ensures { λ r. ⌜ r ≡ writtenBy
+        (copyNumber baseSpeeds (now (block .entry)) (length (now (buffer .entry))))
+        (now (block .entry)) ⌝ }
+    ensures { λ _. ⌜ now (buffer .exit) ≡ storedBy
+        (copyNumber baseSpeeds (now (block .entry)) (length (now (buffer .entry))))
+        (now (block .entry)) (now (buffer .entry)) ⌝ }
+{
+    let j = read(block);
+    let v = j.verdict;
+    if let Verdict::Refused(n) = v {
+        return Written::Refused(n);
+    }
+    let p = j.plan;
+    write(p, buffer)
+}
+
+// A plan written and read back: judged as the plan itself is, where there is room for its block.
+pub fn reread(p: Plan, buffer: &mut [u8]) -> Judged
+    ensures { λ r. ⌜ r ≡ judgedBy (writeNumber baseSpeeds p (length (now (buffer .entry)))) baseSpeeds (tasksOf p) ⌝ }
+    ensures { λ _. ⌜ now (buffer .exit) ≡ writeBuffer baseSpeeds p (now (buffer .entry)) ⌝ }
+{
+    let w = write(p, buffer);
+    match w {
+        Written::Refused(n) => refused(n),
+        Written::Bytes(n) => read(&buffer[..n]),
+    }
+}

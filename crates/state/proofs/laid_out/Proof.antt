@@ -1,0 +1,64 @@
+-- `laid_out` meets its contract: the eighth byte, a pair of bytes past an entry or a byte past all entries decides.
+-- Assumes nothing.
+use native.Mathlib.Omega.{arith}
+use borrow.Author.Needs.{needs}
+use borrow.Author.Tests.{not-true, not-false}
+use Rattle.state.proofs.LayoutLaws.{BlockBytes, eighth-not, pairs-decide, zeros-decide}
+use Rattle.state.proofs.laid_out.Statement.{statement}
+use Rattle.state.proofs.laid_out.Tie as tie
+
+known : (c : tie.After-shared-slice-known) → BlockBytes (c .before .args .block .now)
+known c = record { size = c .before .pre .0; few = c .before .pre .1; bytes = λ k. omega (arith, c .shared-slice-known .given k) }
+
+-- the place past the first test
+abbrev tested : tie.After-pairs-zero → tie.Else1
+tested c = c .before .before
+
+shared-slice-read-if1 : tie.Need-shared-slice-read-if1
+shared-slice-read-if1 c = search needs
+
+returns : tie.Need-returns
+returns c = eighth-not (known (c .before .before)) (c .if1 .taken)
+
+shared-slice-read-count : tie.Need-shared-slice-read-count
+shared-slice-read-count c = search needs
+
+cast-count : tie.Need-cast-count
+cast-count c = search needs
+
+pairs-zero-requires : tie.Need-pairs-zero-requires
+pairs-zero-requires c κs = search needs
+
+returns-2 : tie.Need-returns-2
+returns-2 c =
+    let e : tie.Else1 = tested (c .before) in
+    pairs-decide (known (e .before .before)) (e .if1 .left) (c .before .pairs-zero .ensures) (not-true _ (c .if2 .taken))
+
+mul-zero-from : tie.Need-mul-zero-from
+mul-zero-from c = search needs
+
+add-zero-from : tie.Need-add-zero-from
+add-zero-from c = search needs
+
+zero-from-requires : tie.Need-zero-from-requires
+zero-from-requires c κs = search needs
+
+returns-3 : tie.Need-returns-3
+returns-3 c =
+    let e : tie.Else1 = tested (c .before .before) in
+    zeros-decide (known (e .before .before)) (e .if1 .left) (c .before .before .pairs-zero .ensures) (not-false _ (c .before .if2 .left)) (c .zero-from .ensures)
+
+pub laid-out-spec : {M : Type 1} → statement M
+laid-out-spec =
+    tie.close
+    (tie.spec
+    shared-slice-read-if1
+    returns
+    shared-slice-read-count
+    cast-count
+    pairs-zero-requires
+    returns-2
+    mul-zero-from
+    add-zero-from
+    zero-from-requires
+    returns-3)
