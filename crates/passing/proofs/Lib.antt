@@ -1,2 +1,1 @@
-pub mod QuestionSteps
 pub mod PassLaws

@@ -1,4 +1,4 @@
-// A pass: its questions, and what it makes of a state, in its bytes.
+// A pass: whether it is accepted, and what it makes of a state, in its bytes.
 use clock::Clock;
 use orders::Choice;
 use orders::choose;
@@ -6,6 +6,7 @@ use orders::choose_until;
 use orders::hold_of;
 use orders::order_of;
 use orders::standing;
+use pass_questions::pass_number;
 use reclaiming::Reply;
 use soundness::test_block;
 use state::clock_at;
@@ -21,55 +22,11 @@ ghost use Rattle.arith.specs.Asking.{firstNo};
 ghost use Rattle.reclaiming.specs.StateBlock.{encode, decode};
 ghost use Rattle.reclaiming.specs.Orders.{nextArrival};
 ghost use Rattle.reclaiming.specs.Passes.{choosesAnew, passedState};
-ghost use Rattle.reclaiming.specs.Questions.{largestClock, sound, passQuestions};
+ghost use Rattle.reclaiming.specs.Questions.{sound, passQuestions};
 ghost use Rattle.reclaiming.specs.Calls.{passOrder, passReply, passBytes};
 ghost use Rattle.state.specs.Code.{timingIn};
 ghost use Rattle.orders.specs.Code.{choiceOf};
 ghost use Rattle.soundness.specs.Code.{Good};
-ghost use Rattle.passing.specs.Code.{finishQuestions, timeQuestions};
-
-// The first no of the questions 13 and 14, or 0.
-fn finish_number(c: Choice, d: u32, finished: bool) -> u32
-    ensures { λ r. ⌜ r ≡ firstNo (finishQuestions c d finished) ⌝ }
-{
-    if c.task == 255 {
-        if finished {
-            return 13;
-        }
-        return 0;
-    }
-    if d < c.time {
-        return 0;
-    }
-    if d > c.time {
-        return 14;
-    }
-    if finished {
-        return 0;
-    }
-    14
-}
-
-// The first no of the questions 11 to 15, or 0.
-fn pass_number(clock: Clock, c: Choice, next: u32, d: u32, finished: bool) -> u32
-    requires { ⌜ clock .ticks ≤ largestClock ⌝ }
-    ensures { λ r. ⌜ r ≡ firstNo (timeQuestions (clock .ticks) c next d finished) ⌝ }
-{
-    if d < 1 {
-        return 11;
-    }
-    if d > next {
-        return 12;
-    }
-    let n = finish_number(c, d, finished);
-    if n != 0 {
-        return n;
-    }
-    if !clock.has_room(d) {
-        return 15;
-    }
-    0
-}
 
 // Whether an order is chosen anew after d ticks, of which the block knows nothing yet: the job finished, or one arrives.
 fn chooses_anew(block: &[u8], next: u32, d: u32, finished: bool) -> bool

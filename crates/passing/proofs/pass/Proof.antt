@@ -17,8 +17,8 @@ use Rattle.soundness.specs.Code.{Good}
 use Rattle.soundness.proofs.SoundFacts.{runnable, sound-state, sound-clock, count-some}
 use Rattle.soundness.proofs.SoundLaws.{tested-good}
 use Rattle.orders.proofs.OrderLaws.{Timed, choose-next, choose-when}
-use Rattle.passing.specs.Code.{timeQuestions}
-use Rattle.passing.proofs.QuestionSteps.{asked-is}
+use Rattle.pass_questions.specs.Code.{timeQuestions}
+use Rattle.pass_questions.proofs.QuestionSteps.{asked-is}
 use Rattle.passing.proofs.PassLaws.{Passing, number-10, number-is, refused, accepts}
 use Rattle.passing.proofs.pass.Statement.{statement}
 use Rattle.passing.proofs.pass.Tie as tie

@@ -17,7 +17,7 @@ use Rattle.reclaiming.specs.Orders.{nextArrival}
 use Rattle.reclaiming.specs.Questions.{largestClock, runningTime, passQuestions}
 use Rattle.orders.specs.declared.Choice.{Choice}
 use Rattle.orders.specs.Code.{choiceOf}
-use Rattle.passing.specs.Code.{finishQuestions, timeQuestions}
+use Rattle.pass_questions.specs.Code.{finishQuestions, timeQuestions}
 
 -- the first no of the questions 13 and 14, where it is known whether a job runs
 abbrev finishNo : Bool → Bool → ℕ → ℕ → ℕ

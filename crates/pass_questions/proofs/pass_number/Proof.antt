@@ -3,9 +3,9 @@
 use native.Mathlib.Omega.{arith}
 use borrow.Author.Needs.{needs}
 use borrow.Author.Tests.{not-true, not-false}
-use Rattle.passing.proofs.QuestionSteps.{Timely, no-11, no-12, no-finish, no-15, no-none}
-use Rattle.passing.proofs.pass_number.Statement.{statement}
-use Rattle.passing.proofs.pass_number.Tie as tie
+use Rattle.pass_questions.proofs.QuestionSteps.{Timely, no-11, no-12, no-finish, no-15, no-none}
+use Rattle.pass_questions.proofs.pass_number.Statement.{statement}
+use Rattle.pass_questions.proofs.pass_number.Tie as tie
 
 abbrev start : tie.After-finish-number → tie.Start
 start c = c .before .before .before

@@ -1,8 +1,8 @@
 -- `finish_number` meets its contract.
 -- Assumes nothing.
-use Rattle.passing.proofs.QuestionSteps.{no-13, idle-on, time-left, time-over, time-whole, time-not}
-use Rattle.passing.proofs.finish_number.Statement.{statement}
-use Rattle.passing.proofs.finish_number.Tie as tie
+use Rattle.pass_questions.proofs.QuestionSteps.{no-13, idle-on, time-left, time-over, time-whole, time-not}
+use Rattle.pass_questions.proofs.finish_number.Statement.{statement}
+use Rattle.pass_questions.proofs.finish_number.Tie as tie
 
 returns : tie.Need-returns
 returns c = let s : tie.Start = search in no-13 (s .args .c) (s .args .d) (s .args .finished) (c .before .if1 .taken) (c .if2 .taken)
