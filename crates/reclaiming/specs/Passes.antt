@@ -39,7 +39,7 @@ abbrev pub workedOf : List ℕ → State → ℕ → Bool → ℕ → ℕ
 workedOf speeds s d finished i =
     pick (eqb i (s .task)) (pick finished 0 (workOf s i - d * speedOf speeds (s .level))) (workOf s i)
 
--- so the ticks leave of task i's entry
+-- what the ticks leave of task i's entry, where no job of it arrives
 abbrev pub agedEntry : List ℕ → Timing → State → ℕ → Bool → ℕ → Entry
 agedEntry speeds τ s d finished i = record {
   period = τ .period i;

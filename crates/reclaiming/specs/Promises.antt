@@ -82,7 +82,7 @@ Demand3 speeds =
     OnTime (timing speeds (tasksIn block)) (actualBook speeds block buffer passes) (plainBook speeds block buffer passes)
 
 -- Demand 2: "The queue shown is the ready queue of the plain schedule at that tick, from any accepted start on."
--- So says what showing answers and leaves in any lent buffer.
+-- Said of the call: of what showing answers and leaves, for any lent buffer.
 abbrev pub QueueShown : List ℕ → Type 0
 QueueShown speeds =
     (block buffer : List ℕ) (passes : List Pass) (lent : List ℕ) →

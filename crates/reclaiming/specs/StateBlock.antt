@@ -38,7 +38,7 @@ taskOf e = record { period = e .period; worst = e .worst }
 abbrev pub planIn : State → List Task
 planIn s = map taskOf (s .entries)
 
--- what the plain schedule sees of a plan: periods, and allotments. 01: "A task's allotment is its worst case's time at the nominal level."
+-- what the plain schedule sees of a plan: periods, and the worst cases' times at a speed as allotments
 abbrev pub timingAt : ℕ → List Task → Timing
 timingAt speed ts = record {
   count = length ts;
@@ -46,6 +46,7 @@ timingAt speed ts = record {
   allotment = λ i. need speed (getD ts i noTask .worst);
 }
 
+-- 01: "A task's allotment is its worst case's time at the nominal level."
 abbrev pub timing : List ℕ → List Task → Timing
 timing speeds ts = timingAt (speedOf speeds (nominal speeds ts)) ts
 
