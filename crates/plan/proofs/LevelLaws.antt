@@ -11,37 +11,34 @@ use borrow.Author.Tests.{leb-true, le-leb}
 use lib.Dec.{ltb}
 use lib.ListN.{length, getD, drop}
 use Rattle.arith.specs.Choice.{both, every}
-use Rattle.arith.specs.Need.{need}
 use Rattle.arith.proofs.Tests.{both-left, both-right}
-use Rattle.arith.proofs.Needs.{need-covers, need-least, need-faster}
 use Rattle.arith.proofs.Divisors.{lcm-left, lcm-right, lcm-least, lcm-positive}
 use Rattle.arith.proofs.Sums.{sumOf-le}
 use Rattle.arith.proofs.Searches.{first-le, first-passes}
 use Rattle.plan.specs.declared.Task.{Task}
+use Rattle.plan.specs.Times.{whole, taskTime}
 use Rattle.plan.specs.Levels.{baseSpeeds, Rising, speedOf, hyperperiod, demandWithin, admits, nominal}
 use Rattle.plan.specs.Blocks.{noTask}
 use Rattle.plan.specs.Questions.{inRange}
 use Rattle.plan.specs.Laws.{AdmitsFromNominal, HyperperiodIsLeast}
+use Rattle.plan.proofs.TimeLaws.{time-faster, time-slowed}
 use Rattle.plan.proofs.Facts.{range-at}
 
 -- a faster speed demands no more, so it admits what a slower one does
 pub demand-faster :
     (span r s : ℕ) (ts : List Task) → 0 < r → r ≤ s → demandWithin span s ts ≤ demandWithin span r ts
 demand-faster span r s ts h le =
-    sumOf-le (λ (t : Task). need s (t .worst) * (span / t .period)) (λ (t : Task). need r (t .worst) * (span / t .period)) ts
-    (λ t. mul-le-mul-right (span / t .period) (need-faster r s (t .worst) h le))
+    sumOf-le (λ (t : Task). taskTime s t * (span / t .period)) (λ (t : Task). taskTime r t * (span / t .period)) ts
+    (λ t. mul-le-mul-right (span / t .period) (time-faster r s (whole t) h le))
 
 -- the plain work is the demand at speed 1, and the demand at a speed covers it
 pub demand-covers : (span s : ℕ) (ts : List Task) → 0 < s → demandWithin span 1 ts ≤ demandWithin span s ts * s
 demand-covers span s [] h = omega arith
 demand-covers span s (t ∷ ts) h =
-    let w : ℕ = t .worst in
     let j : ℕ = span / t .period in
-    let plain : need 1 w ≤ need s w * s =
-    need-least 1 w (need s w * s) (omega arith) (omega (arith, need-covers s w h)) in
-    let one : need 1 w * j ≤ need s w * j * s =
-    subst (λ (x : ℕ). need 1 w * j ≤ x) (mul-right-comm (need s w) s j) (mul-le-mul-right j plain) in
-    subst (λ (x : ℕ). demandWithin span 1 (t ∷ ts) ≤ x) (sym (add-mul (need s w * j) (demandWithin span s ts) s))
+    let one : taskTime 1 t * j ≤ taskTime s t * j * s =
+    subst (λ (x : ℕ). taskTime 1 t * j ≤ x) (mul-right-comm (taskTime s t) s j) (mul-le-mul-right j (time-slowed s (whole t) h)) in
+    subst (λ (x : ℕ). demandWithin span 1 (t ∷ ts) ≤ x) (sym (add-mul (taskTime s t * j) (demandWithin span s ts) s))
     (add-le-add one (demand-covers span s ts h))
 
 -- a speed that admits does the plain work within the hyperperiod

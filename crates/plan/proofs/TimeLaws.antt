@@ -1,43 +1,88 @@
--- Laws about the time needed: tests of it without dividing, by the work that the ticks do.
+-- The laws of the time that a job needs, all that is used of it: more needs no less; a faster speed needs no more; no time is needed
+-- exactly where nothing is left; d ticks make it d less. And how the code tells it, and bounds it, without dividing.
 -- Assumes nothing.
-use Prim.Native.Nat.{ℕ, suc, _+_, _-_, _*_, _<_, _≤_}
-use mathlib.Core.Path.{_≡_}
-use native.Mathlib.Nat.{le-trans, mul-le-mul-right, lt-of-mul-lt-mul-right, suc-mul, mod-add-div'}
+use Prim.Native.Nat.{ℕ, suc, _-_, _*_, _<_, _≤_}
+use mathlib.Core.Path.{_≡_, refl, sym, subst, ap, _∙_}
+use native.Mathlib.Nat.{le-trans, mul-le-mul-right}
+use native.Mathlib.Decide.{decLe}
 use native.Mathlib.Omega.{arith}
 use borrow.Author.Tests.{leb-true, le-leb}
-use lib.Dec.{leb, ltb}
+use lib.Dec.{leb}
 use Rattle.arith.specs.Need.{need}
 use Rattle.arith.proofs.Tests.{same-test}
-use Rattle.arith.proofs.Needs.{need-covers, need-least}
+use Rattle.arith.proofs.Needs.{need-covers, need-least, need-mono, need-faster, need-zero, need-zero-work, need-after, need-le}
+use Rattle.plan.specs.declared.Task.{Task}
+use Rattle.plan.specs.Times.{Rest, whole, noRest, Within, timeOf, worn}
+
+-- 1. what has more left needs no less
+pub time-more : (s : ℕ) (a b : Rest) → 0 < s → Within a b → timeOf s a ≤ timeOf s b
+unfolding timeOf
+time-more s a b h w = need-mono s (a .work) (b .work) h (w .work)
+
+-- 2. a faster speed needs no more
+pub time-faster : (r s : ℕ) (a : Rest) → 0 < r → r ≤ s → timeOf s a ≤ timeOf r a
+unfolding timeOf
+time-faster r s a h le = need-faster r s (a .work) h le
+
+-- 3. a closed job needs no time, an open one some
+pub time-none : (s : ℕ) → 0 < s → timeOf s noRest ≡ 0
+unfolding timeOf
+time-none s h = need-zero s h
+
+pub time-some : (s : ℕ) (a : Rest) → 0 < s → 0 < a .work → 0 < timeOf s a
+unfolding timeOf
+time-some s a h w =
+    elim (decLe 1 (timeOf s a)) [ yes l ↦ l | no l ↦ absurd (omega (arith, need-zero-work s (a .work) h (omega arith))) ]
+
+-- 4. d ticks at the speed make it d less
+pub time-after : (s d : ℕ) (a : Rest) → 0 < s → d ≤ timeOf s a → timeOf s (worn s d a) ≡ timeOf s a - d
+unfolding timeOf worn
+time-after s d a h le = need-after s (a .work) d h le
+
+-- they never leave more than there was
+pub worn-within : (s d : ℕ) (a : Rest) → Within (worn s d a) a
+unfolding worn
+worn-within s d a = record { work = omega arith }
+
+-- nor nothing of a job whose time they do not fill
+pub worn-open : (s d : ℕ) (a : Rest) → 0 < s → 0 < a .work → d < timeOf s a → 0 < worn s d a .work
+unfolding timeOf worn
+worn-open s d a h w lt =
+    elim (decLe 1 (worn s d a .work)) [
+      | yes l ↦ l
+      | no l ↦
+          let z : worn s d a .work ≡ 0 = omega arith in
+          let e : timeOf s (worn s d a) ≡ 0 = ap (need s) z ∙ need-zero s h in
+          absurd (omega (arith, time-after s d a h (omega arith)))
+    ]
+
+-- what has nothing left has no more than anything
+pub none-within : (a : Rest) → Within noRest a
+none-within a = record { work = omega arith }
+
+pub within-self : (a : Rest) → Within a a
+within-self a = record { work = omega arith }
 
 -- two comparisons that hold together pass together
 leb-same : (m n p q : ℕ) → (m ≤ n → p ≤ q) → (p ≤ q → m ≤ n) → leb m n ≡ leb p q
 leb-same m n p q f g =
     same-test (leb m n) (leb p q) (λ h. le-leb p q (f (leb-true m n h))) (λ h. le-leb m n (g (leb-true p q h)))
 
--- the time needed leaves less than a tick to spare
-need-tight : (s w : ℕ) → 0 < s → need s w * s < w + s
-unfolding need
-need-tight s w h = omega (arith, mod-add-div' (w + (s - 1)) s)
+-- some ticks are enough where the work is at most what they do
+pub time-test : (s t : ℕ) (a : Rest) → 0 < s → leb (timeOf s a) t ≡ leb (a .work) (t * s)
+unfolding timeOf
+time-test s t a h =
+    leb-same (timeOf s a) t (a .work) (t * s)
+    (λ k. le-trans (need-covers s (a .work) h) (mul-le-mul-right s k))
+    (λ k. need-least s (a .work) t h k)
 
--- the time needed is at most r ticks where the work is at most what r ticks do
-pub need-test : (s w r : ℕ) → 0 < s → leb (need s w) r ≡ leb w (r * s)
-need-test s w r h =
-    leb-same (need s w) r w (r * s) (λ k. le-trans (need-covers s w h) (mul-le-mul-right s k)) (λ k. need-least s w r h k)
+-- a tick at a speed does no more than so many ticks at speed 1
+pub time-slowed : (s : ℕ) (a : Rest) → 0 < s → timeOf 1 a ≤ timeOf s a * s
+unfolding timeOf
+time-slowed s a h =
+    need-least 1 (a .work) (timeOf s a * s) (omega arith) (omega (arith, need-covers s (a .work) h))
 
--- r ticks are at most the time needed where what they do is less than a tick's work above the work
-pub need-above : (s w r : ℕ) → 0 < s → leb r (need s w) ≡ ltb (r * s) (w + s)
-need-above s w r h =
-    leb-same r (need s w) (suc (r * s)) (w + s) low high
-  where
-    low : r ≤ need s w → r * s < w + s
-    low k =
-        let m : r * s ≤ need s w * s = mul-le-mul-right s k in
-        omega (arith, need-tight s w h)
-
-    high : r * s < w + s → r ≤ need s w
-    high k =
-        let c : w ≤ need s w * s = need-covers s w h in
-        let u : r * s < suc (need s w) * s = rw suc-mul (omega arith) in
-        let b : r < suc (need s w) = lt-of-mul-lt-mul-right s u in
-        omega arith
+-- no time is longer than that of as many ticks as there is work
+pub time-most : (s : ℕ) (a : Rest) → 0 < s → timeOf s a ≤ a .work
+unfolding timeOf
+time-most s a h = need-le s (a .work) h

@@ -8,9 +8,9 @@ use lib.Dec.{leb}
 use lib.ListN.{length, getD}
 use Rattle.arith.specs.Choice.{first}
 use Rattle.arith.specs.Sum.{sumOf}
-use Rattle.arith.specs.Need.{need}
 use Rattle.arith.specs.Divisor.{lcm}
 use Rattle.plan.specs.declared.Task.{Task}
+use Rattle.plan.specs.Times.{taskTime}
 
 -- 01: "Levels 0 to 7 are 10, 20, 30, 40, 50, 60, 80, 100."
 abbrev pub baseSpeeds : List ℕ
@@ -32,7 +32,7 @@ hyperperiod (t ∷ ts) = lcm (t .period) (hyperperiod ts)
 
 -- over the tasks, the sum of (time needed for the worst case at a speed, times a span divided by the period)
 abbrev pub demandWithin : ℕ → ℕ → List Task → ℕ
-demandWithin span speed ts = sumOf (λ (t : Task). need speed (t .worst) * (span / t .period)) ts
+demandWithin span speed ts = sumOf (λ (t : Task). taskTime speed t * (span / t .period)) ts
 
 -- 01: "A level admits the plan if, over the tasks, the sum of (..) is at most the hyperperiod."
 abbrev pub admits : List Task → ℕ → Bool

@@ -1,3 +1,4 @@
+pub mod Times
 pub mod Levels
 pub mod Blocks
 pub mod Questions

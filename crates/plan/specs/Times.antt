@@ -1,0 +1,34 @@
+-- 01, "Plan, levels, plain schedule": what is left of a job, and the time that it needs at a speed. All else goes through the laws of
+-- `timeOf` and `worn` (proofs/TimeLaws): nothing beside them knows that a time is a quotient.
+-- Assumes nothing.
+use Prim.Native.Nat.{ℕ, _-_, _*_, _≤_}
+use Rattle.arith.specs.Need.{need}
+use Rattle.plan.specs.declared.Task.{Task}
+
+-- what is left of a job: 01's "work left"
+pub record Rest : Type 0 where
+  pub work : ℕ
+
+-- a whole job of a task: "full worst case"
+abbrev pub whole : Task → Rest
+whole t = record { work = t .worst }
+
+-- a job that has closed: "0 once finished"
+abbrev pub noRest : Rest
+noRest = record { work = 0 }
+
+-- one job has no more left than another
+pub record Within (a b : Rest) : Type 0 where
+  pub work : a .work ≤ b .work
+
+-- 01: "The time needed for work at a level is the work divided by the speed, rounded up to whole ticks. All work scales with the level."
+unfoldable pub timeOf : ℕ → Rest → ℕ
+timeOf speed r = need speed (r .work)
+
+-- 01: "its work left falls by d times the level's speed": what d ticks at a speed leave
+unfoldable pub worn : ℕ → ℕ → Rest → Rest
+worn speed d r = record { work = r .work - d * speed }
+
+-- the time of a task's worst case at a speed
+abbrev pub taskTime : ℕ → Task → ℕ
+taskTime speed t = timeOf speed (whole t)
