@@ -3,26 +3,28 @@
 -- Assumes nothing.
 use Prim.Native.Nat.{ℕ, _+_, _≤_, _<_}
 use mathlib.Core.Path.{_≡_, refl, sym, subst, subst₂, ap, ap₂, _∙_}
-use mathlib.Core.Bool.{Bool, true}
+use mathlib.Core.Bool.{Bool, true, true≢false, not}
 use mathlib.Core.List.{List, [], _∷_}
 use mathlib.Core.Logic.{_⊎_, inl, inr, ⊎-elim}
 use native.Mathlib.Decide.{ℕ-discrete}
 use native.Mathlib.Omega.{arith}
-use borrow.Author.Tests.{leb-true}
+use borrow.Author.Tests.{leb-true, eq-eqb}
 use lib.Dec.{eqb}
 use lib.ListN.{length, getD, take, drop}
 use lib.Seq.{take-at, drop-at}
 use Rattle.arith.specs.Choice.{both}
 use Rattle.arith.specs.Asking.{Question}
 use Rattle.arith.specs.Ranges.{listTo}
-use Rattle.arith.proofs.Needs.{need-positive}
+use Rattle.arith.proofs.Tests.{passed, failed, tested}
 use Rattle.arith.proofs.QuestionLaws.{ask-yes, yes-of, yes-after, all-yes}
 use Rattle.arith.proofs.RangeLaws.{getD-listTo}
 use Rattle.plan.specs.declared.Task.{Task}
-use Rattle.plan.specs.Levels.{Rising, hyperperiod, nominal}
+use Rattle.plan.specs.Times.{timeOf}
+use Rattle.plan.specs.Levels.{Rising, speedOf, hyperperiod, nominal}
 use Rattle.plan.specs.Blocks.{tasksIn}
 use Rattle.plan.specs.Questions.{reading, roomQuestion}
 use Rattle.plan.specs.Answers.{roomNumber, writtenBy, storedBy}
+use Rattle.plan.proofs.TimeLaws.{time-some}
 use Rattle.plan.proofs.Facts.{FineList, fine-block, block-list, range-at}
 use Rattle.schedule.specs.PlainSchedule.{Timing, Job, Pending, Book, latest, deadline, moreUrgent, canonicalAt, queueOf, opened}
 use Rattle.schedule.specs.Feasibility.{In, Fitting}
@@ -35,27 +37,27 @@ use Rattle.schedule.proofs.QueueLaws.{queueOf-cong, in-queueOf}
 use Rattle.schedule.proofs.Span.{canonical-start}
 use Rattle.reclaiming.specs.declared.Reply.{Reply}
 use Rattle.reclaiming.specs.declared.Entry.{Entry}
-use Rattle.reclaiming.specs.StateBlock.{State, encode, decode, planIn, timing, workOf, remainingOf, noEntry}
-use Rattle.reclaiming.specs.Orders.{holdOf, orderWith}
+use Rattle.reclaiming.specs.StateBlock.{State, encode, decode, planIn, timing, workOf, remainingOf, restIn, restOf, noEntry}
+use Rattle.reclaiming.specs.Orders.{runningTime, holdOf, orderWith}
 use Rattle.reclaiming.specs.Passes.{startState, newEntry, passedState, passedHold}
-use Rattle.reclaiming.specs.Questions.{largestClock, running, runningTime}
+use Rattle.reclaiming.specs.Questions.{largestClock, running}
 use Rattle.reclaiming.specs.Calls.{repliedBy, isOrder, startReply, startBuffer, startNumber, startOrder, queueBytes, readyQueue, shownBytes, passReply}
 use Rattle.reclaiming.specs.Calls.{showNumber, showReply, showBuffer}
-use Rattle.reclaiming.specs.Run.{Pass, DispatcherBook, Arrived, bookedAll, ranAll, bytesAfter, trace, openedBook, namedBy, startedBytes}
+use Rattle.reclaiming.specs.Run.{Pass, DispatcherBook, Arrived, bookedAll, ranAll, bytesAfter, trace, unopenedBook, openedBook, ordered, startedBytes}
 use Rattle.reclaiming.specs.Promises.{Started, OpenPlain, OpenActual, OnTime, MostUrgent, NamesMostUrgent, Shows}
-use Rattle.reclaiming.specs.Promises.{Demand3, QueueShown, StaysSound, RunsMostUrgent, NoDeadEnd, Open}
-use Rattle.reclaiming.specs.Promises.{holdIn, lastOrder, stateAfter, actualBook, plainBook, replies}
+use Rattle.reclaiming.specs.Promises.{Demand3, QueueShown, StaysSound, RunsMostUrgent, SameLeft, NoDeadEnd, Open}
+use Rattle.reclaiming.specs.Promises.{timeLeft, isRun, holdIn, lastOrder, stateAfter, actualBook, plainBook, replies}
 use Rattle.reclaiming.proofs.Fine.{Fine, Accepted, nominalSpeed}
-use Rattle.reclaiming.proofs.Replies.{is-idle, is-run, viewOrder, order-accepted, order-named, order-held, not-refused}
+use Rattle.reclaiming.proofs.Replies.{is-idle, is-run, viewOrder, order-accepted, order-booked, order-runs, order-held, not-refused}
 use Rattle.reclaiming.proofs.Plans.{nominal-positive, plan-fits}
 use Rattle.reclaiming.proofs.StateCodec.{length-encode}
-use Rattle.reclaiming.proofs.Soundness.{fine-length, fine-storable, questions-yes}
+use Rattle.reclaiming.proofs.Soundness.{fine-length, fine-storable, pass-yes}
 use Rattle.reclaiming.proofs.PassedStates.{choose-clock, choose-entries}
 use Rattle.reclaiming.proofs.PassSound.{start-fine, hold-accepted, finish-accepted}
 use Rattle.reclaiming.proofs.Books.{OpenLatest, Held, held-start, Ended, ended-start, latest-arrived, latest-deadline}
 use Rattle.reclaiming.proofs.OrderFacts.{Runs, Ordered, idles, runs}
-use Rattle.reclaiming.proofs.Worked.{ordered}
-use Rattle.reclaiming.proofs.Runs.{Tied, Kept, kept-pass, stored-sound, stored-length, decoded, reply-is}
+use Rattle.reclaiming.proofs.Worked as worked
+use Rattle.reclaiming.proofs.Runs.{Tied, Kept, idle-level, kept-pass, stored-sound, stored-length, decoded, reply-is}
 
 module _ (speeds : List ℕ) (rising : Rising speeds) (few : length speeds ≤ 256) where
   -- what an accepted start has shown
@@ -87,8 +89,18 @@ module _ (speeds : List ℕ) (rising : Rising speeds) (few : length speeds ≤ 2
     fine : Fine speeds ts s
     fine = start-fine speeds ts good rising
 
+    -- the state before an order is chosen in it
+    abbrev unordered : State
+    unordered = record { clock = 0; task = 255; level = 0; entries = listTo (length ts) (newEntry τ ts) }
+
+    clock : s .clock ≡ 0
+    clock = choose-clock speeds τ unordered
+
+    in-time : s .clock ≤ largestClock
+    in-time = omega (arith, clock)
+
     size : length (encode s) ≡ 200
-    size = length-encode s (fine-storable speeds ts s good rising few fine .count)
+    size = length-encode s (fine-storable speeds ts s good rising few fine in-time .count)
 
     begun : startedBytes speeds block buffer ≡ encode s
     begun =
@@ -101,13 +113,6 @@ module _ (speeds : List ℕ) (rising : Rising speeds) (few : length speeds ≤ 2
         ap (λ (n : ℕ). drop 200 (storedBy n (encode s) buffer)) number
         ∙ drop-at (encode s) (drop (length (encode s)) buffer) 200 size
         ∙ ap (λ (n : ℕ). drop n buffer) size
-
-    -- the state before an order is chosen in it
-    abbrev unordered : State
-    unordered = record { clock = 0; task = 255; level = 0; entries = listTo (length ts) (newEntry τ ts) }
-
-    clock : s .clock ≡ 0
-    clock = choose-clock speeds τ unordered
 
     entry : (i : ℕ) → i < length ts → getD (s .entries) i noEntry ≡ newEntry τ ts i
     entry i h =
@@ -132,16 +137,28 @@ module _ (speeds : List ℕ) (rising : Rising speeds) (few : length speeds ≤ 2
     replied : first ≡ orderWith s hold
     replied = ap (λ (n : ℕ). repliedBy n (startOrder speeds s)) number
 
-    kept-start : Kept speeds ts (startedBytes speeds block buffer) (openedBook first) (opened τ) first
+    -- the book at the start
+    book :
+        openedBook ts first
+        ≡ record { clock = 0; closed = []; task = s .task; level = s .level; left = unopenedBook ts .left }
+    book = ap (ordered (unopenedBook ts)) replied ∙ order-booked s hold (idle-level good fine) (unopenedBook ts)
+
+    kept-start : Kept speeds ts (startedBytes speeds block buffer) (openedBook ts first) (opened τ) first
     kept-start = record {
       state = s;
+      stored = begun;
+      in-time = in-time;
       tied = record {
-        stored = begun;
         fine = fine;
-        clock = sym clock;
-        task = ap (λ (r : Reply). namedBy r 255) replied ∙ order-named s hold 255;
-        held = subst (λ (c : ℕ). Held τ c (workOf s) []) (sym clock) (held-start τ (workOf s) (fits .periods) open-all);
-        ended = subst (λ (c : ℕ). Ended τ c (workOf s) []) (sym clock) (ended-start τ (workOf s));
+        clock = ap (λ (b : DispatcherBook). b .clock) book ∙ sym clock;
+        task = ap (λ (b : DispatcherBook). b .task) book;
+        level = ap (λ (b : DispatcherBook). b .level) book;
+        left = λ i h. ap (λ (b : DispatcherBook). b .left i) book ∙ sym (ap restIn (entry i h));
+        held =
+            subst₂ (λ (c : ℕ) (b : DispatcherBook). Held τ c (workOf s) (b .closed)) (sym clock) (sym book)
+            (held-start τ (workOf s) (fits .periods) open-all);
+        ended =
+            subst₂ (λ (c : ℕ) (b : DispatcherBook). Ended τ c (workOf s) (b .closed)) (sym clock) (sym book) (ended-start τ (workOf s));
         plainly = ap (canonicalAt τ) (sym clock);
         queue =
             subst (λ (c : ℕ). canonicalAt τ c ≡ record { clock = c; pending = queueOf τ c (remainingOf s) (τ .count) }) (sym clock)
@@ -156,13 +173,13 @@ module _ (speeds : List ℕ) (rising : Rising speeds) (few : length speeds ≤ 2
     kept-run :
         (passes : List Pass) {bytes : List ℕ} {a : DispatcherBook} {b : Book} {last : Reply} →
         Kept speeds ts bytes a b last →
-        Kept speeds ts (bytesAfter speeds bytes passes) (bookedAll (timing speeds ts) a (trace speeds bytes passes))
+        Kept speeds ts (bytesAfter speeds bytes passes) (bookedAll speeds ts a (trace speeds bytes passes))
         (ranAll (timing speeds ts) b (trace speeds bytes passes)) (lastOrder last (trace speeds bytes passes))
     kept-run [] k = k
     kept-run (p ∷ ps) {bytes} {a} {b} {last} k = kept-run ps (kept-pass speeds rising few ts good p bytes a b last k)
 
     -- what the tie says of the books
-    module _ {s : State} {bytes : List ℕ} {a : DispatcherBook} {b : Book} {last : Reply} (t : Tied speeds ts s bytes a b last) where
+    module _ {s : State} {a : DispatcherBook} {b : Book} {last : Reply} (t : Tied speeds ts s a b last) where
       fits-run : Fitting (timing speeds ts) (hyperperiod ts)
       fits-run = plan-fits speeds ts good rising
 
@@ -174,7 +191,7 @@ module _ (speeds : List ℕ) (rising : Rising speeds) (few : length speeds ≤ 2
       ticks i h w =
           omega (
             arith,
-            need-positive (nominalSpeed speeds ts) (workOf s i) (nominal-positive speeds ts good rising) w,
+            time-some (nominalSpeed speeds ts) (restOf s i) (nominal-positive speeds ts good rising) w,
             t .fine .entries .ahead i h,
           )
 
@@ -234,9 +251,6 @@ module _ (speeds : List ℕ) (rising : Rising speeds) (few : length speeds ≤ 2
             omega (arith, ap (λ (k : Book). k .clock) plain-is);
       }
 
-      is-state : decode bytes ≡ s
-      is-state = decoded speeds rising few ts good (t .stored) (t .fine)
-
       -- a task's latest job that has work left is open there
       is-open : (i : ℕ) → i < length ts → 0 < workOf s i → OpenActual (timing speeds ts) a (latest (timing speeds ts) (a .clock) i)
       is-open i h w =
@@ -255,7 +269,7 @@ module _ (speeds : List ℕ) (rising : Rising speeds) (few : length speeds ≤ 2
           ])
         where
           order : Ordered speeds (timing speeds ts) (nominal speeds ts) s
-          order = ordered speeds ts s (t .fine)
+          order = worked.ordered speeds ts s (t .fine)
 
           nothing-open : s .task ≡ 255 → (j : Job) → OpenActual (timing speeds ts) a j → ⊥
           nothing-open e j o =
@@ -286,51 +300,92 @@ module _ (speeds : List ℕ) (rising : Rising speeds) (few : length speeds ≤ 2
                   (subst₂ (MoreUrgent (timing speeds ts)) (ap (λ (c : ℕ). latest (timing speeds ts) c (s .task)) (sym (t .clock))) (sym (open-latest k o .0))
                   (r .urgent (k .task) (o .arrived .task) (open-latest k o .1) e)))
 
-      -- what showing writes is the plain schedule's ready queue
+      held-is : holdIn last ≡ holdOf speeds (timing speeds ts) s
+      held-is = ap holdIn (t .order-is) ∙ order-held s (holdOf speeds (timing speeds ts) s)
+
+      runs-is : isRun last ≡ running s
+      runs-is = ap isRun (t .order-is) ∙ order-runs s (holdOf speeds (timing speeds ts) s)
+
+      -- the running job's time left, by the book
+      time-is : running s ≡ true → timeLeft speeds a ≡ runningTime speeds s
+      time-is r =
+          elim (worked.ordered speeds ts s (t .fine)) [
+            | idles e l z ↦ absurd (true≢false (sym r ∙ ap not (eq-eqb (s .task) 255 e)))
+            | runs k ↦
+                ap₂ (λ (l i : ℕ). timeOf (speedOf speeds l) (a .left i)) (t .level) (t .task)
+                ∙ ap (timeOf (speedOf speeds (s .level))) (t .left (s .task) (k .below))
+          ]
+
+    -- what the bytes say, too
+    module _ {bytes : List ℕ} {a : DispatcherBook} {b : Book} {last : Reply} (k : Kept speeds ts bytes a b last) where
+      abbrev now : State
+      now = k .state
+
+      abbrev t : Tied speeds ts (k .state) a b last
+      t = k .tied
+
+      is-state : decode bytes ≡ now
+      is-state = decoded speeds rising few ts good (k .stored) (k .in-time) (t .fine)
+
+      -- what showing writes is the plain schedule'now ready queue
       shown : shownBytes speeds bytes ≡ queueBytes (b .pending)
       shown =
           ap (λ (x : State). queueBytes (readyQueue speeds x)) is-state
-          ∙ ap₂ (λ (l : List Task) (k : ℕ). queueBytes (queueOf (timing speeds l) (s .clock) (remainingOf s) k))
+          ∙ ap₂ (λ (l : List Task) (k : ℕ). queueBytes (queueOf (timing speeds l) (now .clock) (remainingOf now) k))
           (t .fine .entries .plan) (fine-length (t .fine .entries))
-          ∙ sym (ap (λ (k : Book). queueBytes (k .pending)) plain-is)
+          ∙ sym (ap (λ (k : Book). queueBytes (k .pending)) (plain-is t))
 
       -- and so is what it answers and leaves, since the state is sound
       shows : (lent : List ℕ) → Shows (b .pending) lent (showReply speeds bytes (length lent)) (showBuffer speeds bytes lent)
       shows lent =
           let asked : showNumber speeds bytes (length lent) ≡ roomNumber (length (queueBytes (b .pending))) (length lent) =
-          ask-yes 10 (stored-sound speeds rising few ts good (t .stored) (t .fine)) (ap (λ (l : List ℕ). roomNumber (length l) (length lent)) shown) in
+          ask-yes 10 (stored-sound speeds rising few ts good (k .stored) (k .in-time) (t .fine)) (ap (λ (l : List ℕ). roomNumber (length l) (length lent)) shown) in
           record { answers = ap₂ writtenBy asked shown; leaves = ap₂ (λ (n : ℕ) (l : List ℕ). storedBy n l lent) asked shown }
 
-      -- an accepted pass is answered with an order
-      answered : (d : ℕ) (finished : Bool) → Accepted speeds (timing speeds ts) s d finished → isOrder (passReply speeds bytes d finished) ≡ true
-      answered d finished ok =
-          ap isOrder (reply-is speeds rising few ts good (t .stored) (t .fine) d finished)
+      -- an accepted pass within the largest clock is answered with an order
+      answered :
+          (d : ℕ) (finished : Bool) →
+          Accepted speeds (timing speeds ts) now d finished →
+          a .clock + d ≤ largestClock →
+          isOrder (passReply speeds bytes d finished) ≡ true
+      answered d finished ok late =
+          ap isOrder (reply-is speeds rising few ts good (k .stored) (k .in-time) (t .fine) d finished)
           ∙ ap (λ (n : ℕ). isOrder (repliedBy n (orderWith next hold)))
-          (questions-yes speeds s d finished (subst (λ (l : List Task). Accepted speeds (timing speeds l) s d finished) (sym (t .fine .entries .plan)) ok))
+          (pass-yes speeds now d finished (subst (λ (l : List Task). Accepted speeds (timing speeds l) now d finished) (sym (t .fine .entries .plan)) ok)
+          (subst (λ (c : ℕ). c + d ≤ largestClock) (t .clock) late))
           ∙ order-accepted next hold
         where
           next : State
-          next = passedState speeds (timing speeds ts) s d finished
+          next = passedState speeds (timing speeds ts) now d finished
 
           hold : ℕ
-          hold = passedHold speeds (timing speeds ts) s d finished
+          hold = passedHold speeds (timing speeds ts) now d finished
 
-      held-is : holdIn last ≡ holdOf speeds (timing speeds ts) s
-      held-is = ap holdIn (t .order-is) ∙ order-held s (holdOf speeds (timing speeds ts) s)
+      -- whether the pass that the order suggests says finished, by the book and by the state
+      says-finished :
+          both (isRun last) (eqb (holdIn last) (timeLeft speeds a))
+          ≡ both (running now) (eqb (holdOf speeds (timing speeds ts) now) (runningTime speeds now))
+      says-finished =
+          ap₂ (λ (r : Bool) (h : ℕ). both r (eqb h (timeLeft speeds a))) (runs-is t) (held-is t)
+          ∙ elim (tested (running now))
+          as (λ r _. running now ≡ r → both r (eqb hold (timeLeft speeds a)) ≡ both r (eqb hold (runningTime speeds now)))
+          [ passed ↦ λ e. ap (eqb hold) (time-is t e) | failed ↦ λ e. refl ]
+          refl
+        where
+          hold : ℕ
+          hold = holdOf speeds (timing speeds ts) now
 
       -- so neither the suggested pass nor an early finish is refused
-      not-dead : Open speeds bytes last (a .clock)
+      not-dead : Open speeds bytes last a
       not-dead = record {
         suggested = λ l.
-            subst (λ (x : State). isOrder (passReply speeds bytes (holdIn last) (both (running x) (eqb (holdIn last) (runningTime speeds x)))) ≡ true) (sym is-state)
-            (subst (λ (h : ℕ). isOrder (passReply speeds bytes h (both (running s) (eqb h (runningTime speeds s)))) ≡ true) (sym held-is)
-            (answered (holdOf speeds (timing speeds ts) s) (both (running s) (eqb (holdOf speeds (timing speeds ts) s) (runningTime speeds s)))
-            (hold-accepted speeds rising ts good s (t .fine) (subst₂ (λ (c h : ℕ). c + h ≤ largestClock) (t .clock) held-is l))));
+            answered (holdIn last) (both (isRun last) (eqb (holdIn last) (timeLeft speeds a)))
+            (subst₂ (Accepted speeds (timing speeds ts) now) (sym (held-is t)) (sym says-finished) (hold-accepted speeds rising ts good now (t .fine)))
+            l;
         early = λ d low high l r.
             answered d true
-            (finish-accepted speeds rising ts good s (t .fine) d low (subst (λ (h : ℕ). d ≤ h) held-is high)
-            (subst (λ (x : State). running x ≡ true) is-state r)
-            (subst (λ (c : ℕ). c + d ≤ largestClock) (t .clock) l));
+            (finish-accepted speeds rising ts good now (t .fine) d low (subst (λ (h : ℕ). d ≤ h) (held-is t) high) (sym (runs-is t) ∙ r))
+            l;
       }
 
   -- a run: an accepted start, then any list of passes
@@ -345,13 +400,13 @@ module _ (speeds : List ℕ) (rising : Rising speeds) (few : length speeds ≤ 2
   pub after-length : (block buffer : List ℕ) (passes : List Pass) → Started speeds block buffer → length (stateAfter speeds block buffer passes) ≡ 200
   after-length block buffer passes ok =
       let k = after-run block buffer passes ok in
-      stored-length speeds rising few (tasksIn block) (good block buffer ok) (k .tied .stored) (k .tied .fine)
+      stored-length speeds rising few (tasksIn block) (good block buffer ok) (k .stored) (k .in-time) (k .tied .fine)
 
   pub demand-3 : Demand3 speeds
   demand-3 block buffer passes ok = on-time (tasksIn block) (good block buffer ok) (after-run block buffer passes ok .tied)
 
   pub queue-shown : QueueShown speeds
-  queue-shown block buffer passes lent ok = shows (tasksIn block) (good block buffer ok) (after-run block buffer passes ok .tied) lent
+  queue-shown block buffer passes lent ok = shows (tasksIn block) (good block buffer ok) (after-run block buffer passes ok) lent
 
   pub runs-most-urgent : RunsMostUrgent speeds
   runs-most-urgent block buffer passes ok = names-most-urgent (tasksIn block) (good block buffer ok) (after-run block buffer passes ok .tied)
@@ -359,7 +414,12 @@ module _ (speeds : List ℕ) (rising : Rising speeds) (few : length speeds ≤ 2
   pub stays-sound : StaysSound speeds
   stays-sound block buffer passes ok =
       let k = after-run block buffer passes ok in
-      stored-sound speeds rising few (tasksIn block) (good block buffer ok) (k .tied .stored) (k .tied .fine)
+      stored-sound speeds rising few (tasksIn block) (good block buffer ok) (k .stored) (k .in-time) (k .tied .fine)
+
+  pub same-left : SameLeft speeds
+  same-left block buffer passes ok i h =
+      let k = after-run block buffer passes ok in
+      k .tied .left i h ∙ sym (ap (λ (s : State). restOf s i) (is-state (tasksIn block) (good block buffer ok) k))
 
   pub no-dead-end : NoDeadEnd speeds
-  no-dead-end block buffer passes ok = not-dead (tasksIn block) (good block buffer ok) (after-run block buffer passes ok .tied)
+  no-dead-end block buffer passes ok = not-dead (tasksIn block) (good block buffer ok) (after-run block buffer passes ok)

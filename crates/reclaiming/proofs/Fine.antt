@@ -1,41 +1,49 @@
 -- What a sound state and an accepted pass are, as facts with names.
 -- Assumes nothing.
-use Prim.Native.Nat.{ℕ, _+_, _≤_, _<_}
+use Prim.Native.Nat.{ℕ, _≤_, _<_}
 use mathlib.Core.Path.{_≡_}
 use mathlib.Core.Bool.{Bool, true, false}
 use mathlib.Core.List.{List}
 use lib.ListN.{length, getD}
-use Rattle.arith.specs.Need.{need}
 use Rattle.plan.specs.declared.Task.{Task}
+use Rattle.plan.specs.Times.{noRest, timeOf}
 use Rattle.plan.specs.Levels.{speedOf, nominal}
 use Rattle.plan.specs.Blocks.{noTask}
 use Rattle.schedule.specs.PlainSchedule.{Timing}
-use Rattle.reclaiming.specs.StateBlock.{State, workOf, remainingOf, planIn, timing}
-use Rattle.reclaiming.specs.Orders.{nextArrival, openJobs}
-use Rattle.reclaiming.specs.Questions.{largestClock, orderSound, running, runningTime}
+use Rattle.reclaiming.specs.StateBlock.{State, workOf, remainingOf, restOf, planIn, timing}
+use Rattle.reclaiming.specs.Orders.{nextArrival, openJobs, runningTime}
+use Rattle.reclaiming.specs.Questions.{orderSound, running}
 
 -- the nominal speed of a plan
 abbrev pub nominalSpeed : List ℕ → List Task → ℕ
 nominalSpeed speeds ts = speedOf speeds (nominal speeds ts)
 
--- a state's plan, clock and entries, as those of a sound one; its order is not looked at
+-- a state's plan and entries, as those of a sound one, whatever its clock; its order is not looked at
 pub record FineEntries (speeds : List ℕ) (ts : List Task) (s : State) : Type 0 where
   pub plan : planIn s ≡ ts
-  pub clock : s .clock ≤ largestClock
   pub work : (i : ℕ) → i < length ts → workOf s i ≤ getD ts i noTask .worst
   pub remaining : (i : ℕ) → i < length ts → remainingOf s i ≤ timing speeds ts .allotment i
-  pub ahead : (i : ℕ) → i < length ts → need (nominalSpeed speeds ts) (workOf s i) ≤ remainingOf s i
+  pub ahead : (i : ℕ) → i < length ts → timeOf (nominalSpeed speeds ts) (restOf s i) ≤ remainingOf s i
+
+-- nothing is left of a job without work
+pub closed-none :
+    {speeds : List ℕ} {ts : List Task} {s : State} →
+    FineEntries speeds ts s →
+    (i : ℕ) →
+    i < length ts →
+    workOf s i ≡ 0 →
+    restOf s i ≡ noRest
+closed-none f i h e = λ k. record { work = e k }
 
 -- a sound state of a plan
 pub record Fine (speeds : List ℕ) (ts : List Task) (s : State) : Type 0 where
   pub entries : FineEntries speeds ts s
   pub order : orderSound speeds (timing speeds ts) (nominal speeds ts) s (openJobs (timing speeds ts) s) ≡ true
 
--- a pass that the questions 11 to 15 let through
+-- a pass that the questions 11 to 14 let through
 pub record Accepted (speeds : List ℕ) (τ : Timing) (s : State) (d : ℕ) (finished : Bool) : Type 0 where
   pub some : 1 ≤ d
   pub within : d ≤ nextArrival τ (s .clock)
   pub runs : finished ≡ true → running s ≡ true
   pub time : running s ≡ true → d ≤ runningTime speeds s
   pub unfinished : running s ≡ true → finished ≡ false → d < runningTime speeds s
-  pub clock : s .clock + d ≤ largestClock

@@ -4,6 +4,7 @@ use mathlib.Core.Path.{_≡_, refl}
 use mathlib.Core.Bool.{true}
 use Rattle.arith.specs.Need.{need}
 use Rattle.arith.specs.Divisor.{gcd, lcm}
+use Rattle.plan.specs.Times.{timeOf, worn}
 use Rattle.plan.specs.Levels.{baseSpeeds}
 use Rattle.plan.specs.Answers.{readBlock}
 use Rattle.schedule.specs.PlainSchedule.{moreUrgent}
@@ -11,14 +12,14 @@ use Rattle.reclaiming.specs.Calls.{isOrder, startReply}
 use Rattle.reclaiming.specs.Cases.{benchBlock, benchJudged, benchLines, listedLines}
 
 pub bench-plan : readBlock baseSpeeds benchBlock ≡ benchJudged
-unfolding need lcm gcd moreUrgent
+unfolding need timeOf worn lcm gcd moreUrgent
 bench-plan = refl
 
 pub bench-listing : benchLines ≡ listedLines
-unfolding need lcm gcd moreUrgent
+unfolding need timeOf worn lcm gcd moreUrgent
 bench-listing = refl
 
 -- the hypothesis of demand 3 holds of it
 pub bench-started : isOrder (startReply baseSpeeds benchBlock 200) ≡ true
-unfolding need lcm gcd moreUrgent
+unfolding need timeOf worn lcm gcd moreUrgent
 bench-started = refl

@@ -17,8 +17,8 @@ use Rattle.schedule.proofs.Urgency.{MoreUrgent, asymmetric}
 use Rattle.schedule.proofs.Queue.{Sorted, leads-in}
 use Rattle.schedule.proofs.QueueLaws.{latestPending, Stands, queueOf-in, in-queueOf, queueOf-sorted}
 use Rattle.reclaiming.specs.StateBlock.{State, workOf}
-use Rattle.reclaiming.specs.Orders.{allowance, openJobs}
-use Rattle.reclaiming.specs.Questions.{orderSound, runningTime}
+use Rattle.reclaiming.specs.Orders.{allowance, openJobs, runningTime}
+use Rattle.reclaiming.specs.Questions.{orderSound}
 
 -- the order runs the most urgent open job, at a level that meets its allowance
 pub record Runs (speeds : List ℕ) (τ : Timing) (highest : ℕ) (s : State) : Type 0 where

@@ -11,13 +11,13 @@ use lib.ListN.{length, getD, length-map, List·getD-map}
 use lib.Seq.{ext-getD}
 use Rattle.arith.specs.Choice.{pick, both}
 use Rattle.arith.specs.Sum.{sumTo}
-use Rattle.arith.specs.Need.{need}
 use Rattle.arith.specs.Ranges.{listTo, someTo}
 use Rattle.arith.proofs.Tests.{passed, failed, tested, both-left, both-true, neither-first, neither-second}
 use Rattle.arith.proofs.Sums.{sumTo-eq}
 use Rattle.arith.proofs.RangeLaws.{length-listTo, getD-listTo, no-none}
 use Rattle.arith.proofs.Searches.{first-le, first-passes}
 use Rattle.plan.specs.declared.Task.{Task}
+use Rattle.plan.specs.Times.{Rest, noRest, timeOf, worn}
 use Rattle.plan.specs.Levels.{Rising, speedOf, nominal}
 use Rattle.plan.specs.Blocks.{noTask}
 use Rattle.plan.proofs.Facts.{FineList}
@@ -26,25 +26,25 @@ use Rattle.schedule.specs.PlainSchedule.{Timing, Job, Pending, moreUrgent, late
 use Rattle.schedule.proofs.Urgency.{MoreUrgent}
 use Rattle.schedule.proofs.Drain.{latest-kept}
 use Rattle.reclaiming.specs.declared.Entry.{Entry}
-use Rattle.reclaiming.specs.StateBlock.{State, noEntry, taskOf, workOf, remainingOf, planIn, timing}
-use Rattle.reclaiming.specs.Orders.{nextArrival, allowance, openJobs, lowestLevel, holdOf, withOrder, orderFor, chooseOrder}
+use Rattle.reclaiming.specs.StateBlock.{State, noEntry, taskOf, workOf, remainingOf, restIn, restOf, planIn, timing}
+use Rattle.reclaiming.specs.Orders.{nextArrival, allowance, openJobs, lowestLevel, runningTime, holdOf, withOrder, orderFor, chooseOrder}
 use Rattle.reclaiming.specs.Passes.{newEntry, startState, drainedOf, workedOf, arrivesAt, agedEntry, entryAfter, movedState, choosesAnew, passedState, passedHold}
-use Rattle.reclaiming.specs.Questions.{largestClock, orderSound, running, runningTime}
+use Rattle.reclaiming.specs.Questions.{orderSound, running}
 use Rattle.reclaiming.proofs.Fine.{nominalSpeed, FineEntries, Fine, Accepted}
 use Rattle.reclaiming.proofs.OrderFacts.{Runs, Ordered, idles, runs, facts-order, head-below}
 use Rattle.reclaiming.proofs.NextArrival.{next-positive, next-quiet, not-next, next-on}
 use Rattle.reclaiming.proofs.Allowances.{allowed, allowance-is}
 use Rattle.reclaiming.proofs.Worked.{worked-mine, worked-less, worked-was, worked-open, drained-less, drained-allowance}
-use Rattle.reclaiming.proofs.Worked.{runs-running, ordered, time-positive, time-after, stays-ahead}
+use Rattle.reclaiming.proofs.Worked.{runs-running, ordered, time-positive, runs-on, stays-ahead}
 
 -- the order that is chosen where every task is ahead
 module _ (speeds : List ℕ) (ts : List Task) (admitted : nominal speeds ts < length speeds) (s : State)
-    (ahead : (i : ℕ) → i < length ts → need (nominalSpeed speeds ts) (workOf s i) ≤ remainingOf s i) where
+    (ahead : (i : ℕ) → i < length ts → timeOf (nominalSpeed speeds ts) (restOf s i) ≤ remainingOf s i) where
   -- the nominal level meets an allowance, so the lowest that does is no higher
-  chosen-level : (x : ℕ) → x < length ts → lowestLevel speeds (workOf s x) (allowance (timing speeds ts) s x) ≤ nominal speeds ts
+  chosen-level : (x : ℕ) → x < length ts → lowestLevel speeds (restOf s x) (allowance (timing speeds ts) s x) ≤ nominal speeds ts
   chosen-level x h =
-      first-le (λ (speed : ℕ). leb (need speed (workOf s x)) (allowance (timing speeds ts) s x)) speeds (nominal speeds ts) 0 admitted
-      (le-leb (need (nominalSpeed speeds ts) (workOf s x)) (allowance (timing speeds ts) s x)
+      first-le (λ (speed : ℕ). leb (timeOf speed (restOf s x)) (allowance (timing speeds ts) s x)) speeds (nominal speeds ts) 0 admitted
+      (le-leb (timeOf (nominalSpeed speeds ts) (restOf s x)) (allowance (timing speeds ts) s x)
       (omega (arith, ahead x h, allowance-is (timing speeds ts) (s .clock) (remainingOf s) (length ts) x h)))
 
   order-for : (q : List Pending) → openJobs (timing speeds ts) s ≡ q →
@@ -55,12 +55,12 @@ module _ (speeds : List ℕ) (ts : List Task) (admitted : nominal speeds ts < le
       subst (λ (l : List Pending). orderSound speeds (timing speeds ts) (nominal speeds ts) (withOrder s 255 0) l ≡ true) (sym e) refl
   order-for (f ∷ q) e =
       let x : ℕ = f .job .task in
-      let l : ℕ = lowestLevel speeds (workOf s x) (allowance (timing speeds ts) s x) in
+      let l : ℕ = lowestLevel speeds (restOf s x) (allowance (timing speeds ts) s x) in
       let low : l ≤ nominal speeds ts = chosen-level x (head-below (timing speeds ts) (s .clock) (workOf s) (length ts) f q e) in
       subst (λ (k : List Pending). orderSound speeds (timing speeds ts) (nominal speeds ts) (withOrder s x l) k ≡ true) (sym e)
       (both-true (eq-eqb x x refl)
       (both-true (le-leb l (nominal speeds ts) low)
-      (first-passes (λ (speed : ℕ). leb (need speed (workOf s x)) (allowance (timing speeds ts) s x)) speeds 0 (omega arith))))
+      (first-passes (λ (speed : ℕ). leb (timeOf speed (restOf s x)) (allowance (timing speeds ts) s x)) speeds 0 (omega arith))))
 
   pub order-chosen :
       orderSound speeds (timing speeds ts) (nominal speeds ts) (chooseOrder speeds (timing speeds ts) s)
@@ -70,7 +70,7 @@ module _ (speeds : List ℕ) (ts : List Task) (admitted : nominal speeds ts < le
 
 -- another order leaves the entries as they are
 with-order : {speeds : List ℕ} {ts : List Task} {s : State} (task level : ℕ) → FineEntries speeds ts s → FineEntries speeds ts (withOrder s task level)
-with-order task level f = record { plan = f .plan; clock = f .clock; work = f .work; remaining = f .remaining; ahead = f .ahead }
+with-order task level f = record { plan = f .plan; work = f .work; remaining = f .remaining; ahead = f .ahead }
 
 -- so choosing an order makes a sound state
 pub fine-chosen :
@@ -84,7 +84,7 @@ fine-chosen speeds ts admitted s f = go (openJobs (timing speeds ts) s) refl
     go : (q : List Pending) → openJobs (timing speeds ts) s ≡ q → Fine speeds ts (orderFor speeds (timing speeds ts) s q)
     go [] e = record { entries = with-order 255 0 f; order = order-for speeds ts admitted s (f .ahead) [] e }
     go (g ∷ q) e = record {
-      entries = with-order (g .job .task) (lowestLevel speeds (workOf s (g .job .task)) (allowance (timing speeds ts) s (g .job .task))) f;
+      entries = with-order (g .job .task) (lowestLevel speeds (restOf s (g .job .task)) (allowance (timing speeds ts) s (g .job .task))) f;
       order = order-for speeds ts admitted s (f .ahead) (g ∷ q) e;
     }
 
@@ -104,10 +104,9 @@ start-fine speeds ts plan rising =
     (record { clock = 0; task = 255; level = 0; entries = listTo (length ts) new })
     (record {
       plan = plan-listTo ts new (λ i h. refl);
-      clock = omega arith;
       work = λ i h. at (λ e. e .work ≤ getD ts i noTask .worst) i h (omega arith);
       remaining = λ i h. at (λ e. e .remaining ≤ timing speeds ts .allotment i) i h (omega arith);
-      ahead = λ i h. at (λ e. need (nominalSpeed speeds ts) (e .work) ≤ e .remaining) i h (omega arith);
+      ahead = λ i h. at (λ e. timeOf (nominalSpeed speeds ts) (restIn e) ≤ e .remaining) i h (omega arith);
     })
   where
     new : ℕ → Entry
@@ -161,22 +160,19 @@ module _ (speeds : List ℕ) (rising : Rising speeds) (ts : List Task) (plan : F
     pub moved-fine : FineEntries speeds ts moved
     moved-fine = record {
       plan = plan-listTo ts entry (λ i h. after-is (λ e. taskOf e ≡ getD ts i noTask) i refl (same-task i));
-      clock = pass .clock;
       work = λ i h.
           moved-is (λ e. e .work ≤ getD ts i noTask .worst) i h (omega arith) (omega (arith, worked-less speeds s d finished i, fine .entries .work i h));
       remaining = λ i h.
           moved-is (λ e. e .remaining ≤ τ .allotment i) i h (omega arith)
           (omega (arith, drained-less τ s d i h, fine .entries .remaining i h));
       ahead = λ i h.
-          moved-is (λ e. need (nominalSpeed speeds ts) (e .work) ≤ e .remaining) i h (omega arith)
+          moved-is (λ e. timeOf (nominalSpeed speeds ts) (restIn e) ≤ e .remaining) i h (omega arith)
           (stays-ahead speeds rising ts plan s fine d finished pass i h);
     }
       where
         same-task : (i : ℕ) → taskOf (kept i) ≡ getD ts i noTask
         same-task i =
-            let e : taskOf (getD (s .entries) i noEntry) ≡ getD ts i noTask =
-            sym (List·getD-map taskOf (s .entries) i noEntry) ∙ ap (λ (l : List Task). getD l i noTask) (fine .entries .plan) in
-            λ k. record { period = getD ts i noTask .period; worst = e k .worst }
+            sym (List·getD-map taskOf (s .entries) i noEntry) ∙ ap (λ (l : List Task). getD l i noTask) (fine .entries .plan)
 
     -- where nothing arrives and the running job goes on, the order stays
     module _ (goes : finished ≡ false) (none : arrives ≡ false) where
@@ -203,15 +199,15 @@ module _ (speeds : List ℕ) (rising : Rising speeds) (ts : List Task) (plan : F
       -- the running job's time falls by d
       pub time-kept : Runs speeds τ (nominal speeds ts) s → runningTime speeds moved ≡ runningTime speeds s - d
       time-kept r =
-          ap (λ (e : Entry). need (speedOf speeds (s .level)) (e .work)) (kept-at (s .task) (r .below))
-          ∙ ap (need (speedOf speeds (s .level)))
-          (worked-mine speeds s d finished ∙ ap (λ (b : Bool). pick {A = ℕ} b 0 (workOf s (s .task) - d * speedOf speeds (s .level))) goes)
-          ∙ time-after speeds rising ts plan s fine d finished pass r
+          ap (λ (e : Entry). timeOf (speedOf speeds (s .level)) (restIn e)) (kept-at (s .task) (r .below))
+          ∙ ap (timeOf (speedOf speeds (s .level)))
+          (worked-mine speeds s d finished ∙ ap (λ (b : Bool). pick {A = Rest} b noRest (worn (speedOf speeds (s .level)) d (restOf s (s .task)))) goes)
+          ∙ runs-on speeds rising ts plan s fine d finished pass r
 
       pub order-kept : Ordered speeds τ (nominal speeds ts) moved
       order-kept = go (ordered speeds ts s fine)
         where
-          work-kept : (i : ℕ) → i < length ts → workOf moved i ≡ workedOf speeds s d finished i
+          work-kept : (i : ℕ) → i < length ts → workOf moved i ≡ workedOf speeds s d finished i .work
           work-kept i h = ap (λ (e : Entry). e .work) (kept-at i h)
 
           go : Ordered speeds τ (nominal speeds ts) s → Ordered speeds τ (nominal speeds ts) moved
@@ -304,16 +300,14 @@ module _ (speeds : List ℕ) (rising : Rising speeds) (ts : List Task) (plan : F
 
     -- a pass of that hold is accepted, finished exactly if it is the whole time needed
     pub hold-accepted :
-        s .clock + holdOf speeds τ s ≤ largestClock →
         Accepted speeds τ s (holdOf speeds τ s)
         (both (running s) (eqb (holdOf speeds τ s) (runningTime speeds s)))
-    hold-accepted late = record {
+    hold-accepted = record {
       some = hold-positive;
       within = hold-next;
       runs = both-left (running s) (eqb (holdOf speeds τ s) (runningTime speeds s));
       time = hold-time;
       unfinished = less;
-      clock = late;
     }
       where
         less :
@@ -331,13 +325,11 @@ module _ (speeds : List ℕ) (rising : Rising speeds) (ts : List Task) (plan : F
         1 ≤ d →
         d ≤ holdOf speeds τ s →
         running s ≡ true →
-        s .clock + d ≤ largestClock →
         Accepted speeds τ s d true
-    finish-accepted d some most h late = record {
+    finish-accepted d some most h = record {
       some = some;
       within = omega (arith, hold-next);
       runs = λ e. h;
       time = λ e. omega (arith, hold-time h);
       unfinished = λ e f. absurd (true≢false f);
-      clock = late;
     }

@@ -11,10 +11,11 @@ use Rattle.arith.specs.Choice.{pick}
 use Rattle.arith.specs.Ranges.{listTo}
 use Rattle.arith.proofs.Tests.{eq-yes, eq-not, testEq, passed, failed, tested}
 use Rattle.arith.proofs.RangeLaws.{getD-listTo}
+use Rattle.plan.specs.Times.{whole}
 use Rattle.plan.specs.Blocks.{noTask}
 use Rattle.schedule.specs.PlainSchedule.{Timing, Pending}
 use Rattle.reclaiming.specs.declared.Entry.{Entry}
-use Rattle.reclaiming.specs.StateBlock.{State, noEntry, workOf, remainingOf, planIn}
+use Rattle.reclaiming.specs.StateBlock.{State, noEntry, remainingOf, restIn, restOf, planIn}
 use Rattle.reclaiming.specs.Orders.{chooseOrder, orderFor, openJobs}
 use Rattle.reclaiming.specs.Passes.{passedState, movedState, choosesAnew, newEntry, agedEntry, entryAfter, workedOf, drainedOf}
 
@@ -58,20 +59,29 @@ module _ (speeds : List ℕ) (τ : Timing) where
           ∙ getD-listTo (τ .count) (entryAfter speeds τ s d finished) i noEntry h
 
       -- where a job arrives it is new
-      pub new-work : (s .clock + d) % τ .period i ≡ 0 → workOf next i ≡ getD (planIn s) i noTask .worst
-      new-work z =
-          ap (λ (e : Entry). e .work) passed-entry
+      pub new-rest : (s .clock + d) % τ .period i ≡ 0 → restOf next i ≡ whole (getD (planIn s) i noTask)
+      new-rest z =
+          ap restIn passed-entry
           ∙ elim (testEq ((s .clock + d) % τ .period i) 0)
-          as (λ b _. pick {A = Entry} b (newEntry τ (planIn s) i) (agedEntry speeds τ s d finished i) .work ≡ getD (planIn s) i noTask .worst)
+          as (λ b _. restIn (pick {A = Entry} b (newEntry τ (planIn s) i) (agedEntry speeds τ s d finished i)) ≡ whole (getD (planIn s) i noTask))
           [ eq-yes e ↦ refl | eq-not e ↦ absurd (e z) ]
 
       -- elsewhere it is what the ticks left of the old one
-      pub old-work : (s .clock + d) % τ .period i ≢ 0 → workOf next i ≡ workedOf speeds s d finished i
-      old-work z =
-          ap (λ (e : Entry). e .work) passed-entry
+      pub old-rest : (s .clock + d) % τ .period i ≢ 0 → restOf next i ≡ workedOf speeds s d finished i
+      old-rest z =
+          ap restIn passed-entry
           ∙ elim (testEq ((s .clock + d) % τ .period i) 0)
-          as (λ b _. pick {A = Entry} b (newEntry τ (planIn s) i) (agedEntry speeds τ s d finished i) .work ≡ workedOf speeds s d finished i)
+          as (λ b _. restIn (pick {A = Entry} b (newEntry τ (planIn s) i) (agedEntry speeds τ s d finished i)) ≡ workedOf speeds s d finished i)
           [ eq-yes e ↦ absurd (z e) | eq-not e ↦ refl ]
+
+      -- both in one
+      pub passed-rest :
+          restOf next i ≡ pick (eqb ((s .clock + d) % τ .period i) 0) (whole (getD (planIn s) i noTask)) (workedOf speeds s d finished i)
+      passed-rest =
+          ap restIn passed-entry
+          ∙ elim (tested (eqb ((s .clock + d) % τ .period i) 0))
+          as (λ b _. restIn (pick {A = Entry} b (newEntry τ (planIn s) i) (agedEntry speeds τ s d finished i)) ≡ pick b (whole (getD (planIn s) i noTask)) (workedOf speeds s d finished i))
+          [ passed ↦ refl | failed ↦ refl ]
 
       pub passed-remaining : remainingOf next i ≡ pick (eqb ((s .clock + d) % τ .period i) 0) (τ .allotment i) (drainedOf τ s d i)
       passed-remaining =

@@ -9,13 +9,13 @@ use native.Mathlib.Decide.{ℕ-discrete}
 use native.Mathlib.Omega.{arith}
 use borrow.Author.Tests.{leb-true}
 use lib.ListN.{length, getD}
-use Rattle.arith.specs.Need.{need}
-use Rattle.arith.proofs.Needs.{need-positive}
 use Rattle.arith.proofs.Sums.{sumOf-places, sumTo-term}
 use Rattle.arith.proofs.Searches.{first-passes}
 use Rattle.plan.specs.declared.Task.{Task}
+use Rattle.plan.specs.Times.{whole, taskTime}
 use Rattle.plan.specs.Levels.{Rising, speedOf, hyperperiod, demandWithin, admits, nominal}
 use Rattle.plan.specs.Blocks.{noTask}
+use Rattle.plan.proofs.TimeLaws.{time-some}
 use Rattle.plan.proofs.Facts.{FineList, InRange, range-at}
 use Rattle.plan.proofs.LevelLaws.{Positive, range-positive, hyperperiod-is-least, hyperperiod-positive}
 use Rattle.schedule.specs.PlainSchedule.{Timing}
@@ -55,9 +55,9 @@ module _ (speeds : List ℕ) (ts : List Task) (fine : FineList speeds (length ts
       record {
         positive = hyperperiod-positive ts positive;
         periods = positive;
-        allotments = λ i l. need-positive speed (getD ts i noTask .worst) nominal-positive (task-range i l .worst-low);
+        allotments = λ i l. time-some speed (whole (getD ts i noTask)) nominal-positive (task-range i l .worst-low);
         multiple = λ i l. mod-eq-zero-of-dvd (getD ts i noTask .period) (hyperperiod-is-least ts positive .0 i l);
-        sum = subst (λ (n : ℕ). n ≤ span) (sumOf-places (λ (t : Task). need speed (t .worst) * (span / t .period)) ts noTask) load;
+        sum = subst (λ (n : ℕ). n ≤ span) (sumOf-places (λ (t : Task). taskTime speed t * (span / t .period)) ts noTask) load;
       }
 
   -- so each fits into its period

@@ -6,24 +6,22 @@ use mathlib.Core.Bool.{Bool, true, false, true≢false}
 use mathlib.Core.List.{List, [], _∷_, _++_}
 use native.Mathlib.Omega.{arith}
 use borrow.Author.Tests.{eq-eqb, ne-eqb}
-use lib.Dec.{eqb, lit≤}
+use lib.Dec.{eqb}
 use lib.Arith.{digits-mod}
 use lib.ListN.{length, take, drop}
 use Rattle.arith.specs.Choice.{pick}
-use Rattle.arith.proofs.Tests.{tested, both-right}
 use Rattle.arith.proofs.QuestionLaws.{Yes, all-yes, yes-all, firstNo-most}
-use Rattle.plan.specs.Levels.{baseSpeeds}
+use Rattle.plan.specs.Levels.{Rising}
 use Rattle.plan.specs.Blocks.{tasksIn}
 use Rattle.plan.specs.Answers.{storedBy}
 use Rattle.plan.proofs.Facts.{FineList}
-use Rattle.plan.proofs.LevelLaws.{baseRising}
 use Rattle.schedule.specs.PlainSchedule.{Timing, opened}
 use Rattle.reclaiming.specs.declared.Reply.{Reply}
 use Rattle.reclaiming.specs.declared.Reply.the-variants as reply
-use Rattle.reclaiming.specs.StateBlock.{State, encode, decode, planIn, timing, laidOut}
+use Rattle.reclaiming.specs.StateBlock.{State, encode, decode, planIn, timing}
 use Rattle.reclaiming.specs.Orders.{orderWith, holdOf}
 use Rattle.reclaiming.specs.Passes.{startState, passedState, passedHold}
-use Rattle.reclaiming.specs.Questions.{passing, starting, passQuestions, stateSound}
+use Rattle.reclaiming.specs.Questions.{passing, starting, passQuestions}
 use Rattle.reclaiming.specs.Calls.{repliedBy, isOrder, startNumber, startReply, startBuffer, startOrder, passNumber, passReply, passBytes, passOrder}
 use Rattle.reclaiming.specs.Run.{Pass, Answered, trace, bytesAfter, startedBytes, openedBook, bookedAll, ranAll}
 use Rattle.reclaiming.specs.Promises.{Started, OnTime, NamesMostUrgent, lastOrder}
@@ -31,8 +29,7 @@ use Rattle.reclaiming.specs.Numbers.{replyNumber}
 use Rattle.reclaiming.specs.Play.{replyFrom, replyNumbers, answersFrom, leftBy, playedState, playedReplies, PlayedOnTime, PlayedMostUrgent}
 use Rattle.reclaiming.proofs.Fine.{Fine, Accepted}
 use Rattle.reclaiming.proofs.Replies.{is-idle, is-run, viewOrder, order-accepted, not-refused}
-use Rattle.reclaiming.proofs.StateCodec.{Storable}
-use Rattle.reclaiming.proofs.Soundness.{sound-fine, accepted, fine-storable}
+use Rattle.reclaiming.proofs.Soundness.{sound-state, sound-fine, pass-accepted, fine-small}
 use Rattle.reclaiming.proofs.PassSound.{start-fine, pass-fine}
 use Rattle.reclaiming.proofs.Demand.{demand-3, runs-most-urgent, good, room, untouched}
 
@@ -71,230 +68,229 @@ from-number (reply.Refused n) small =
     let c : n % 256 ≡ n = omega arith in
     ap₂ (kinds n) (ne-eqb (n / 256 % 256) 1 (λ e. omega arith)) (ne-eqb (n / 256 % 256) 2 (λ e. omega arith)) ∙ ap (λ (y : ℕ). reply.Refused y) c
 
-order-small : (s : State) (hold : ℕ) → Storable s → Small (orderWith s hold)
-order-small s hold fits = elim (viewOrder s hold) as (λ r _. Small r) [ is-idle e ↦ tt | is-run e ↦ (fits .task, fits .level) ]
-
-pub few : length baseSpeeds ≤ 256
-few = lit≤ tt
+order-small : (s : State) (hold : ℕ) → (s .task < 256) × (s .level < 256) → Small (orderWith s hold)
+order-small s hold fits = elim (viewOrder s hold) as (λ r _. Small r) [ is-idle e ↦ tt | is-run e ↦ fits ]
 
 replied-small : (n : ℕ) (order : Reply) → n < 256 → (n ≡ 0 → Small order) → Small (repliedBy n order)
 replied-small zero order small fits = fits refl
 replied-small (suc n) order small fits = small
 
--- every reply of a pass is such
-module _ (bytes : List ℕ) (d : ℕ) (finished : Bool) where
-  abbrev before : State
-  before = decode bytes
-
-  abbrev next : State
-  next = passedState baseSpeeds (timing baseSpeeds (planIn before)) before d finished
-
-  next-storable : passNumber baseSpeeds bytes d finished ≡ 0 → Storable next
-  next-storable e =
-      let yes : Yes (passing baseSpeeds bytes d finished) = all-yes (passing baseSpeeds bytes d finished) refl e in
-      let fine : FineList baseSpeeds (length (planIn before)) (planIn before) × Fine baseSpeeds (planIn before) before =
-      sound-fine baseSpeeds before (both-right (laidOut bytes) (stateSound baseSpeeds before) (yes .0)) in
-      let ok : Accepted baseSpeeds (timing baseSpeeds (planIn before)) before d finished =
-      accepted baseSpeeds before d finished (yes-all (passQuestions baseSpeeds before d finished) (yes .1)) in
-      fine-storable baseSpeeds (planIn before) next (fine .0) baseRising few
-      (pass-fine baseSpeeds baseRising (planIn before) (fine .0) before (fine .1) d finished ok)
-
-  pass-small : Small (passReply baseSpeeds bytes d finished)
-  pass-small =
-      replied-small (passNumber baseSpeeds bytes d finished) (passOrder baseSpeeds before d finished)
-      (omega (arith, firstNo-most 15 (passing baseSpeeds bytes d finished) refl))
-      (λ e. order-small next (passedHold baseSpeeds (timing baseSpeeds (planIn before)) before d finished) (next-storable e))
-
--- and of a start
-module _ (block buffer : List ℕ) where
-  abbrev begun : State
-  begun = startState baseSpeeds (tasksIn block)
-
-  abbrev begun-hold : ℕ
-  begun-hold = holdOf baseSpeeds (timing baseSpeeds (planIn begun)) begun
-
-  -- a start is answered with an order exactly if no question is answered no
-  pub started-number : Started baseSpeeds block buffer → startNumber baseSpeeds block (length buffer) ≡ 0
-  started-number = not-refused (startNumber baseSpeeds block (length buffer)) (startOrder baseSpeeds begun)
-
-  pub number-started : startNumber baseSpeeds block (length buffer) ≡ 0 → Started baseSpeeds block buffer
-  number-started e = ap (λ (n : ℕ). isOrder (repliedBy n (orderWith begun begun-hold))) e ∙ order-accepted begun begun-hold
-
-  start-small : Small (startReply baseSpeeds block (length buffer))
-  start-small =
-      replied-small (startNumber baseSpeeds block (length buffer)) (startOrder baseSpeeds begun)
-      (omega (arith, firstNo-most 15 (starting baseSpeeds block (length buffer)) refl))
-      (λ e. order-small begun begun-hold (storable (good baseSpeeds baseRising few block buffer (number-started e))))
-    where
-      storable : FineList baseSpeeds (length (tasksIn block)) (tasksIn block) → Storable begun
-      storable plan = fine-storable baseSpeeds (tasksIn block) begun plan baseRising few (start-fine baseSpeeds (tasksIn block) plan baseRising)
-
--- so the replies that stand in a lent block are those of the run
-answers-same :
-    (passes : List Pass) (bytes rest : List ℕ) →
-    answersFrom passes (replyNumbers (trace baseSpeeds bytes passes) ++ rest) ≡ trace baseSpeeds bytes passes
-answers-same [] bytes rest = refl
-answers-same (p ∷ ps) bytes rest =
-    ap₂ (λ (r : Reply) (l : List Answered). record { pass = p; reply = r } ∷ l)
-    (from-number (passReply baseSpeeds bytes (p .d) (p .finished)) (pass-small bytes (p .d) (p .finished)))
-    (answers-same ps (passBytes baseSpeeds bytes (p .d) (p .finished)) rest)
-
--- what playing leaves where the start is accepted
-module _ (block state : List ℕ) (passes : List Pass) where
-  abbrev bytes-left : List ℕ
-  bytes-left = bytesAfter baseSpeeds (startedBytes baseSpeeds block state) passes ++ drop 200 state
-
-  abbrev replies-left : List ℕ → List ℕ
-  replies-left found = replyNumbers (trace baseSpeeds (startedBytes baseSpeeds block state) passes) ++ drop (length passes) found
-
--- a run of the first n passes
-trace-take : (n : ℕ) (bytes : List ℕ) (passes : List Pass) → take n (trace baseSpeeds bytes passes) ≡ trace baseSpeeds bytes (take n passes)
-trace-take zero bytes passes = refl
-trace-take (suc n) bytes [] = refl
-trace-take (suc n) bytes (p ∷ ps) =
-    ap (λ (l : List Answered). record { pass = p; reply = passReply baseSpeeds bytes (p .d) (p .finished) } ∷ l)
-    (trace-take n (passBytes baseSpeeds bytes (p .d) (p .finished)) ps)
-
--- what holds of a run's replies holds of the numbers that playing leaves
-module _ (block state found : List ℕ) (passes : List Pass) where
-  abbrev first-number : ℕ
-  first-number = replyNumber (startReply baseSpeeds block (length state))
-
-  abbrev replies-found : List ℕ
-  replies-found = playedReplies baseSpeeds block state passes found
-
-  first-back : replyFrom first-number ≡ startReply baseSpeeds block (length state)
-  first-back = from-number (startReply baseSpeeds block (length state)) (start-small block state)
-
-  pub number-accepted : isOrder (replyFrom first-number) ≡ true → Started baseSpeeds block state
-  number-accepted ok = ap isOrder (sym first-back) ∙ ok
-
-  answers-back :
-      Started baseSpeeds block state →
-      (n : ℕ) →
-      take n (answersFrom passes replies-found) ≡ trace baseSpeeds (startedBytes baseSpeeds block state) (take n passes)
-  answers-back ok n =
-      ap (take n)
-      (ap (λ (k : ℕ). answersFrom passes (leftBy k (replies-left block state passes found) found)) (started-number block state ok)
-      ∙ answers-same passes (startedBytes baseSpeeds block state) (drop (length passes) found))
-      ∙ trace-take n (startedBytes baseSpeeds block state) passes
-
-  pub carried :
-      (P : Reply → List Answered → Type 0) →
-      Started baseSpeeds block state →
-      (n : ℕ) →
-      P (startReply baseSpeeds block (length state)) (trace baseSpeeds (startedBytes baseSpeeds block state) (take n passes)) →
-      P (replyFrom first-number) (take n (answersFrom passes replies-found))
-  carried P ok n = subst₂ P (sym first-back) (sym (answers-back ok n))
-
-  abbrev τ : Timing
-  τ = timing baseSpeeds (tasksIn block)
-
-  played-on-time : PlayedOnTime baseSpeeds block first-number passes replies-found
-  played-on-time accepted n =
-      let ok : Started baseSpeeds block state = number-accepted accepted in
-      carried (λ (r : Reply) (l : List Answered). OnTime τ (bookedAll τ (openedBook r) l) (ranAll τ (opened τ) l)) ok n
-      (demand-3 baseSpeeds baseRising few block state (take n passes) ok)
-
-  played-most-urgent : PlayedMostUrgent baseSpeeds block first-number passes replies-found
-  played-most-urgent accepted n =
-      let ok : Started baseSpeeds block state = number-accepted accepted in
-      carried (λ (r : Reply) (l : List Answered). NamesMostUrgent τ (bookedAll τ (openedBook r) l) (lastOrder r l)) ok n
-      (runs-most-urgent baseSpeeds baseRising few block state (take n passes) ok)
-
--- what it leaves where the start is refused, and where it is accepted
-module _ (block state : List ℕ) (passes : List Pass) (found : List ℕ) where
-  -- the number that is returned, the state and the replies; the promises are said of that number and those replies
-  abbrev Promised : ℕ → List ℕ → Type 0
-  Promised first replies = PlayedOnTime baseSpeeds block first passes replies × PlayedMostUrgent baseSpeeds block first passes replies
-
-  abbrev PlayLeaves : ℕ → List ℕ → List ℕ → Type 0
-  PlayLeaves first m replies =
-      (first ≡ replyNumber (startReply baseSpeeds block (length state)))
-      × ((m ≡ playedState baseSpeeds block state passes)
-      × ((replies ≡ playedReplies baseSpeeds block state passes found) × Promised first replies))
-
-  play-leaves :
-      (first : ℕ) (m replies : List ℕ) →
-      first ≡ replyNumber (startReply baseSpeeds block (length state)) →
-      m ≡ playedState baseSpeeds block state passes →
-      replies ≡ playedReplies baseSpeeds block state passes found →
-      PlayLeaves first m replies
-  play-leaves first m replies e f r =
-      (e, (f, (r, subst₂ Promised (sym e) (sym r) (played-on-time block state found passes, played-most-urgent block state found passes))))
-
-  -- by the number of the start's questions
-  abbrev stateBy : ℕ → List ℕ
-  stateBy n = leftBy n (bytes-left block state passes) state
-
-  abbrev repliesBy : ℕ → List ℕ
-  repliesBy n = leftBy n (replies-left block state passes found) found
-
-  left-refused :
-      (n : ℕ) →
-      startNumber baseSpeeds block (length state) ≡ n →
-      (Started baseSpeeds block state → ⊥) →
-      (startBuffer baseSpeeds block state ≡ playedState baseSpeeds block state passes) × (found ≡ playedReplies baseSpeeds block state passes found)
-  left-refused zero e never = absurd (never (number-started block state e))
-  left-refused (suc n) e never = (
-    ap (λ (k : ℕ). storedBy k (encode (begun block state)) state) e ∙ sym (ap stateBy e),
-    sym (ap repliesBy e),
-  )
-
-  module _ (ok : Started baseSpeeds block state) (l : List ℕ) (started : l ≡ startBuffer baseSpeeds block state) where
-    left-state : (m : List ℕ) → m ≡ bytesAfter baseSpeeds (take 200 l) passes → m ++ drop 200 l ≡ playedState baseSpeeds block state passes
-    left-state m e =
-        ap₂ (λ (x y : List ℕ). x ++ y)
-        (e ∙ ap (λ (x : List ℕ). bytesAfter baseSpeeds (take 200 x) passes) started)
-        (ap (drop 200) started ∙ untouched baseSpeeds baseRising few block state ok)
-        ∙ sym (ap stateBy (started-number block state ok))
-
-    left-replies :
-        (m : List ℕ) →
-        m ≡ replyNumbers (trace baseSpeeds (take 200 l) passes) ++ drop (length passes) found →
-        m ≡ playedReplies baseSpeeds block state passes found
-    left-replies m e =
-        e
-        ∙ ap (λ (x : List ℕ). replyNumbers (trace baseSpeeds (take 200 x) passes) ++ drop (length passes) found) started
-        ∙ sym (ap repliesBy (started-number block state ok))
-
 -- a start on lent blocks: its reply, whether that is an order, and the state that it leaves
-pub record Begun (block state : List ℕ) (x : Reply) (b : Bool) (l : List ℕ) : Type 0 where
-  pub replied : x ≡ startReply baseSpeeds block (length state)
+pub record Begun (speeds block state : List ℕ) (x : Reply) (b : Bool) (l : List ℕ) : Type 0 where
+  pub replied : x ≡ startReply speeds block (length state)
   pub tested : b ≡ isOrder x
-  pub left : l ≡ startBuffer baseSpeeds block state
+  pub left : l ≡ startBuffer speeds block state
   pub kept : length l ≡ length state
 
-module _ {block state : List ℕ} {x : Reply} {b : Bool} {l : List ℕ} (begun : Begun block state x b l) where
-  order-tested : b ≡ isOrder (startReply baseSpeeds block (length state))
-  order-tested = begun .tested ∙ ap isOrder (begun .replied)
+-- over any rising table of at most 256 levels
+module _ (speeds : List ℕ) (rising : Rising speeds) (few : length speeds ≤ 256) where
+  -- every reply of a pass is such
+  module _ (bytes : List ℕ) (d : ℕ) (finished : Bool) where
+    abbrev before : State
+    before = decode bytes
 
-  is-refusal : b ≡ false → Started baseSpeeds block state → ⊥
-  is-refusal f ok = true≢false (sym ok ∙ sym order-tested ∙ f)
+    abbrev next : State
+    next = passedState speeds (timing speeds (planIn before)) before d finished
 
-  no-refusal : b ≡ true → Started baseSpeeds block state
-  no-refusal t = sym order-tested ∙ t
+    next-small : passNumber speeds bytes d finished ≡ 0 → (next .task < 256) × (next .level < 256)
+    next-small e =
+        let yes : Yes (passing speeds bytes d finished) = all-yes (passing speeds bytes d finished) refl e in
+        let fine : FineList speeds (length (planIn before)) (planIn before) × Fine speeds (planIn before) before =
+        sound-fine speeds before (sound-state speeds bytes (yes .0)) in
+        let ok : Accepted speeds (timing speeds (planIn before)) before d finished =
+        pass-accepted speeds before d finished (yes-all (passQuestions speeds before d finished) (yes .1)) .0 in
+        fine-small speeds (planIn before) next (fine .0) few
+        (pass-fine speeds rising (planIn before) (fine .0) before (fine .1) d finished ok)
 
-  -- an accepted start has its 200 bytes
-  pub play-room : b ≡ true → 200 ≤ length l
-  play-room t = omega (arith, room baseSpeeds baseRising few block state (no-refusal t), begun .kept)
+    pass-small : Small (passReply speeds bytes d finished)
+    pass-small =
+        replied-small (passNumber speeds bytes d finished) (passOrder speeds before d finished)
+        (omega (arith, firstNo-most 15 (passing speeds bytes d finished) refl))
+        (λ e. order-small next (passedHold speeds (timing speeds (planIn before)) before d finished) (next-small e))
 
-  module _ (passes : List Pass) (found : List ℕ) {first : ℕ} (numbered : first ≡ replyNumber x) where
-    first-is : first ≡ replyNumber (startReply baseSpeeds block (length state))
-    first-is = numbered ∙ ap replyNumber (begun .replied)
+  -- and of a start
+  module _ (block buffer : List ℕ) where
+    abbrev begun : State
+    begun = startState speeds (tasksIn block)
 
-    pub play-refused : b ≡ false → PlayLeaves block state passes found first l found
-    play-refused f =
-        let same = left-refused block state passes found (startNumber baseSpeeds block (length state)) refl (is-refusal f) in
-        play-leaves block state passes found first l found first-is (begun .left ∙ same .0) (same .1)
+    abbrev begun-hold : ℕ
+    begun-hold = holdOf speeds (timing speeds (planIn begun)) begun
 
-    pub play-accepted :
-        {m replies : List ℕ} →
-        b ≡ true →
-        m ≡ bytesAfter baseSpeeds (take 200 l) passes →
-        replies ≡ replyNumbers (trace baseSpeeds (take 200 l) passes) ++ drop (length passes) found →
-        PlayLeaves block state passes found first (m ++ drop 200 l) replies
-    play-accepted {m} {replies} t e r =
-        play-leaves block state passes found first (m ++ drop 200 l) replies first-is
-        (left-state block state passes found (no-refusal t) l (begun .left) m e)
-        (left-replies block state passes found (no-refusal t) l (begun .left) replies r)
+    -- a start is answered with an order exactly if no question is answered no
+    pub started-number : Started speeds block buffer → startNumber speeds block (length buffer) ≡ 0
+    started-number = not-refused (startNumber speeds block (length buffer)) (startOrder speeds begun)
+
+    pub number-started : startNumber speeds block (length buffer) ≡ 0 → Started speeds block buffer
+    number-started e = ap (λ (n : ℕ). isOrder (repliedBy n (orderWith begun begun-hold))) e ∙ order-accepted begun begun-hold
+
+    start-small : Small (startReply speeds block (length buffer))
+    start-small =
+        replied-small (startNumber speeds block (length buffer)) (startOrder speeds begun)
+        (omega (arith, firstNo-most 15 (starting speeds block (length buffer)) refl))
+        (λ e. order-small begun begun-hold (small (good speeds rising few block buffer (number-started e))))
+      where
+        small : FineList speeds (length (tasksIn block)) (tasksIn block) → (begun .task < 256) × (begun .level < 256)
+        small plan = fine-small speeds (tasksIn block) begun plan few (start-fine speeds (tasksIn block) plan rising)
+
+  -- so the replies that stand in a lent block are those of the run
+  answers-same :
+      (passes : List Pass) (bytes rest : List ℕ) →
+      answersFrom passes (replyNumbers (trace speeds bytes passes) ++ rest) ≡ trace speeds bytes passes
+  answers-same [] bytes rest = refl
+  answers-same (p ∷ ps) bytes rest =
+      ap₂ (λ (r : Reply) (l : List Answered). record { pass = p; reply = r } ∷ l)
+      (from-number (passReply speeds bytes (p .d) (p .finished)) (pass-small bytes (p .d) (p .finished)))
+      (answers-same ps (passBytes speeds bytes (p .d) (p .finished)) rest)
+
+  -- what playing leaves where the start is accepted
+  module _ (block state : List ℕ) (passes : List Pass) where
+    abbrev bytes-left : List ℕ
+    bytes-left = bytesAfter speeds (startedBytes speeds block state) passes ++ drop 200 state
+
+    abbrev replies-left : List ℕ → List ℕ
+    replies-left found = replyNumbers (trace speeds (startedBytes speeds block state) passes) ++ drop (length passes) found
+
+  -- a run of the first n passes
+  trace-take : (n : ℕ) (bytes : List ℕ) (passes : List Pass) → take n (trace speeds bytes passes) ≡ trace speeds bytes (take n passes)
+  trace-take zero bytes passes = refl
+  trace-take (suc n) bytes [] = refl
+  trace-take (suc n) bytes (p ∷ ps) =
+      ap (λ (l : List Answered). record { pass = p; reply = passReply speeds bytes (p .d) (p .finished) } ∷ l)
+      (trace-take n (passBytes speeds bytes (p .d) (p .finished)) ps)
+
+  -- what holds of a run's replies holds of the numbers that playing leaves
+  module _ (block state found : List ℕ) (passes : List Pass) where
+    abbrev first-number : ℕ
+    first-number = replyNumber (startReply speeds block (length state))
+
+    abbrev replies-found : List ℕ
+    replies-found = playedReplies speeds block state passes found
+
+    first-back : replyFrom first-number ≡ startReply speeds block (length state)
+    first-back = from-number (startReply speeds block (length state)) (start-small block state)
+
+    pub number-accepted : isOrder (replyFrom first-number) ≡ true → Started speeds block state
+    number-accepted ok = ap isOrder (sym first-back) ∙ ok
+
+    answers-back :
+        Started speeds block state →
+        (n : ℕ) →
+        take n (answersFrom passes replies-found) ≡ trace speeds (startedBytes speeds block state) (take n passes)
+    answers-back ok n =
+        ap (take n)
+        (ap (λ (k : ℕ). answersFrom passes (leftBy k (replies-left block state passes found) found)) (started-number block state ok)
+        ∙ answers-same passes (startedBytes speeds block state) (drop (length passes) found))
+        ∙ trace-take n (startedBytes speeds block state) passes
+
+    pub carried :
+        (P : Reply → List Answered → Type 0) →
+        Started speeds block state →
+        (n : ℕ) →
+        P (startReply speeds block (length state)) (trace speeds (startedBytes speeds block state) (take n passes)) →
+        P (replyFrom first-number) (take n (answersFrom passes replies-found))
+    carried P ok n = subst₂ P (sym first-back) (sym (answers-back ok n))
+
+    abbrev τ : Timing
+    τ = timing speeds (tasksIn block)
+
+    played-on-time : PlayedOnTime speeds block first-number passes replies-found
+    played-on-time accepted n =
+        let ok : Started speeds block state = number-accepted accepted in
+        carried (λ (r : Reply) (l : List Answered). OnTime τ (bookedAll speeds (tasksIn block) (openedBook (tasksIn block) r) l) (ranAll τ (opened τ) l)) ok n
+        (demand-3 speeds rising few block state (take n passes) ok)
+
+    played-most-urgent : PlayedMostUrgent speeds block first-number passes replies-found
+    played-most-urgent accepted n =
+        let ok : Started speeds block state = number-accepted accepted in
+        carried (λ (r : Reply) (l : List Answered). NamesMostUrgent τ (bookedAll speeds (tasksIn block) (openedBook (tasksIn block) r) l) (lastOrder r l)) ok n
+        (runs-most-urgent speeds rising few block state (take n passes) ok)
+
+  -- what it leaves where the start is refused, and where it is accepted
+  module _ (block state : List ℕ) (passes : List Pass) (found : List ℕ) where
+    -- the number that is returned, the state and the replies; the promises are said of that number and those replies
+    abbrev Promised : ℕ → List ℕ → Type 0
+    Promised first replies = PlayedOnTime speeds block first passes replies × PlayedMostUrgent speeds block first passes replies
+
+    abbrev PlayLeaves : ℕ → List ℕ → List ℕ → Type 0
+    PlayLeaves first m replies =
+        (first ≡ replyNumber (startReply speeds block (length state)))
+        × ((m ≡ playedState speeds block state passes)
+        × ((replies ≡ playedReplies speeds block state passes found) × Promised first replies))
+
+    play-leaves :
+        (first : ℕ) (m replies : List ℕ) →
+        first ≡ replyNumber (startReply speeds block (length state)) →
+        m ≡ playedState speeds block state passes →
+        replies ≡ playedReplies speeds block state passes found →
+        PlayLeaves first m replies
+    play-leaves first m replies e f r =
+        (e, (f, (r, subst₂ Promised (sym e) (sym r) (played-on-time block state found passes, played-most-urgent block state found passes))))
+
+    -- by the number of the start's questions
+    abbrev stateBy : ℕ → List ℕ
+    stateBy n = leftBy n (bytes-left block state passes) state
+
+    abbrev repliesBy : ℕ → List ℕ
+    repliesBy n = leftBy n (replies-left block state passes found) found
+
+    left-refused :
+        (n : ℕ) →
+        startNumber speeds block (length state) ≡ n →
+        (Started speeds block state → ⊥) →
+        (startBuffer speeds block state ≡ playedState speeds block state passes) × (found ≡ playedReplies speeds block state passes found)
+    left-refused zero e never = absurd (never (number-started block state e))
+    left-refused (suc n) e never = (
+      ap (λ (k : ℕ). storedBy k (encode (begun block state)) state) e ∙ sym (ap stateBy e),
+      sym (ap repliesBy e),
+    )
+
+    module _ (ok : Started speeds block state) (l : List ℕ) (started : l ≡ startBuffer speeds block state) where
+      left-state : (m : List ℕ) → m ≡ bytesAfter speeds (take 200 l) passes → m ++ drop 200 l ≡ playedState speeds block state passes
+      left-state m e =
+          ap₂ (λ (x y : List ℕ). x ++ y)
+          (e ∙ ap (λ (x : List ℕ). bytesAfter speeds (take 200 x) passes) started)
+          (ap (drop 200) started ∙ untouched speeds rising few block state ok)
+          ∙ sym (ap stateBy (started-number block state ok))
+
+      left-replies :
+          (m : List ℕ) →
+          m ≡ replyNumbers (trace speeds (take 200 l) passes) ++ drop (length passes) found →
+          m ≡ playedReplies speeds block state passes found
+      left-replies m e =
+          e
+          ∙ ap (λ (x : List ℕ). replyNumbers (trace speeds (take 200 x) passes) ++ drop (length passes) found) started
+          ∙ sym (ap repliesBy (started-number block state ok))
+
+  module _ {block state : List ℕ} {x : Reply} {b : Bool} {l : List ℕ} (begun : Begun speeds block state x b l) where
+    order-tested : b ≡ isOrder (startReply speeds block (length state))
+    order-tested = begun .tested ∙ ap isOrder (begun .replied)
+
+    is-refusal : b ≡ false → Started speeds block state → ⊥
+    is-refusal f ok = true≢false (sym ok ∙ sym order-tested ∙ f)
+
+    no-refusal : b ≡ true → Started speeds block state
+    no-refusal t = sym order-tested ∙ t
+
+    -- an accepted start has its 200 bytes
+    pub play-room : b ≡ true → 200 ≤ length l
+    play-room t = omega (arith, room speeds rising few block state (no-refusal t), begun .kept)
+
+    module _ (passes : List Pass) (found : List ℕ) {first : ℕ} (numbered : first ≡ replyNumber x) where
+      first-is : first ≡ replyNumber (startReply speeds block (length state))
+      first-is = numbered ∙ ap replyNumber (begun .replied)
+
+      pub play-refused : b ≡ false → PlayLeaves block state passes found first l found
+      play-refused f =
+          let same = left-refused block state passes found (startNumber speeds block (length state)) refl (is-refusal f) in
+          play-leaves block state passes found first l found first-is (begun .left ∙ same .0) (same .1)
+
+      pub play-accepted :
+          {m replies : List ℕ} →
+          b ≡ true →
+          m ≡ bytesAfter speeds (take 200 l) passes →
+          replies ≡ replyNumbers (trace speeds (take 200 l) passes) ++ drop (length passes) found →
+          PlayLeaves block state passes found first (m ++ drop 200 l) replies
+      play-accepted {m} {replies} t e r =
+          play-leaves block state passes found first (m ++ drop 200 l) replies first-is
+          (left-state block state passes found (no-refusal t) l (begun .left) m e)
+          (left-replies block state passes found (no-refusal t) l (begun .left) replies r)

@@ -1,8 +1,9 @@
 -- Replies: an order that stands in a state, as the reply that it is, and replies that are no refusals.
 -- Assumes nothing.
 use Prim.Native.Nat.{ℕ, zero, suc}
-use mathlib.Core.Path.{_≡_, refl, sym}
-use mathlib.Core.Bool.{true, true≢false}
+use mathlib.Core.Path.{_≡_, refl, sym, ap}
+use mathlib.Core.Bool.{true, true≢false, not}
+use borrow.Author.Tests.{eq-eqb, ne-eqb}
 use Rattle.arith.specs.Choice.{pick}
 use Rattle.arith.proofs.Tests.{eq-yes, eq-not, testEq}
 use Rattle.reclaiming.specs.declared.Reply.{Reply}
@@ -10,8 +11,9 @@ use Rattle.reclaiming.specs.declared.Reply.the-variants as reply
 use Rattle.reclaiming.specs.StateBlock.{State}
 use Rattle.reclaiming.specs.Orders.{orderWith}
 use Rattle.reclaiming.specs.Calls.{repliedBy, isOrder}
-use Rattle.reclaiming.specs.Run.{namedBy}
-use Rattle.reclaiming.specs.Promises.{holdIn, orderAfter}
+use Rattle.reclaiming.specs.Run.{DispatcherBook, ordered}
+use Rattle.reclaiming.specs.Questions.{running}
+use Rattle.reclaiming.specs.Promises.{isRun, holdIn, orderAfter}
 
 -- it is to stay idle, or to run the state's task at its level
 pub data OrderView (s : State) (hold : ℕ) : Reply → Type 0 where
@@ -28,8 +30,23 @@ module _ (s : State) (hold : ℕ) where
   pub order-accepted : isOrder (orderWith s hold) ≡ true
   order-accepted = elim (viewOrder s hold) as (λ r _. isOrder r ≡ true) [ is-idle e ↦ refl | is-run e ↦ refl ]
 
-  pub order-named : (last : ℕ) → namedBy (orderWith s hold) last ≡ s .task
-  order-named last = elim (viewOrder s hold) as (λ r _. namedBy r last ≡ s .task) [ is-idle e ↦ sym e | is-run e ↦ refl ]
+  -- a book has its task and its level; while idle that is 0
+  pub order-booked :
+      (s .task ≡ 255 → s .level ≡ 0) →
+      (b : DispatcherBook) →
+      ordered b (orderWith s hold)
+      ≡ record { clock = b .clock; closed = b .closed; task = s .task; level = s .level; left = b .left }
+  order-booked idle b =
+      elim (viewOrder s hold)
+      as (λ r _. ordered b r ≡ record { clock = b .clock; closed = b .closed; task = s .task; level = s .level; left = b .left }) [
+        | is-idle e ↦ λ i. record { clock = b .clock; closed = b .closed; task = sym e i; level = sym (idle e) i; left = b .left }
+        | is-run e ↦ refl
+      ]
+
+  pub order-runs : isRun (orderWith s hold) ≡ running s
+  order-runs =
+      elim (viewOrder s hold) as (λ r _. isRun r ≡ running s)
+      [ is-idle e ↦ ap not (sym (eq-eqb (s .task) 255 e)) | is-run e ↦ ap not (sym (ne-eqb (s .task) 255 e)) ]
 
   pub order-held : holdIn (orderWith s hold) ≡ hold
   order-held = elim (viewOrder s hold) as (λ r _. holdIn r ≡ hold) [ is-idle e ↦ refl | is-run e ↦ refl ]

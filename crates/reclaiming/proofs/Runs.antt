@@ -1,23 +1,25 @@
--- What ties the state's bytes to the two books, kept by every pass, refused or not.
+-- What ties a state to the two books, and its bytes to the state, kept by every pass, refused or not. The first is of a state whose clock
+-- is any number; only the second, the block, has a largest clock.
 -- Assumes nothing.
-use Prim.Native.Nat.{ℕ, zero, suc, _+_, _-_, _*_, _%_, _≤_, _<_}
+use Prim.Native.Nat.{ℕ, zero, suc, _+_, _%_, _≤_, _<_}
 use mathlib.Core.Path.{_≡_, refl, sym, subst, ap, ap₂, _∙_}
 use mathlib.Core.Bool.{Bool, true, true≢false, not}
 use mathlib.Core.List.{List, _∷_, _++_, append-nil}
 use native.Mathlib.Decide.{ℕ-discrete}
 use native.Mathlib.Omega.{arith}
-use borrow.Author.Tests.{eq-eqb}
+use borrow.Author.Tests.{le-leb, eq-eqb}
+use lib.Dec.{eqb}
 use lib.ListN.{length, getD, drop-of-length-le}
 use Rattle.arith.specs.Choice.{pick}
-use Rattle.arith.specs.Need.{need}
 use Rattle.arith.specs.Asking.{firstNo}
 use Rattle.arith.proofs.Tests.{passed, failed, tested, both-true}
-use Rattle.arith.proofs.Needs.{need-positive}
 use Rattle.arith.proofs.QuestionLaws.{ask-yes}
 use Rattle.plan.specs.declared.Task.{Task}
+use Rattle.plan.specs.Times.{Rest, whole, noRest, timeOf, worn}
 use Rattle.plan.specs.Levels.{Rising, speedOf, hyperperiod}
 use Rattle.plan.specs.Blocks.{noTask}
 use Rattle.plan.specs.Answers.{storedBy}
+use Rattle.plan.proofs.TimeLaws.{time-some}
 use Rattle.plan.proofs.Facts.{FineList, range-at}
 use Rattle.schedule.specs.PlainSchedule.{Timing, Job, Book, latest, canonicalAt, after, queueOf, opened}
 use Rattle.schedule.specs.Feasibility.{Fitting}
@@ -25,31 +27,33 @@ use Rattle.schedule.proofs.Drain.{Quiet}
 use Rattle.schedule.proofs.QueueLaws.{queueOf-cong}
 use Rattle.schedule.proofs.Span.{canonical-span, after-add, renewed, nothing-old}
 use Rattle.reclaiming.specs.declared.Reply.{Reply}
-use Rattle.reclaiming.specs.StateBlock.{State, encode, decode, laidOut, planIn, timing, workOf, remainingOf}
+use Rattle.reclaiming.specs.StateBlock.{State, encode, decode, laidOut, planIn, timing, workOf, remainingOf, restOf}
 use Rattle.reclaiming.specs.Orders.{holdOf, orderWith}
-use Rattle.reclaiming.specs.Passes.{passedState, passedHold, workedOf, drainedOf}
-use Rattle.reclaiming.specs.Questions.{sound, stateSound, passQuestions}
+use Rattle.reclaiming.specs.Passes.{passedState, passedHold, workedBy, workedOf, drainedOf}
+use Rattle.reclaiming.specs.Questions.{largestClock, inTime, sound, stateSound, passQuestions}
 use Rattle.reclaiming.specs.Calls.{repliedBy, passNumber, passReply, passBytes}
-use Rattle.reclaiming.specs.Run.{Pass, DispatcherBook, moved, booked, ran}
+use Rattle.reclaiming.specs.Run.{Pass, DispatcherBook, ordered, moved, booked, ran, leftAfter}
 use Rattle.reclaiming.specs.Promises.{orderAfter}
 use Rattle.reclaiming.proofs.Fine.{Fine, Accepted, nominalSpeed}
-use Rattle.reclaiming.proofs.Replies.{is-idle, is-run, viewOrder, order-stands}
+use Rattle.reclaiming.proofs.Replies.{is-idle, is-run, viewOrder, order-accepted, order-booked, order-stands}
 use Rattle.reclaiming.proofs.Plans.{nominal-positive, plan-fits}
 use Rattle.reclaiming.proofs.StateCodec.{Storable, decode-encode, length-encode, laid-out}
-use Rattle.reclaiming.proofs.Soundness.{fine-sound, accepted, fine-storable}
-use Rattle.reclaiming.proofs.OrderFacts.{idles, runs}
+use Rattle.reclaiming.proofs.Soundness.{fine-sound, pass-accepted, fine-storable}
+use Rattle.reclaiming.proofs.OrderFacts.{Ordered, idles, runs}
 use Rattle.reclaiming.proofs.NextArrival.{next-quiet}
-use Rattle.reclaiming.proofs.Worked.{worked-other, worked-mine, worked-less, worked-open, stays-ahead, ordered}
-use Rattle.reclaiming.proofs.PassedStates.{new-work, old-work, passed-remaining, passed-clock}
+use Rattle.reclaiming.proofs.Worked.{worked-other, worked-mine, worked-less, worked-open, stays-ahead}
+use Rattle.reclaiming.proofs.Worked as worked
+use Rattle.reclaiming.proofs.PassedStates.{new-rest, old-rest, passed-rest, passed-remaining, passed-clock}
 use Rattle.reclaiming.proofs.PassSound.{pass-fine, pass-hold}
 use Rattle.reclaiming.proofs.Books.{Held, held-pass, Ended, ended-pass}
 
--- the state behind the bytes, and what the books have of it
-pub record Tied (speeds : List ℕ) (ts : List Task) (s : State) (bytes : List ℕ) (actual : DispatcherBook) (plain : Book) (order : Reply) : Type 0 where
-  pub stored : bytes ≡ encode s
+-- a state, and what the books have of it
+pub record Tied (speeds : List ℕ) (ts : List Task) (s : State) (actual : DispatcherBook) (plain : Book) (order : Reply) : Type 0 where
   pub fine : Fine speeds ts s
   pub clock : actual .clock ≡ s .clock
   pub task : actual .task ≡ s .task
+  pub level : actual .level ≡ s .level
+  pub left : (i : ℕ) → i < length ts → actual .left i ≡ restOf s i
   pub held : Held (timing speeds ts) (s .clock) (workOf s) (actual .closed)
   pub ended : Ended (timing speeds ts) (s .clock) (workOf s) (actual .closed)
   pub plainly : plain ≡ canonicalAt (timing speeds ts) (s .clock)
@@ -58,19 +62,37 @@ pub record Tied (speeds : List ℕ) (ts : List Task) (s : State) (bytes : List �
       ≡ record { clock = s .clock; pending = queueOf (timing speeds ts) (s .clock) (remainingOf s) (timing speeds ts .count) }
   pub order-is : order ≡ orderWith s (holdOf speeds (timing speeds ts) s)
 
--- some state is tied to the bytes and the books
+-- a state is tied to the books, and the bytes are its block
 pub record Kept (speeds : List ℕ) (ts : List Task) (bytes : List ℕ) (actual : DispatcherBook) (plain : Book) (order : Reply) : Type 0 where
   pub state : State
-  pub tied : Tied speeds ts state bytes actual plain order
+  pub tied : Tied speeds ts state actual plain order
+  pub stored : bytes ≡ encode state
+  pub in-time : state .clock ≤ largestClock
+
+-- an idle order is at level 0
+pub idle-level : {speeds : List ℕ} {ts : List Task} {s : State} → FineList speeds (length ts) ts → Fine speeds ts s → s .task ≡ 255 → s .level ≡ 0
+idle-level {speeds} {ts} {s} good fine e =
+    elim (worked.ordered speeds ts s fine) [ idles t l z ↦ l | runs r ↦ absurd (omega (arith, r .below, good .count-high)) ]
 
 -- an order, whatever it is, moves the books by its pass
-module _ (τ : Timing) (p : Pass) (s : State) (hold : ℕ) where
-  order-recorded : (a : DispatcherBook) → booked τ a p (orderWith s hold) ≡ moved τ a p (s .task)
-  order-recorded a =
-      elim (viewOrder s hold) as (λ r _. booked τ a p r ≡ moved τ a p (s .task)) [ is-idle e ↦ ap (moved τ a p) (sym e) | is-run e ↦ refl ]
+module _ (speeds : List ℕ) (ts : List Task) (p : Pass) (s : State) (hold : ℕ) where
+  order-recorded :
+      (s .task ≡ 255 → s .level ≡ 0) →
+      (a : DispatcherBook) →
+      booked speeds ts a p (orderWith s hold)
+      ≡ record {
+        clock = moved speeds ts a p .clock;
+        closed = moved speeds ts a p .closed;
+        task = s .task;
+        level = s .level;
+        left = moved speeds ts a p .left;
+      }
+  order-recorded idle a =
+      ap (λ (b : Bool). pick b (ordered (moved speeds ts a p) (orderWith s hold)) a) (order-accepted s hold)
+      ∙ order-booked s hold idle (moved speeds ts a p)
 
-  order-ran : (b : Book) → ran τ b p (orderWith s hold) ≡ after τ (p .d) b
-  order-ran b = elim (viewOrder s hold) as (λ r _. ran τ b p r ≡ after τ (p .d) b) [ is-idle e ↦ refl | is-run e ↦ refl ]
+  order-ran : (τ : Timing) (b : Book) → ran τ b p (orderWith s hold) ≡ after τ (p .d) b
+  order-ran τ b = elim (viewOrder s hold) as (λ r _. ran τ b p r ≡ after τ (p .d) b) [ is-idle e ↦ refl | is-run e ↦ refl ]
 
 -- a plan that was accepted, over a table of speeds
 module _ (speeds : List ℕ) (rising : Rising speeds) (few : length speeds ≤ 256) (ts : List Task) (good : FineList speeds (length ts) ts) where
@@ -81,19 +103,28 @@ module _ (speeds : List ℕ) (rising : Rising speeds) (few : length speeds ≤ 2
   fits = plan-fits speeds ts good rising
 
   -- bytes that a sound state was stored as are sound, and read as that state
-  module _ {s : State} {bytes : List ℕ} (stored : bytes ≡ encode s) (fine : Fine speeds ts s) where
+  module _ {s : State} {bytes : List ℕ} (stored : bytes ≡ encode s) (in-time : s .clock ≤ largestClock) (fine : Fine speeds ts s) where
     storable : Storable s
-    storable = fine-storable speeds ts s good rising few fine
+    storable = fine-storable speeds ts s good rising few fine in-time
 
     pub decoded : decode bytes ≡ s
     decoded = ap decode stored ∙ decode-encode s storable
 
     pub stored-sound : sound speeds bytes ≡ true
     stored-sound =
-        both-true (ap laidOut stored ∙ laid-out s storable) (ap (stateSound speeds) decoded ∙ fine-sound speeds ts s good fine)
+        both-true (ap laidOut stored ∙ laid-out s storable)
+        (both-true (ap (λ (x : State). inTime (x .clock)) decoded ∙ le-leb (s .clock) largestClock in-time)
+        (ap (stateSound speeds) decoded ∙ fine-sound speeds ts s good fine))
 
     pub stored-length : length bytes ≡ 200
     stored-length = ap length stored ∙ length-encode s (storable .count)
+
+    -- another sound state's block takes the place of all of them
+    stored-over : {next : State} → Fine speeds ts next → next .clock ≤ largestClock → storedBy 0 (encode next) bytes ≡ encode next
+    stored-over {next} fine-next in-time-next =
+        let new : Storable next = fine-storable speeds ts next good rising few fine-next in-time-next in
+        let size : length bytes ≤ length (encode next) = omega (arith, stored-length, length-encode next (new .count)) in
+        ap (λ (l : List ℕ). encode next ++ l) (drop-of-length-le bytes size) ∙ append-nil (encode next)
 
     -- so the questions are those of the state, and so is what follows
     module _ (d : ℕ) (finished : Bool) where
@@ -135,16 +166,16 @@ module _ (speeds : List ℕ) (rising : Rising speeds) (few : length speeds ≤ 2
     -- a job that finished is that of a task
     task-below : finished ≡ true → s .task < τ .count
     task-below f =
-        elim (ordered speeds ts s fine) [
+        elim (worked.ordered speeds ts s fine) [
           | idles t l z ↦ absurd (true≢false (sym (ok .runs f) ∙ ap not (eq-eqb (s .task) 255 t)))
           | runs r ↦ r .below
         ]
 
     -- the running job's work does not run out before it finishes
-    working : (i : ℕ) → i < τ .count → 0 < workOf s i → ((i ≡ s .task) × (finished ≡ true) → ⊥) → 0 < workedOf speeds s d finished i
+    working : (i : ℕ) → i < τ .count → 0 < workOf s i → ((i ≡ s .task) × (finished ≡ true) → ⊥) → 0 < workedOf speeds s d finished i .work
     working i h w ne =
-        elim (tested finished) as (λ b _. finished ≡ b → 0 < workedOf speeds s d finished i) [
-          | passed ↦ λ f. subst (λ (x : ℕ). 0 < x) (sym (worked-other speeds s d finished i (λ e. ne (e, f)))) w
+        elim (tested finished) as (λ b _. finished ≡ b → 0 < workedOf speeds s d finished i .work) [
+          | passed ↦ λ f. subst (λ (x : Rest). 0 < x .work) (sym (worked-other speeds s d finished i (λ e. ne (e, f)))) w
           | failed ↦ λ f. worked-open speeds rising ts good s fine d finished ok f i h w
         ] refl
 
@@ -163,9 +194,9 @@ module _ (speeds : List ℕ) (rising : Rising speeds) (few : length speeds ≤ 2
           stuck : ((i ≡ s .task) × (finished ≡ true) → ⊥) → ⊥
           stuck ne =
               let speed : ℕ = nominalSpeed speeds ts in
-              let work : ℕ = workedOf speeds s d finished i in
-              let some : 0 < need speed work = need-positive speed work (nominal-positive speeds ts good rising) (working i h w ne) in
-              let most : need speed work ≤ drainedOf τ s d i = stays-ahead speeds rising ts good s fine d finished ok i h in
+              let rest : Rest = workedOf speeds s d finished i in
+              let some : 0 < timeOf speed rest = time-some speed rest (nominal-positive speeds ts good rising) (working i h w ne) in
+              let most : timeOf speed rest ≤ drainedOf τ s d i = stays-ahead speeds rising ts good s fine d finished ok i h in
               let none : drainedOf τ s d i ≡ 0 = nothing-old τ (hyperperiod ts) fits (s .clock) d (remainingOf s) (ok .some) quiet queue i h z in
               omega arith
 
@@ -176,8 +207,8 @@ module _ (speeds : List ℕ) (rising : Rising speeds) (few : length speeds ≤ 2
       next-held : (closed : List Job) → Held τ (s .clock) (workOf s) closed → Held τ (s .clock + d) (workOf next) (closing closed)
       next-held closed held =
           held-pass τ (s .clock) d (workOf s) (workOf next) closed finished (s .task) (ok .some) (fits .periods) quiet
-          (λ i h z. subst (λ (x : ℕ). 0 < x) (sym (new-work speeds τ s d finished i h z)) (worst-some i h))
-          (λ i h z w ne. subst (λ (x : ℕ). 0 < x) (sym (old-work speeds τ s d finished i h z)) (working i h w ne))
+          (λ i h z. subst (λ (x : Rest). 0 < x .work) (sym (new-rest speeds τ s d finished i h z)) (worst-some i h))
+          (λ i h z w ne. subst (λ (x : Rest). 0 < x .work) (sym (old-rest speeds τ s d finished i h z)) (working i h w ne))
           never
           held
 
@@ -185,12 +216,13 @@ module _ (speeds : List ℕ) (rising : Rising speeds) (few : length speeds ≤ 2
       next-ended closed ended =
           ended-pass τ (s .clock) d (workOf s) (workOf next) closed finished (s .task) (ok .some) (fits .periods) quiet
           task-below
-          (λ f z. old-work speeds τ s d finished (s .task) (task-below f) z ∙ worked-mine speeds s d finished ∙ ap (λ (b : Bool). pick {A = ℕ} b 0 left) f)
-          (λ i h z w. omega (arith, old-work speeds τ s d finished i h z, worked-less speeds s d finished i))
+          (λ f z. ap (λ (x : Rest). x .work)
+          (old-rest speeds τ s d finished (s .task) (task-below f) z ∙ worked-mine speeds s d finished ∙ ap (λ (b : Bool). pick b noRest left) f))
+          (λ i h z w. omega (arith, ap (λ (x : Rest). x .work) (old-rest speeds τ s d finished i h z), worked-less speeds s d finished i))
           ended
         where
-          left : ℕ
-          left = workOf s (s .task) - d * speedOf speeds (s .level)
+          left : Rest
+          left = worn (speedOf speeds (s .level)) d (restOf s (s .task))
 
       next-queue : canonicalAt τ (s .clock + d) ≡ record { clock = s .clock + d; pending = queueOf τ (s .clock + d) (remainingOf next) (τ .count) }
       next-queue =
@@ -212,34 +244,50 @@ module _ (speeds : List ℕ) (rising : Rising speeds) (few : length speeds ≤ 2
       abbrev pass : Pass
       pass = record { d = d; finished = finished }
 
+      abbrev booked-next : DispatcherBook → DispatcherBook
+      booked-next a = booked speeds ts a pass order
+
+      -- what the book has left of each job after it
+      left-next :
+          (a : DispatcherBook) →
+          a .clock ≡ s .clock →
+          a .task ≡ s .task →
+          a .level ≡ s .level →
+          ((i : ℕ) → i < length ts → a .left i ≡ restOf s i) →
+          (i : ℕ) →
+          i < length ts →
+          leftAfter speeds ts a pass i ≡ restOf next i
+      left-next a c t l same i h =
+          (λ k. pick (eqb ((c k + d) % τ .period i) 0) (whole (getD (sym (fine .entries .plan) k) i noTask))
+          (pick (eqb i (t k)) (pick finished noRest (worn (speedOf speeds (l k)) d (same i h k))) (same i h k)))
+          ∙ sym (passed-rest speeds τ s d finished i h)
+
       -- the tie holds after it
       tied-next :
-          {a : DispatcherBook} {b : Book} {last : Reply} {bytes : List ℕ} →
-          Tied speeds ts s bytes a b last →
-          Tied speeds ts next (storedBy 0 (encode next) bytes) (booked τ a pass order) (ran τ b pass order) (orderAfter last order)
-      tied-next {a} {b} {last} {bytes} t =
+          {a : DispatcherBook} {b : Book} {last : Reply} →
+          Tied speeds ts s a b last →
+          Tied speeds ts next (booked-next a) (ran τ b pass order) (orderAfter last order)
+      tied-next {a} {b} {last} t =
           let fine-next : Fine speeds ts next = pass-fine speeds rising ts good s fine d finished ok in
-          let new : Storable next = fine-storable speeds ts next good rising few fine-next in
           let clock : next .clock ≡ s .clock + d = passed-clock speeds τ s d finished in
-          let recorded : booked τ a pass order ≡ moved τ a pass (next .task) = order-recorded τ pass next hold a in
-          let closed : booked τ a pass order .closed ≡ closing (a .closed) =
+          let recorded = order-recorded speeds ts pass next hold (idle-level good fine-next) a in
+          let closed : booked-next a .closed ≡ closing (a .closed) =
           ap (λ (r : DispatcherBook). r .closed) recorded
           ∙ ap₂ (λ (x y : ℕ). pick finished (latest τ x y ∷ a .closed) (a .closed)) (t .clock) (t .task) in
-          let size : length bytes ≤ length (encode next) =
-          omega (arith, stored-length (t .stored) fine, length-encode next (new .count)) in
           record {
-            stored = ap (λ (l : List ℕ). encode next ++ l) (drop-of-length-le bytes size) ∙ append-nil (encode next);
             fine = fine-next;
             clock = ap (λ (r : DispatcherBook). r .clock) recorded ∙ ap (λ (x : ℕ). x + d) (t .clock) ∙ sym clock;
             task = ap (λ (r : DispatcherBook). r .task) recorded;
+            level = ap (λ (r : DispatcherBook). r .level) recorded;
+            left = λ i h. ap (λ (r : DispatcherBook). r .left i) recorded ∙ left-next a (t .clock) (t .task) (t .level) (t .left) i h;
             held =
-                subst (λ (c : ℕ). Held τ c (workOf next) (booked τ a pass order .closed)) (sym clock)
+                subst (λ (c : ℕ). Held τ c (workOf next) (booked-next a .closed)) (sym clock)
                 (subst (λ (l : List Job). Held τ (s .clock + d) (workOf next) l) (sym closed) (next-held (a .closed) (t .held)));
             ended =
-                subst (λ (c : ℕ). Ended τ c (workOf next) (booked τ a pass order .closed)) (sym clock)
+                subst (λ (c : ℕ). Ended τ c (workOf next) (booked-next a .closed)) (sym clock)
                 (subst (λ (l : List Job). Ended τ (s .clock + d) (workOf next) l) (sym closed) (next-ended (a .closed) (t .ended)));
             plainly =
-                order-ran τ pass next hold b
+                order-ran speeds ts pass next hold τ b
                 ∙ ap (after τ d) (t .plainly)
                 ∙ sym (after-add τ (s .clock) d (opened τ))
                 ∙ ap (canonicalAt τ) (sym clock);
@@ -252,13 +300,13 @@ module _ (speeds : List ℕ) (rising : Rising speeds) (few : length speeds ≤ 2
   pub kept-pass :
       (p : Pass) (bytes : List ℕ) (a : DispatcherBook) (b : Book) (last : Reply) →
       Kept speeds ts bytes a b last →
-      Kept speeds ts (passBytes speeds bytes (p .d) (p .finished)) (booked τ a p (passReply speeds bytes (p .d) (p .finished)))
+      Kept speeds ts (passBytes speeds bytes (p .d) (p .finished)) (booked speeds ts a p (passReply speeds bytes (p .d) (p .finished)))
       (ran τ b p (passReply speeds bytes (p .d) (p .finished))) (orderAfter last (passReply speeds bytes (p .d) (p .finished)))
   kept-pass p bytes a b last k =
-      subst (λ (x : List ℕ). Kept speeds ts x (booked τ a p given) (ran τ b p given) (orderAfter last given))
-      (sym (bytes-are (k .tied .stored) (k .tied .fine) (p .d) (p .finished)))
-      (subst (λ (r : Reply). Kept speeds ts (storedBy number (encode after-it) bytes) (booked τ a p r) (ran τ b p r) (orderAfter last r))
-      (sym (reply-is (k .tied .stored) (k .tied .fine) (p .d) (p .finished)))
+      subst (λ (x : List ℕ). Kept speeds ts x (booked speeds ts a p given) (ran τ b p given) (orderAfter last given))
+      (sym (bytes-are (k .stored) (k .in-time) (k .tied .fine) (p .d) (p .finished)))
+      (subst (λ (r : Reply). Kept speeds ts (storedBy number (encode after-it) bytes) (booked speeds ts a p r) (ran τ b p r) (orderAfter last r))
+      (sym (reply-is (k .stored) (k .in-time) (k .tied .fine) (p .d) (p .finished)))
       (by-number number refl))
     where
       given : Reply
@@ -276,11 +324,19 @@ module _ (speeds : List ℕ) (rising : Rising speeds) (few : length speeds ≤ 2
       by-number :
           (n : ℕ) →
           number ≡ n →
-          Kept speeds ts (storedBy n (encode after-it) bytes) (booked τ a p (repliedBy n chosen)) (ran τ b p (repliedBy n chosen))
+          Kept speeds ts (storedBy n (encode after-it) bytes) (booked speeds ts a p (repliedBy n chosen)) (ran τ b p (repliedBy n chosen))
           (orderAfter last (repliedBy n chosen))
       by-number zero e =
+          let asked = pass-accepted speeds (k .state) (p .d) (p .finished) e in
           let ok : Accepted speeds τ (k .state) (p .d) (p .finished) =
-          subst (λ (l : List Task). Accepted speeds (timing speeds l) (k .state) (p .d) (p .finished)) (k .tied .fine .entries .plan)
-          (accepted speeds (k .state) (p .d) (p .finished) e) in
-          record { state = after-it; tied = tied-next (k .state) (k .tied .fine) (p .d) (p .finished) ok (k .tied .queue) (k .tied) }
+          subst (λ (l : List Task). Accepted speeds (timing speeds l) (k .state) (p .d) (p .finished)) (k .tied .fine .entries .plan) (asked .0) in
+          let in-time-next : after-it .clock ≤ largestClock =
+          subst (λ (c : ℕ). c ≤ largestClock) (sym (passed-clock speeds τ (k .state) (p .d) (p .finished))) (asked .1) in
+          let tied-after = tied-next (k .state) (k .tied .fine) (p .d) (p .finished) ok (k .tied .queue) (k .tied) in
+          record {
+            state = after-it;
+            tied = tied-after;
+            stored = stored-over (k .stored) (k .in-time) (k .tied .fine) (tied-after .fine) in-time-next;
+            in-time = in-time-next;
+          }
       by-number (suc n) e = k

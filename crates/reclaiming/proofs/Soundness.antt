@@ -4,26 +4,26 @@
 use Prim.Native.Nat.{ℕ, suc, _+_, _<_, _≤_}
 use mathlib.Core.Path.{_≡_, refl, sym, subst, ap, _∙_}
 use mathlib.Core.Bool.{Bool, true, false}
-use mathlib.Core.List.{List}
+use mathlib.Core.List.{List, [], _∷_}
 use native.Mathlib.Omega.{arith}
 use borrow.Author.Tests.{leb-true, le-leb, eqb-true, eq-eqb}
 use lib.Dec.{leb, ltb, eqb}
 use lib.ListN.{length, getD, length-map, List·getD-map}
 use Rattle.arith.specs.Choice.{pick, both, every}
-use Rattle.arith.specs.Need.{need}
-use Rattle.arith.specs.Asking.{firstNo}
+use Rattle.arith.specs.Asking.{Question, ask, firstNo}
 use Rattle.arith.proofs.Tests.{both-left, both-right, both-true, only-if, if-so}
 use Rattle.arith.proofs.ListLaws.{every-at, at-every}
-use Rattle.arith.proofs.QuestionLaws.{Yes, all-yes, yes-all}
+use Rattle.arith.proofs.QuestionLaws.{Yes, all-yes, yes-all, ask-yes, yes-before, yes-of, yes-after}
 use Rattle.plan.specs.declared.Task.{Task}
+use Rattle.plan.specs.Times.{timeOf, taskTime}
 use Rattle.plan.specs.Levels.{Rising, nominal}
 use Rattle.plan.specs.Blocks.{noTask}
 use Rattle.plan.specs.Questions.{judging}
 use Rattle.plan.proofs.Facts.{FineList, InRange, fine-list, list-yes}
 use Rattle.reclaiming.specs.declared.Entry.{Entry}
-use Rattle.reclaiming.specs.StateBlock.{State, noEntry, workOf, remainingOf, taskOf, planIn, timing}
-use Rattle.reclaiming.specs.Orders.{nextArrival, openJobs}
-use Rattle.reclaiming.specs.Questions.{largestClock, entrySound, orderSound, stateSound, running, runningTime, passQuestions}
+use Rattle.reclaiming.specs.StateBlock.{State, noEntry, workOf, remainingOf, restIn, taskOf, planIn, timing, decode, laidOut}
+use Rattle.reclaiming.specs.Orders.{nextArrival, openJobs, runningTime}
+use Rattle.reclaiming.specs.Questions.{largestClock, entrySound, orderSound, stateSound, inTime, sound, running, stepQuestions, passQuestions}
 use Rattle.reclaiming.proofs.Fine.{nominalSpeed, FineEntries, Fine, Accepted}
 use Rattle.reclaiming.proofs.Plans.{task-range, allotment-short}
 use Rattle.reclaiming.proofs.StateCodec.{StorableEntry, Storable}
@@ -43,25 +43,25 @@ fine-length {s = s} f = sym (length-planIn s) ∙ ap length (f .plan)
 -- an entry
 pub record FineEntry (speed : ℕ) (e : Entry) : Type 0 where
   pub work : e .work ≤ e .worst
-  pub remaining : e .remaining ≤ need speed (e .worst)
-  pub ahead : need speed (e .work) ≤ e .remaining
+  pub remaining : e .remaining ≤ taskTime speed (taskOf e)
+  pub ahead : timeOf speed (restIn e) ≤ e .remaining
 
 fine-entry : (speed : ℕ) (e : Entry) → entrySound speed e ≡ true → FineEntry speed e
 fine-entry speed e h =
     let a : Bool = leb (e .work) (e .worst) in
-    let b : Bool = leb (e .remaining) (need speed (e .worst)) in
-    let c : Bool = leb (need speed (e .work)) (e .remaining) in
+    let b : Bool = leb (e .remaining) (taskTime speed (taskOf e)) in
+    let c : Bool = leb (timeOf speed (restIn e)) (e .remaining) in
     let k : both b c ≡ true = both-right a (both b c) h in
     record {
       work = leb-true (e .work) (e .worst) (both-left a (both b c) h);
-      remaining = leb-true (e .remaining) (need speed (e .worst)) (both-left b c k);
-      ahead = leb-true (need speed (e .work)) (e .remaining) (both-right b c k);
+      remaining = leb-true (e .remaining) (taskTime speed (taskOf e)) (both-left b c k);
+      ahead = leb-true (timeOf speed (restIn e)) (e .remaining) (both-right b c k);
     }
 
 entry-sound : (speed : ℕ) (e : Entry) → FineEntry speed e → entrySound speed e ≡ true
 entry-sound speed e f =
     both-true (le-leb (e .work) (e .worst) (f .work))
-    (both-true (le-leb (e .remaining) (need speed (e .worst)) (f .remaining)) (le-leb (need speed (e .work)) (e .remaining) (f .ahead)))
+    (both-true (le-leb (e .remaining) (taskTime speed (taskOf e)) (f .remaining)) (le-leb (timeOf speed (restIn e)) (e .remaining) (f .ahead)))
 
 -- a sound state's plan is accepted, and the state is fine
 pub sound-fine :
@@ -71,22 +71,19 @@ pub sound-fine :
 sound-fine speeds s h =
     let ts : List Task = planIn s in
     let a : Bool = eqb (firstNo (judging speeds (length (s .entries)) ts)) 0 in
-    let b : Bool = leb (s .clock) largestClock in
     let c : Bool = every (entrySound (nominalSpeed speeds ts)) (s .entries) in
     let d : Bool = orderSound speeds (timing speeds ts) (nominal speeds ts) s (openJobs (timing speeds ts) s) in
-    let k : both b (both c d) ≡ true = both-right a (both b (both c d)) h in
-    let l : both c d ≡ true = both-right b (both c d) k in
+    let l : both c d ≡ true = both-right a (both c d) h in
     let entry : (i : ℕ) → i < length ts → FineEntry (nominalSpeed speeds ts) (getD (s .entries) i noEntry) =
     λ i q. fine-entry (nominalSpeed speeds ts) (getD (s .entries) i noEntry)
     (every-at (entrySound (nominalSpeed speeds ts)) (s .entries) i noEntry (both-left c d l) (omega (arith, length-planIn s))) in (
       subst (λ (n : ℕ). FineList speeds n ts) (sym (length-planIn s))
-          (fine-list speeds (length (s .entries)) ts (eqb-true (firstNo (judging speeds (length (s .entries)) ts)) 0 (both-left a (both b (both c d)) h))),
+          (fine-list speeds (length (s .entries)) ts (eqb-true (firstNo (judging speeds (length (s .entries)) ts)) 0 (both-left a (both c d) h))),
       record {
         entries = record {
           plan = refl;
-          clock = leb-true (s .clock) largestClock (both-left b (both c d) k);
           work = λ i q. subst (λ (t : Task). workOf s i ≤ t .worst) (sym (planIn-at s i)) (entry i q .work);
-          remaining = λ i q. subst (λ (t : Task). remainingOf s i ≤ need (nominalSpeed speeds ts) (t .worst)) (sym (planIn-at s i)) (entry i q .remaining);
+          remaining = λ i q. subst (λ (t : Task). remainingOf s i ≤ taskTime (nominalSpeed speeds ts) t) (sym (planIn-at s i)) (entry i q .remaining);
           ahead = λ i q. entry i q .ahead;
         };
         order = both-right c d l;
@@ -109,16 +106,15 @@ fine-sound speeds ts s l f =
         both-true
         (eq-eqb (firstNo (judging speeds (length (s .entries)) (planIn s))) 0
         (list-yes speeds (length (s .entries)) (planIn s) (subst (λ (n : ℕ). FineList speeds n (planIn s)) m l)))
-        (both-true (le-leb (s .clock) largestClock (f .entries .clock))
         (both-true
         (at-every (entrySound v) (s .entries) noEntry
         (λ i q. entry-sound v (getD (s .entries) i noEntry)
         (record {
           work = subst (λ (t : Task). workOf s i ≤ t .worst) (planIn-at s i) (f .entries .work i (omega arith));
-          remaining = subst (λ (t : Task). remainingOf s i ≤ need v (t .worst)) (planIn-at s i) (f .entries .remaining i (omega arith));
+          remaining = subst (λ (t : Task). remainingOf s i ≤ taskTime v t) (planIn-at s i) (f .entries .remaining i (omega arith));
           ahead = f .entries .ahead i (omega arith);
         })))
-        (f .order)))
+        (f .order))
 
 -- the time that a pass may take of the running job
 time-most : (finished : Bool) (d t : ℕ) → pick finished (leb d t) (ltb d t) ≡ true → d ≤ t
@@ -138,24 +134,23 @@ module _ (speeds : List ℕ) (s : State) (d : ℕ) (finished : Bool) where
   timely = pick finished (leb d (runningTime speeds s)) (ltb d (runningTime speeds s))
 
   -- a pass that the questions let through is accepted
-  pub accepted : firstNo (passQuestions speeds s d finished) ≡ 0 → Accepted speeds (timing speeds (planIn s)) s d finished
+  pub accepted : firstNo (stepQuestions speeds s d finished) ≡ 0 → Accepted speeds (timing speeds (planIn s)) s d finished
   accepted h =
       let next : ℕ = nextArrival (timing speeds (planIn s)) (s .clock) in
-      let a : Yes (passQuestions speeds s d finished) = all-yes (passQuestions speeds s d finished) refl h in
+      let a : Yes (stepQuestions speeds s d finished) = all-yes (stepQuestions speeds s d finished) refl h in
       record {
         some = leb-true 1 d (a .0);
         within = leb-true d next (a .1 .0);
         runs = if-so finished (running s) (a .1 .1 .0);
         time = λ r. time-most finished d (runningTime speeds s) (if-so (running s) timely (a .1 .1 .1 .0) r);
         unfinished = λ r. time-below finished d (runningTime speeds s) (if-so (running s) timely (a .1 .1 .1 .0) r);
-        clock = leb-true (s .clock + d) largestClock (a .1 .1 .1 .1 .0);
       }
 
   -- and the questions let an accepted pass through
-  pub questions-yes : Accepted speeds (timing speeds (planIn s)) s d finished → firstNo (passQuestions speeds s d finished) ≡ 0
+  pub questions-yes : Accepted speeds (timing speeds (planIn s)) s d finished → firstNo (stepQuestions speeds s d finished) ≡ 0
   questions-yes f =
       let next : ℕ = nextArrival (timing speeds (planIn s)) (s .clock) in
-      yes-all (passQuestions speeds s d finished) (
+      yes-all (stepQuestions speeds s d finished) (
         le-leb 1 d (f .some),
         (
           le-leb d next (f .within),
@@ -163,39 +158,79 @@ module _ (speeds : List ℕ) (s : State) (d : ℕ) (finished : Bool) where
             only-if finished (running s) (f .runs),
             (
               only-if (running s) timely (λ r. time-test finished d (runningTime speeds s) (f .time r) (f .unfinished r)),
-              (le-leb (s .clock + d) largestClock (f .clock), tt),
+              tt,
             ),
           ),
         ),
       )
 
--- a fine state fits its block
+  -- question 15 stands by itself: the clock that the call has room for
+  abbrev then-clock : List Question
+  then-clock = ask 15 (inTime (s .clock + d)) ∷ []
+
+  pub pass-accepted :
+      firstNo (passQuestions speeds s d finished) ≡ 0 →
+      Accepted speeds (timing speeds (planIn s)) s d finished × (s .clock + d ≤ largestClock)
+  pass-accepted h =
+      let asked : List Question = stepQuestions speeds s d finished in (
+        accepted (yes-of asked then-clock h),
+        leb-true (s .clock + d) largestClock (all-yes then-clock refl (yes-after asked then-clock refl h) .0),
+      )
+
+  pub pass-yes :
+      Accepted speeds (timing speeds (planIn s)) s d finished →
+      s .clock + d ≤ largestClock →
+      firstNo (passQuestions speeds s d finished) ≡ 0
+  pass-yes f late =
+      yes-before (stepQuestions speeds s d finished) then-clock refl (questions-yes f)
+      ∙ ask-yes 15 (le-leb (s .clock + d) largestClock late) refl
+
+-- a sound block's state
+module _ (speeds bytes : List ℕ) (h : sound speeds bytes ≡ true) where
+  abbrev timed : Bool
+  timed = both (inTime (decode bytes .clock)) (stateSound speeds (decode bytes))
+
+  pub sound-state : stateSound speeds (decode bytes) ≡ true
+  sound-state = both-right (inTime (decode bytes .clock)) (stateSound speeds (decode bytes)) (both-right (laidOut bytes) timed h)
+
+  pub sound-clock : decode bytes .clock ≤ largestClock
+  sound-clock =
+      leb-true (decode bytes .clock) largestClock
+      (both-left (inTime (decode bytes .clock)) (stateSound speeds (decode bytes)) (both-right (laidOut bytes) timed h))
+
+-- an order's task and level fit a byte each
+pub fine-small :
+    (speeds : List ℕ) (ts : List Task) (s : State) →
+    FineList speeds (length ts) ts →
+    length speeds ≤ 256 →
+    Fine speeds ts s →
+    (s .task < 256) × (s .level < 256)
+fine-small speeds ts s l few f =
+    elim (order-facts speeds (timing speeds ts) (nominal speeds ts) s (f .order)) [
+      | idles t h none ↦ (omega arith, omega arith)
+      | runs r ↦ (omega (arith, r .below, l .count-high), omega (arith, r .level, l .tasks .admitted))
+    ]
+
+-- a fine state whose clock is in range fits its block
 pub fine-storable :
     (speeds : List ℕ) (ts : List Task) (s : State) →
     FineList speeds (length ts) ts →
     Rising speeds →
     length speeds ≤ 256 →
     Fine speeds ts s →
+    s .clock ≤ largestClock →
     Storable s
-fine-storable speeds ts s l rising few f =
-    let o : Ordered speeds (timing speeds ts) (nominal speeds ts) s = order-facts speeds (timing speeds ts) (nominal speeds ts) s (f .order) in
+fine-storable speeds ts s l rising few f late =
     let n : length (s .entries) ≡ length ts = fine-length (f .entries) in
+    let o = fine-small speeds ts s l few f in
     record {
-      clock = omega (arith, f .entries .clock);
-      task = task o;
-      level = level o;
+      clock = omega (arith, late);
+      task = o .0;
+      level = o .1;
       count = omega (arith, l .count-high);
       entries = λ i k. entry i (omega arith);
     }
   where
-    task : Ordered speeds (timing speeds ts) (nominal speeds ts) s → s .task < 256
-    task (idles t h none) = omega arith
-    task (runs r) = omega (arith, r .below, l .count-high)
-
-    level : Ordered speeds (timing speeds ts) (nominal speeds ts) s → s .level < 256
-    level (idles t h none) = omega arith
-    level (runs r) = omega (arith, r .level, l .tasks .admitted)
-
     -- an entry's plan
     same : (i : ℕ) → getD ts i noTask ≡ taskOf (getD (s .entries) i noEntry)
     same i = ap (λ (us : List Task). getD us i noTask) (sym (f .entries .plan)) ∙ planIn-at s i

@@ -4,6 +4,7 @@ use mathlib.Core.Path.{_≡_, refl}
 use mathlib.Core.Bool.{true}
 use Rattle.arith.specs.Need.{need}
 use Rattle.arith.specs.Divisor.{gcd, lcm}
+use Rattle.plan.specs.Times.{timeOf, worn}
 use Rattle.schedule.specs.PlainSchedule.{moreUrgent}
 use Rattle.schedule.specs.Feasibility.{In}
 use Rattle.schedule.proofs.Members.{every-in}
@@ -12,7 +13,7 @@ use Rattle.reclaiming.proofs.StateCodec.{same-bytes}
 
 -- the table's test, computed
 starred-agree : agrees starred ≡ true
-unfolding need lcm gcd moreUrgent
+unfolding need timeOf worn lcm gcd moreUrgent
 starred-agree = refl
 
 pub starred-cases : (c : Case) → In c starred → c .found ≡ c .wanted

@@ -1,6 +1,6 @@
 -- A pass keeps the dispatcher ahead of the plain schedule: after it, each task's work left needs no more than its plain ticks left.
 -- Assumes nothing.
-use Prim.Native.Nat.{ℕ, _+_, _-_, _*_, _≤_, _<_}
+use Prim.Native.Nat.{ℕ, _+_, _-_, _≤_, _<_}
 use mathlib.Core.Path.{_≡_, refl, sym, ap, subst}
 use mathlib.Core.Bool.{Bool, true, false, not}
 use mathlib.Core.List.{List}
@@ -8,49 +8,53 @@ use mathlib.Core.Logic.{_≢_}
 use native.Mathlib.Decide.{decLe, ℕ-discrete}
 use native.Mathlib.Omega.{arith}
 use borrow.Author.Tests.{eq-eqb, ne-eqb}
+use lib.Dec.{eqb}
 use lib.ListN.{length}
 use Rattle.arith.specs.Choice.{pick}
 use Rattle.arith.specs.Sum.{sumTo}
-use Rattle.arith.specs.Need.{need}
-use Rattle.arith.proofs.Tests.{passed, failed, tested, eq-yes, eq-not, testEq}
-use Rattle.arith.proofs.Needs.{need-mono, need-faster, need-zero, need-positive, need-after}
+use Rattle.arith.proofs.Tests.{passed, failed, tested}
 use Rattle.plan.specs.declared.Task.{Task}
+use Rattle.plan.specs.Times.{Rest, noRest, Within, timeOf, worn}
 use Rattle.plan.specs.Levels.{Rising, speedOf, nominal}
+use Rattle.plan.proofs.TimeLaws.{time-more, time-faster, time-none, time-some, time-after, worn-within, worn-open, none-within, within-self}
 use Rattle.plan.proofs.Facts.{FineList}
 use Rattle.schedule.specs.PlainSchedule.{Timing, moreUrgent, latest}
 use Rattle.schedule.proofs.Ahead.{left-drain}
-use Rattle.reclaiming.specs.StateBlock.{State, workOf, remainingOf, timing}
-use Rattle.reclaiming.specs.Orders.{allowance}
+use Rattle.reclaiming.specs.StateBlock.{State, workOf, remainingOf, restOf, timing}
+use Rattle.reclaiming.specs.Orders.{allowance, runningTime}
 use Rattle.reclaiming.specs.Passes.{drainedOf, workedOf}
-use Rattle.reclaiming.specs.Questions.{running, runningTime}
-use Rattle.reclaiming.proofs.Fine.{nominalSpeed, Fine, Accepted}
+use Rattle.reclaiming.specs.Questions.{running}
+use Rattle.reclaiming.proofs.Fine.{nominalSpeed, closed-none, Fine, Accepted}
 use Rattle.reclaiming.proofs.Plans.{level-positive, level-slower, nominal-positive}
 use Rattle.reclaiming.proofs.OrderFacts.{Runs, Ordered, idles, runs, order-facts}
 use Rattle.reclaiming.proofs.Allowances.{allowed, allowance-is, allowance-before, drained-le, drained-part}
 
--- a task that does not run keeps its work; the running one's falls
+-- a task that does not run keeps what is left; of the running one's the ticks take their part
 module _ (speeds : List ℕ) (s : State) (d : ℕ) (finished : Bool) where
-  pub worked-other : (i : ℕ) → i ≢ s .task → workedOf speeds s d finished i ≡ workOf s i
-  worked-other i x =
-      ap (λ (b : Bool). pick {A = ℕ} b (pick finished 0 (workOf s i - d * speedOf speeds (s .level))) (workOf s i)) (ne-eqb i (s .task) x)
+  -- what the ticks leave of a job that runs
+  abbrev ran : Rest → Rest
+  ran r = pick finished noRest (worn (speedOf speeds (s .level)) d r)
 
-  pub worked-mine : workedOf speeds s d finished (s .task) ≡ pick finished 0 (workOf s (s .task) - d * speedOf speeds (s .level))
-  worked-mine =
-      ap (λ (b : Bool). pick {A = ℕ} b (pick finished 0 (workOf s (s .task) - d * speedOf speeds (s .level))) (workOf s (s .task)))
-      (eq-eqb (s .task) (s .task) refl)
+  pub worked-other : (i : ℕ) → i ≢ s .task → workedOf speeds s d finished i ≡ restOf s i
+  worked-other i x = ap (λ (b : Bool). pick b (ran (restOf s i)) (restOf s i)) (ne-eqb i (s .task) x)
 
-  pub worked-less : (i : ℕ) → workedOf speeds s d finished i ≤ workOf s i
-  worked-less i =
-      elim (testEq i (s .task))
-      as (λ b _. pick {A = ℕ} b (pick finished 0 (workOf s i - d * speedOf speeds (s .level))) (workOf s i) ≤ workOf s i) [
-        | eq-yes e ↦
-            elim (tested finished) as (λ b _. pick {A = ℕ} b 0 (workOf s i - d * speedOf speeds (s .level)) ≤ workOf s i)
-            [ passed ↦ omega arith | failed ↦ omega arith ]
-        | eq-not e ↦ omega arith
+  pub worked-mine : workedOf speeds s d finished (s .task) ≡ pick finished noRest (worn (speedOf speeds (s .level)) d (restOf s (s .task)))
+  worked-mine = ap (λ (b : Bool). pick b (ran (restOf s (s .task))) (restOf s (s .task))) (eq-eqb (s .task) (s .task) refl)
+
+  pub worked-within : (i : ℕ) → Within (workedOf speeds s d finished i) (restOf s i)
+  worked-within i =
+      elim (tested (eqb i (s .task))) as (λ b _. Within (pick b (ran (restOf s i)) (restOf s i)) (restOf s i)) [
+        | passed ↦
+            elim (tested finished) as (λ b _. Within (pick b noRest (worn (speedOf speeds (s .level)) d (restOf s i))) (restOf s i))
+            [ passed ↦ none-within (restOf s i) | failed ↦ worn-within (speedOf speeds (s .level)) d (restOf s i) ]
+        | failed ↦ within-self (restOf s i)
       ]
 
+  pub worked-less : (i : ℕ) → workedOf speeds s d finished i .work ≤ workOf s i
+  worked-less i = worked-within i .work
+
   -- so what is open after a pass was open before
-  pub worked-was : (i : ℕ) → 0 < workedOf speeds s d finished i → 0 < workOf s i
+  pub worked-was : (i : ℕ) → 0 < workedOf speeds s d finished i .work → 0 < workOf s i
   worked-was i h = omega (arith, worked-less i)
 
 -- the ticks taken from the queue
@@ -81,79 +85,74 @@ module _ (speeds : List ℕ) (rising : Rising speeds) (ts : List Task) (plan : F
   -- an open job needs time
   pub time-positive : (s : State) → Runs speeds τ (nominal speeds ts) s → 0 < runningTime speeds s
   time-positive s r =
-      need-positive (speedOf speeds (s .level)) (workOf s (s .task)) (level-positive speeds ts plan rising (s .level) (r .level)) (r .work)
+      time-some (speedOf speeds (s .level)) (restOf s (s .task)) (level-positive speeds ts plan rising (s .level) (r .level)) (r .work)
 
   -- a pass from a sound state
   module _ (s : State) (fine : Fine speeds ts s) (d : ℕ) (finished : Bool) (pass : Accepted speeds τ s d finished) where
-    -- the order's speed, and what the ticks at it leave of the running job's work
+    -- the order's speed, and what the ticks at it leave of the running job
     abbrev rate : ℕ
     rate = speedOf speeds (s .level)
 
-    abbrev rest : ℕ
-    rest = workOf s (s .task) - d * rate
+    abbrev rest : Rest
+    rest = worn rate d (restOf s (s .task))
 
-    -- the work left of a job that ran on needs d ticks less
-    pub time-after : Runs speeds τ (nominal speeds ts) s → need rate rest ≡ runningTime speeds s - d
-    time-after r =
-        need-after rate (workOf s (s .task)) d (level-positive speeds ts plan rising (s .level) (r .level))
+    -- a job that ran on needs d ticks less
+    pub runs-on : Runs speeds τ (nominal speeds ts) s → timeOf rate rest ≡ runningTime speeds s - d
+    runs-on r =
+        time-after rate d (restOf s (s .task)) (level-positive speeds ts plan rising (s .level) (r .level))
         (pass .time (runs-running s r))
 
     -- a job that did not finish is still open
-    pub worked-open : finished ≡ false → (i : ℕ) → i < length ts → 0 < workOf s i → 0 < workedOf speeds s d finished i
+    pub worked-open : finished ≡ false → (i : ℕ) → i < length ts → 0 < workOf s i → 0 < workedOf speeds s d finished i .work
     worked-open f i h k = go (ordered speeds ts s fine) (ℕ-discrete i (s .task))
       where
-        some-left : Runs speeds τ (nominal speeds ts) s → 0 < rest
+        some-left : Runs speeds τ (nominal speeds ts) s → 0 < rest .work
         some-left r =
-            let positive : 0 < rate = level-positive speeds ts plan rising (s .level) (r .level) in
-            elim (decLe 1 rest) [
-              | yes x ↦ x
-              | no x ↦
-                  absurd
-                  (omega (
-                    arith,
-                    need-mono rate rest 0 positive (omega arith),
-                    need-zero rate positive,
-                    time-after r,
-                    pass .unfinished (runs-running s r) f,
-                  ))
-            ]
+            worn-open rate d (restOf s (s .task)) (level-positive speeds ts plan rising (s .level) (r .level)) (r .work)
+            (pass .unfinished (runs-running s r) f)
 
-        go : Ordered speeds τ (nominal speeds ts) s → Dec (i ≡ s .task) → 0 < workedOf speeds s d finished i
+        go : Ordered speeds τ (nominal speeds ts) s → Dec (i ≡ s .task) → 0 < workedOf speeds s d finished i .work
         go (idles t l z) x = omega (arith, z i h)
         go (runs r) (yes x) =
-            subst (λ (j : ℕ). 0 < workedOf speeds s d finished j) (sym x) (rw (worked-mine speeds s d finished, f) (some-left r))
-        go (runs r) (no x) = omega (arith, worked-other speeds s d finished i x)
+            subst (λ (j : ℕ). 0 < workedOf speeds s d finished j .work) (sym x) (rw (worked-mine speeds s d finished, f) (some-left r))
+        go (runs r) (no x) = subst (λ (r : Rest). 0 < r .work) (sym (worked-other speeds s d finished i x)) k
 
     -- the running job
-    ahead-mine : Runs speeds τ (nominal speeds ts) s → need (nominalSpeed speeds ts) (pick finished 0 rest) ≤ drainedOf τ s d (s .task)
+    ahead-mine : Runs speeds τ (nominal speeds ts) s → timeOf (nominalSpeed speeds ts) (pick finished noRest rest) ≤ drainedOf τ s d (s .task)
     ahead-mine r =
-        elim (tested finished) as (λ b _. need (nominalSpeed speeds ts) (pick b 0 rest) ≤ drainedOf τ s d (s .task)) [
-          | passed ↦ omega (arith, need-zero (nominalSpeed speeds ts) (nominal-positive speeds ts plan rising))
+        elim (tested finished) as (λ b _. timeOf (nominalSpeed speeds ts) (pick b noRest rest) ≤ drainedOf τ s d (s .task)) [
+          | passed ↦ omega (arith, time-none (nominalSpeed speeds ts) (nominal-positive speeds ts plan rising))
           | failed ↦
               omega (
                 arith,
                 left-drain τ (s .clock) (remainingOf s) (length ts) d (s .task) (r .below),
                 allowance-is τ (s .clock) (remainingOf s) (length ts) (s .task) (r .below),
                 r .meets,
-                time-after r,
+                runs-on r,
                 fine .entries .ahead (s .task) (r .below),
-                need-mono (nominalSpeed speeds ts) rest (workOf s (s .task)) (nominal-positive speeds ts plan rising) (omega arith),
-                need-faster rate (nominalSpeed speeds ts) rest
+                time-more (nominalSpeed speeds ts) rest (restOf s (s .task)) (nominal-positive speeds ts plan rising)
+                    (worn-within rate d (restOf s (s .task))),
+                time-faster rate (nominalSpeed speeds ts) rest
                     (level-positive speeds ts plan rising (s .level) (r .level)) (level-slower speeds ts plan rising (s .level) (r .level)),
               )
         ]
 
-    pub stays-ahead : (i : ℕ) → i < length ts → need (nominalSpeed speeds ts) (workedOf speeds s d finished i) ≤ drainedOf τ s d i
+    pub stays-ahead : (i : ℕ) → i < length ts → timeOf (nominalSpeed speeds ts) (workedOf speeds s d finished i) ≤ drainedOf τ s d i
     stays-ahead i h = go (ordered speeds ts s fine) (ℕ-discrete i (s .task))
       where
-        closed : workOf s i ≡ 0 → need (nominalSpeed speeds ts) (workedOf speeds s d finished i) ≤ drainedOf τ s d i
+        closed : workOf s i ≡ 0 → timeOf (nominalSpeed speeds ts) (workedOf speeds s d finished i) ≤ drainedOf τ s d i
         closed z =
-            let w : workedOf speeds s d finished i ≡ 0 = omega (arith, worked-less speeds s d finished i) in
-            rw w (omega (arith, need-zero (nominalSpeed speeds ts) (nominal-positive speeds ts plan rising)))
+            let none : Within (workedOf speeds s d finished i) noRest =
+            subst (Within (workedOf speeds s d finished i)) (closed-none (fine .entries) i h z) (worked-within speeds s d finished i) in
+            omega (
+              arith,
+              time-more (nominalSpeed speeds ts) (workedOf speeds s d finished i) noRest (nominal-positive speeds ts plan rising) none,
+              time-none (nominalSpeed speeds ts) (nominal-positive speeds ts plan rising),
+            )
 
         -- the ticks all go to the running job's allowance, and leave the less urgent ones as they were
         other : Runs speeds τ (nominal speeds ts) s → i ≢ s .task → Dec (1 ≤ workOf s i) →
-            need (nominalSpeed speeds ts) (workedOf speeds s d finished i) ≤ drainedOf τ s d i
+            timeOf (nominalSpeed speeds ts) (workedOf speeds s d finished i) ≤ drainedOf τ s d i
         other r x (no k) = closed (omega arith)
         other r x (yes k) =
             rw (worked-other speeds s d finished i x)
@@ -167,9 +166,9 @@ module _ (speeds : List ℕ) (rising : Rising speeds) (ts : List Task) (plan : F
             ))
 
         go : Ordered speeds τ (nominal speeds ts) s → Dec (i ≡ s .task) →
-            need (nominalSpeed speeds ts) (workedOf speeds s d finished i) ≤ drainedOf τ s d i
+            timeOf (nominalSpeed speeds ts) (workedOf speeds s d finished i) ≤ drainedOf τ s d i
         go (idles t l z) x = closed (z i h)
         go (runs r) (yes x) =
-            subst (λ (j : ℕ). need (nominalSpeed speeds ts) (workedOf speeds s d finished j) ≤ drainedOf τ s d j) (sym x)
+            subst (λ (j : ℕ). timeOf (nominalSpeed speeds ts) (workedOf speeds s d finished j) ≤ drainedOf τ s d j) (sym x)
             (rw (worked-mine speeds s d finished) (ahead-mine r))
         go (runs r) (no x) = other r x (decLe 1 (workOf s i))

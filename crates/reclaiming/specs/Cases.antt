@@ -11,6 +11,7 @@ use Rattle.arith.specs.Asking.{Answer, values, refusal}
 use Rattle.plan.specs.declared.Task.{Task}
 use Rattle.plan.specs.declared.Judged.{Judged}
 use Rattle.plan.specs.declared.Verdict.the-variants as verdict
+use Rattle.plan.specs.Times.{timeOf, worn}
 use Rattle.plan.specs.Levels.{baseSpeeds, speedOf, hyperperiod, demandWithin, nominal}
 use Rattle.plan.specs.Blocks.{planBlock, planOf}
 use Rattle.plan.specs.Answers.{verdictAnswer, writtenAnswer, judgedList, readBlock}
@@ -50,7 +51,7 @@ benchJudged = record { verdict = verdict.Admitted 7 30; plan = planOf benchTasks
 
 -- the example's run, line for line; the line that begins with `unfolding`, here and below, only lets them be computed
 abbrev pub benchLines : List Line
-unfolding need lcm gcd moreUrgent
+unfolding need timeOf worn lcm gcd moreUrgent
 benchLines = runLines baseSpeeds benchBlock (replicate 200 0) benchPasses
 
 -- the example's lines after the first
@@ -93,7 +94,7 @@ case found wanted = record { found = found; wanted = wanted }
 
 -- the table
 abbrev pub starred : List Case
-unfolding need lcm gcd moreUrgent
+unfolding need timeOf worn lcm gcd moreUrgent
 starred =
     -- "Empty block: 1."
     case (readValues []) (1 ∷ [])

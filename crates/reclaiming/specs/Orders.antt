@@ -5,13 +5,13 @@ use mathlib.Core.List.{List, [], _∷_}
 use lib.Dec.{leb, eqb}
 use Rattle.arith.specs.Choice.{pick, first}
 use Rattle.arith.specs.Sum.{sumTo}
-use Rattle.arith.specs.Need.{need}
 use Rattle.arith.specs.Ranges.{leastTo}
+use Rattle.plan.specs.Times.{Rest, timeOf}
 use Rattle.plan.specs.Levels.{speedOf}
 use Rattle.schedule.specs.PlainSchedule.{Timing, Pending, deadline, moreUrgent, latest, queueOf}
 use Rattle.reclaiming.specs.declared.Reply.{Reply}
 use Rattle.reclaiming.specs.declared.Reply.the-variants as reply
-use Rattle.reclaiming.specs.StateBlock.{State, workOf, remainingOf}
+use Rattle.reclaiming.specs.StateBlock.{State, workOf, remainingOf, restOf}
 
 -- "the ticks to the next arrival of any task"
 abbrev pub nextArrival : Timing → ℕ → ℕ
@@ -29,15 +29,19 @@ abbrev pub openJobs : Timing → State → List Pending
 openJobs τ s = queueOf τ (s .clock) (workOf s) (τ .count)
 
 -- 01: "The level is the lowest at which the work left needs no more than the allowance."
-abbrev pub lowestLevel : List ℕ → ℕ → ℕ → ℕ
-lowestLevel speeds work allowed = first (λ (speed : ℕ). leb (need speed work) allowed) speeds
+abbrev pub lowestLevel : List ℕ → Rest → ℕ → ℕ
+lowestLevel speeds rest allowed = first (λ (speed : ℕ). leb (timeOf speed rest) allowed) speeds
+
+-- the running job's "time needed at the order's level"
+abbrev pub runningTime : List ℕ → State → ℕ
+runningTime speeds s = timeOf (speedOf speeds (s .level)) (restOf s (s .task))
 
 -- 01: "The hold is the smaller of that time and the ticks to the next arrival of any task. An idle order's hold is the ticks to the
 -- next arrival."
 abbrev pub holdOf : List ℕ → Timing → State → ℕ
 holdOf speeds τ s =
     pick (eqb (s .task) 255) (nextArrival τ (s .clock))
-    (min (need (speedOf speeds (s .level)) (workOf s (s .task))) (nextArrival τ (s .clock)))
+    (min (runningTime speeds s) (nextArrival τ (s .clock)))
 
 -- the same state with the order that is chosen in it
 abbrev pub withOrder : State → ℕ → ℕ → State
@@ -47,7 +51,7 @@ withOrder s task level = record { clock = s .clock; task = task; level = level; 
 abbrev pub orderFor : List ℕ → Timing → State → List Pending → State
 orderFor speeds τ s [] = withOrder s 255 0
 orderFor speeds τ s (e ∷ q) =
-    withOrder s (e .job .task) (lowestLevel speeds (workOf s (e .job .task)) (allowance τ s (e .job .task)))
+    withOrder s (e .job .task) (lowestLevel speeds (restOf s (e .job .task)) (allowance τ s (e .job .task)))
 
 abbrev pub chooseOrder : List ℕ → Timing → State → State
 chooseOrder speeds τ s = orderFor speeds τ s (openJobs τ s)

@@ -1,6 +1,6 @@
 -- 01, "Orders and passes": what a start and a pass make of a state.
 -- Assumes nothing.
-use Prim.Native.Nat.{ℕ, _+_, _-_, _*_, _%_}
+use Prim.Native.Nat.{ℕ, _+_, _-_, _%_}
 use mathlib.Core.Bool.{Bool, true}
 use mathlib.Core.List.{List}
 use lib.Dec.{eqb}
@@ -8,21 +8,17 @@ use lib.ListN.{length, getD}
 use Rattle.arith.specs.Choice.{pick}
 use Rattle.arith.specs.Ranges.{listTo, someTo}
 use Rattle.plan.specs.declared.Task.{Task}
+use Rattle.plan.specs.Times.{Rest, whole, noRest, worn}
 use Rattle.plan.specs.Levels.{speedOf}
 use Rattle.plan.specs.Blocks.{noTask}
 use Rattle.schedule.specs.PlainSchedule.{Timing, drain, queueOf, leftIn}
 use Rattle.reclaiming.specs.declared.Entry.{Entry}
-use Rattle.reclaiming.specs.StateBlock.{State, noEntry, workOf, remainingOf, planIn, timing}
+use Rattle.reclaiming.specs.StateBlock.{State, noEntry, remainingOf, restOf, taskOf, planIn, entryWith, timing}
 use Rattle.reclaiming.specs.Orders.{holdOf, chooseOrder}
 
 -- 01: "a new job with full worst case and allotment"
 abbrev pub newEntry : Timing → List Task → ℕ → Entry
-newEntry τ ts i = record {
-  period = getD ts i noTask .period;
-  worst = getD ts i noTask .worst;
-  work = getD ts i noTask .worst;
-  remaining = τ .allotment i;
-}
+newEntry τ ts i = entryWith (getD ts i noTask) (whole (getD ts i noTask)) (τ .allotment i)
 
 -- at the start every task has a new job, and an order is chosen
 abbrev pub startState : List ℕ → List Task → State
@@ -34,31 +30,33 @@ startState speeds ts =
 abbrev pub drainedOf : Timing → State → ℕ → ℕ → ℕ
 drainedOf τ s d i = leftIn i (drain d (queueOf τ (s .clock) (remainingOf s) (τ .count)))
 
--- "the running job closes, or its work left falls by d times the level's speed"
-abbrev pub workedOf : List ℕ → State → ℕ → Bool → ℕ → ℕ
-workedOf speeds s d finished i =
-    pick (eqb i (s .task)) (pick finished 0 (workOf s i - d * speedOf speeds (s .level))) (workOf s i)
+-- "the running job closes, or its work left falls by d times the level's speed": what is left of each task's job, where one ran at a speed
+abbrev pub workedBy : ℕ → ℕ → ℕ → Bool → (ℕ → Rest) → ℕ → Rest
+workedBy task speed d finished left i = pick (eqb i task) (pick finished noRest (worn speed d (left i))) (left i)
+
+abbrev pub workedOf : List ℕ → State → ℕ → Bool → ℕ → Rest
+workedOf speeds s d finished = workedBy (s .task) (speedOf speeds (s .level)) d finished (restOf s)
 
 -- what the ticks leave of task i's entry, where no job of it arrives
 abbrev pub agedEntry : List ℕ → Timing → State → ℕ → Bool → ℕ → Entry
-agedEntry speeds τ s d finished i = record {
-  period = τ .period i;
-  worst = getD (s .entries) i noEntry .worst;
-  work = workedOf speeds s d finished i;
-  remaining = drainedOf τ s d i;
-}
+agedEntry speeds τ s d finished i =
+    entryWith (taskOf (getD (s .entries) i noEntry)) (workedOf speeds s d finished i) (drainedOf τ s d i)
 
--- "the clock moves; tasks whose period divides the clock get a new job with full worst case and allotment, replacing what stood there"
+-- "the clock moves"
+abbrev pub clockAfter : State → ℕ → ℕ
+clockAfter s d = s .clock + d
+
+-- "tasks whose period divides the clock get a new job with full worst case and allotment, replacing what stood there"
 abbrev pub arrivesAt : Timing → ℕ → ℕ → Bool
 arrivesAt τ clock i = eqb (clock % τ .period i) 0
 
 abbrev pub entryAfter : List ℕ → Timing → State → ℕ → Bool → ℕ → Entry
 entryAfter speeds τ s d finished i =
-    pick (arrivesAt τ (s .clock + d) i) (newEntry τ (planIn s) i) (agedEntry speeds τ s d finished i)
+    pick (arrivesAt τ (clockAfter s d) i) (newEntry τ (planIn s) i) (agedEntry speeds τ s d finished i)
 
 abbrev pub movedState : List ℕ → Timing → State → ℕ → Bool → State
 movedState speeds τ s d finished = record {
-  clock = s .clock + d;
+  clock = clockAfter s d;
   task = s .task;
   level = s .level;
   entries = listTo (τ .count) (entryAfter speeds τ s d finished);
@@ -66,7 +64,7 @@ movedState speeds τ s d finished = record {
 
 -- 01: "If a job finished or one arrived, a new order is chosen; otherwise task and level stay and the hold falls by d."
 abbrev pub choosesAnew : Timing → State → ℕ → Bool → Bool
-choosesAnew τ s d finished = pick finished true (someTo (τ .count) (arrivesAt τ (s .clock + d)))
+choosesAnew τ s d finished = pick finished true (someTo (τ .count) (arrivesAt τ (clockAfter s d)))
 
 abbrev pub passedState : List ℕ → Timing → State → ℕ → Bool → State
 passedState speeds τ s d finished =

@@ -81,7 +81,7 @@ module _ (speeds block : List ℕ) (first : ℕ) (passes : List Pass) (replies :
 
   -- the two books after the first n passes
   abbrev pub actualTo : ℕ → DispatcherBook
-  actualTo n = bookedAll (timing speeds (tasksIn block)) (openedBook (replyFrom first)) (answersTo n)
+  actualTo n = bookedAll speeds (tasksIn block) (openedBook (tasksIn block) (replyFrom first)) (answersTo n)
 
   abbrev pub plainTo : ℕ → Book
   plainTo n = ranAll (timing speeds (tasksIn block)) (opened (timing speeds (tasksIn block))) (answersTo n)

@@ -1,22 +1,24 @@
 -- What is promised of the dispatcher as a whole, each as a type that a proof has.
 -- Assumes nothing.
-use Prim.Native.Nat.{ℕ, _+_, _≤_}
+use Prim.Native.Nat.{ℕ, _+_, _<_, _≤_}
 use mathlib.Core.Path.{_≡_}
-use mathlib.Core.Bool.{true}
+use mathlib.Core.Bool.{Bool, true, false}
 use mathlib.Core.List.{List, [], _∷_}
 use mathlib.Core.Logic.{_⊎_}
 use lib.Dec.{eqb}
 use lib.ListN.{length}
 use Rattle.arith.specs.Choice.{both}
 use Rattle.plan.specs.declared.Written.{Written}
+use Rattle.plan.specs.Times.{timeOf}
+use Rattle.plan.specs.Levels.{speedOf}
 use Rattle.plan.specs.Blocks.{tasksIn}
 use Rattle.plan.specs.Answers.{roomNumber, writtenBy, storedBy}
 use Rattle.schedule.specs.PlainSchedule.{Timing, Job, Pending, Book, deadline, moreUrgent, latest, opened}
 use Rattle.schedule.specs.Feasibility.{In}
 use Rattle.reclaiming.specs.declared.Reply.{Reply}
 use Rattle.reclaiming.specs.declared.Reply.the-variants as reply
-use Rattle.reclaiming.specs.StateBlock.{decode, timing}
-use Rattle.reclaiming.specs.Questions.{sound, largestClock, running, runningTime}
+use Rattle.reclaiming.specs.StateBlock.{restOf, decode, timing}
+use Rattle.reclaiming.specs.Questions.{sound, largestClock}
 use Rattle.reclaiming.specs.Calls.{isOrder, startReply, passReply, queueBytes, showReply, showBuffer}
 use Rattle.reclaiming.specs.Run.{Pass, Answered, DispatcherBook, Arrived, trace, bytesAfter, startedBytes, openedBook, bookedAll, ranAll}
 
@@ -69,7 +71,7 @@ module _ (speeds block buffer : List ℕ) (passes : List Pass) where
   stateAfter = bytesAfter speeds (startedBytes speeds block buffer) passes
 
   abbrev pub actualBook : DispatcherBook
-  actualBook = bookedAll (timing speeds (tasksIn block)) (openedBook (startReply speeds block (length buffer))) replies
+  actualBook = bookedAll speeds (tasksIn block) (openedBook (tasksIn block) (startReply speeds block (length buffer))) replies
 
   abbrev pub plainBook : Book
   plainBook = ranAll (timing speeds (tasksIn block)) (opened (timing speeds (tasksIn block))) replies
@@ -98,6 +100,25 @@ StaysSound speeds =
     Started speeds block buffer →
     sound speeds (stateAfter speeds block buffer passes) ≡ true
 
+-- What is left of each task's latest job by the dispatcher's book, which takes nothing from the state, is what the state holds.
+abbrev pub SameLeft : List ℕ → Type 0
+SameLeft speeds =
+    (block buffer : List ℕ) (passes : List Pass) →
+    Started speeds block buffer →
+    (i : ℕ) →
+    i < length (tasksIn block) →
+    actualBook speeds block buffer passes .left i ≡ restOf (decode (stateAfter speeds block buffer passes)) i
+
+-- the running job's time left at the order's level, by the book
+abbrev pub timeLeft : List ℕ → DispatcherBook → ℕ
+timeLeft speeds b = timeOf (speedOf speeds (b .level)) (b .left (b .task))
+
+-- an order to run
+abbrev pub isRun : Reply → Bool
+isRun (reply.Run task level hold) = true
+isRun (reply.Idle hold) = false
+isRun (reply.Refused n) = false
+
 -- a reply's hold
 abbrev pub holdIn : Reply → ℕ
 holdIn (reply.Run task level hold) = hold
@@ -124,19 +145,16 @@ RunsMostUrgent speeds =
 
 -- No dead end: after any run, the pass that the order itself suggests (its hold; finished exactly if that is the whole time needed) is
 -- accepted, and so is every earlier finish, as long as the clock stays within the largest.
-pub record Open (speeds bytes : List ℕ) (order : Reply) (clock : ℕ) : Type 0 where
+pub record Open (speeds bytes : List ℕ) (order : Reply) (book : DispatcherBook) : Type 0 where
   pub suggested :
-      clock + holdIn order ≤ largestClock →
-      isOrder
-      (passReply speeds bytes (holdIn order)
-      (both (running (decode bytes)) (eqb (holdIn order) (runningTime speeds (decode bytes)))))
-      ≡ true
+      book .clock + holdIn order ≤ largestClock →
+      isOrder (passReply speeds bytes (holdIn order) (both (isRun order) (eqb (holdIn order) (timeLeft speeds book)))) ≡ true
   pub early :
       (d : ℕ) →
       1 ≤ d →
       d ≤ holdIn order →
-      clock + d ≤ largestClock →
-      running (decode bytes) ≡ true →
+      book .clock + d ≤ largestClock →
+      isRun order ≡ true →
       isOrder (passReply speeds bytes d true) ≡ true
 
 abbrev pub NoDeadEnd : List ℕ → Type 0
@@ -145,4 +163,4 @@ NoDeadEnd speeds =
     Started speeds block buffer →
     Open speeds (stateAfter speeds block buffer passes)
     (lastOrder (startReply speeds block (length buffer)) (replies speeds block buffer passes))
-    (actualBook speeds block buffer passes .clock)
+    (actualBook speeds block buffer passes)

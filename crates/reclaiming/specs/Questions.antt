@@ -1,19 +1,20 @@
 -- 01, "Questions put to every call": those put to a state and to a pass, in their order, with their numbers.
 -- Assumes nothing.
-use Prim.Native.Nat.{ℕ, _+_}
+use Prim.Native.Nat.{ℕ}
 use mathlib.Core.Bool.{Bool, true, not}
 use mathlib.Core.List.{List, [], _∷_, _++_}
 use lib.Dec.{leb, ltb, eqb}
 use lib.ListN.{length}
 use Rattle.arith.specs.Choice.{pick, both, every}
-use Rattle.arith.specs.Need.{need}
 use Rattle.arith.specs.Asking.{Question, ask, firstNo}
+use Rattle.plan.specs.Times.{timeOf, taskTime}
 use Rattle.plan.specs.Levels.{speedOf, nominal}
 use Rattle.plan.specs.Questions.{judging, reading, roomQuestion}
 use Rattle.schedule.specs.PlainSchedule.{Timing, Pending}
 use Rattle.reclaiming.specs.declared.Entry.{Entry}
-use Rattle.reclaiming.specs.StateBlock.{State, workOf, planIn, timing, decode, laidOut}
-use Rattle.reclaiming.specs.Orders.{nextArrival, allowance, openJobs}
+use Rattle.reclaiming.specs.StateBlock.{State, restIn, taskOf, planIn, timing, decode, laidOut}
+use Rattle.reclaiming.specs.Orders.{nextArrival, allowance, openJobs, runningTime}
+use Rattle.reclaiming.specs.Passes.{clockAfter}
 
 -- 01: "The largest clock is 4,000,000,000 ticks."
 abbrev pub largestClock : ℕ
@@ -28,44 +29,46 @@ stateLength = 200
 abbrev pub entrySound : ℕ → Entry → Bool
 entrySound speed e =
     both (leb (e .work) (e .worst))
-    (both (leb (e .remaining) (need speed (e .worst))) (leb (need speed (e .work)) (e .remaining)))
+    (both (leb (e .remaining) (taskTime speed (taskOf e))) (leb (timeOf speed (restIn e)) (e .remaining)))
 
 -- 01: "an idle order exactly if no job is open, else the most urgent open job at a level no higher than nominal that meets its allowance"
 abbrev pub orderSound : List ℕ → Timing → ℕ → State → List Pending → Bool
 orderSound speeds τ highest s [] = both (eqb (s .task) 255) (eqb (s .level) 0)
 orderSound speeds τ highest s (e ∷ q) =
     both (eqb (s .task) (e .job .task))
-    (both (leb (s .level) highest)
-    (leb (need (speedOf speeds (s .level)) (workOf s (s .task))) (allowance τ s (s .task))))
+    (both (leb (s .level) highest) (leb (runningTime speeds s) (allowance τ s (s .task))))
 
--- 01: "Sound means [..] a plan that passes 3, 6, 7, 8; a clock in range;" the entries and the order as above
+-- 01: "Sound means [..] a plan that passes 3, 6, 7, 8;" the entries and the order as above, whatever the clock
 abbrev pub stateSound : List ℕ → State → Bool
 stateSound speeds s =
     both (eqb (firstNo (judging speeds (length (s .entries)) (planIn s))) 0)
-    (both (leb (s .clock) largestClock)
     (both (every (entrySound (speedOf speeds (nominal speeds (planIn s)))) (s .entries))
-    (orderSound speeds (timing speeds (planIn s)) (nominal speeds (planIn s)) s (openJobs (timing speeds (planIn s)) s))))
+    (orderSound speeds (timing speeds (planIn s)) (nominal speeds (planIn s)) s (openJobs (timing speeds (planIn s)) s)))
 
+-- 01: "a clock in range"
+abbrev pub inTime : ℕ → Bool
+inTime clock = leb clock largestClock
+
+-- 01: "Sound means exactly 200 bytes, laid out as above; [..] a clock in range;" and what is asked of the state
 abbrev pub sound : List ℕ → List ℕ → Bool
-sound speeds bytes = both (laidOut bytes) (stateSound speeds (decode bytes))
+sound speeds bytes = both (laidOut bytes) (both (inTime (decode bytes .clock)) (stateSound speeds (decode bytes)))
 
 -- a job is running unless the order is to stay idle
 abbrev pub running : State → Bool
 running s = not (eqb (s .task) 255)
 
--- the running job's "time needed at the order's level"
-abbrev pub runningTime : List ℕ → State → ℕ
-runningTime speeds s = need (speedOf speeds (s .level)) (workOf s (s .task))
-
--- 01: "Passing goes on"
-abbrev pub passQuestions : List ℕ → State → ℕ → Bool → List Question
-passQuestions speeds s d finished =
+-- 01: "Passing goes on": 11 to 14, which ask nothing of the clock
+abbrev pub stepQuestions : List ℕ → State → ℕ → Bool → List Question
+stepQuestions speeds s d finished =
     ask 11 (leb 1 d)
     ∷ ask 12 (leb d (nextArrival (timing speeds (planIn s)) (s .clock)))
     ∷ ask 13 (pick finished (running s) true)
     ∷ ask 14 (pick (running s) (pick finished (leb d (runningTime speeds s)) (ltb d (runningTime speeds s))) true)
-    ∷ ask 15 (leb (s .clock + d) largestClock)
     ∷ []
+
+-- "Is clock plus d within the largest clock? 15": the call's own question
+abbrev pub passQuestions : List ℕ → State → ℕ → Bool → List Question
+passQuestions speeds s d finished = stepQuestions speeds s d finished ++ (ask 15 (inTime (clockAfter s d)) ∷ [])
 
 -- 01: "Passing, and showing the queue, ask first whether the state is sound: 10."
 abbrev pub passing : List ℕ → List ℕ → ℕ → Bool → List Question

@@ -5,14 +5,18 @@ use Prim.Native.Nat.{ℕ, _+_, _%_, _≤_, _<_}
 use mathlib.Core.Path.{_≡_}
 use mathlib.Core.Bool.{Bool}
 use mathlib.Core.List.{List, [], _∷_}
-use lib.ListN.{length, take}
+use lib.ListN.{length, getD, take}
 use Rattle.arith.specs.Choice.{pick}
-use Rattle.plan.specs.Blocks.{tasksIn}
+use Rattle.plan.specs.declared.Task.{Task}
+use Rattle.plan.specs.Times.{Rest, whole}
+use Rattle.plan.specs.Levels.{speedOf}
+use Rattle.plan.specs.Blocks.{noTask, tasksIn}
 use Rattle.schedule.specs.PlainSchedule.{Timing, Job, Book, latest, after}
 use Rattle.reclaiming.specs.declared.Reply.{Reply}
 use Rattle.reclaiming.specs.declared.Reply.the-variants as reply
 use Rattle.reclaiming.specs.StateBlock.{timing}
-use Rattle.reclaiming.specs.Calls.{startReply, startBuffer, passReply, passBytes}
+use Rattle.reclaiming.specs.Passes.{workedBy, arrivesAt}
+use Rattle.reclaiming.specs.Calls.{isOrder, startReply, startBuffer, passReply, passBytes}
 
 -- 01: "A pass says that d ticks went by (32 bits) and whether the running job finished at their end."
 pub record Pass : Type 0 where
@@ -40,40 +44,55 @@ bytesAfter speeds bytes (p ∷ ps) = bytesAfter speeds (passBytes speeds bytes (
 abbrev pub startedBytes : List ℕ → List ℕ → List ℕ → List ℕ
 startedBytes speeds block buffer = take 200 (startBuffer speeds block buffer)
 
--- the dispatcher's book: its clock, the jobs that it has closed, and the running task, which "is the one named by the order last
--- returned" (255 for none)
+-- the dispatcher's book: its clock, the jobs that it has closed, the running task and its level, which are those of "the order last
+-- returned" (255 and 0 for none), and what is left of each task's latest job
 pub record DispatcherBook : Type 0 where
   pub clock : ℕ
   pub closed : List Job
   pub task : ℕ
+  pub level : ℕ
+  pub left : ℕ → Rest
 
--- the task that an order names; a refusal leaves the last one
-abbrev pub namedBy : Reply → ℕ → ℕ
-namedBy (reply.Run task level hold) last = task
-namedBy (reply.Idle hold) last = 255
-namedBy (reply.Refused n) last = last
+-- the book at the start, before an order: nothing is closed, and every task has a whole job
+abbrev pub unopenedBook : List Task → DispatcherBook
+unopenedBook ts = record { clock = 0; closed = []; task = 255; level = 0; left = λ i. whole (getD ts i noTask) }
 
--- the book at the start: nothing is closed, and the running task is that of the start's order
-abbrev pub openedBook : Reply → DispatcherBook
-openedBook first = record { clock = 0; closed = []; task = namedBy first 255 }
+-- the book with the order that a reply gives; a refusal leaves the last one
+abbrev pub ordered : DispatcherBook → Reply → DispatcherBook
+ordered b (reply.Run task level hold) = record { clock = b .clock; closed = b .closed; task = task; level = level; left = b .left }
+ordered b (reply.Idle hold) = record { clock = b .clock; closed = b .closed; task = 255; level = 0; left = b .left }
+ordered b (reply.Refused n) = b
+
+abbrev pub openedBook : List Task → Reply → DispatcherBook
+openedBook ts first = ordered (unopenedBook ts) first
 
 -- 01: "An accepted pass that says finished closes that task's latest job"; "Nothing else closes a job"
 abbrev pub closedAfter : Timing → DispatcherBook → Pass → List Job
 closedAfter τ b p = pick (p .finished) (latest τ (b .clock) (b .task) ∷ b .closed) (b .closed)
 
--- "then the clock rises by d", and the running task is the one that the reply names
-abbrev pub moved : Timing → DispatcherBook → Pass → ℕ → DispatcherBook
-moved τ b p task = record { clock = b .clock + p .d; closed = closedAfter τ b p; task = task }
+-- what is left of task i's latest job: a whole one where one arrives; of the running one what d ticks at its level leave
+abbrev pub leftAfter : List ℕ → List Task → DispatcherBook → Pass → ℕ → Rest
+leftAfter speeds ts b p i =
+    pick (arrivesAt (timing speeds ts) (b .clock + p .d) i) (whole (getD ts i noTask))
+    (workedBy (b .task) (speedOf speeds (b .level)) (p .d) (p .finished) (b .left) i)
+
+-- "then the clock rises by d"
+abbrev pub moved : List ℕ → List Task → DispatcherBook → Pass → DispatcherBook
+moved speeds ts b p = record {
+  clock = b .clock + p .d;
+  closed = closedAfter (timing speeds ts) b p;
+  task = b .task;
+  level = b .level;
+  left = leftAfter speeds ts b p;
+}
 
 -- 01: "An accepted pass is one answered with an order. A refused pass changes neither book."
-abbrev pub booked : Timing → DispatcherBook → Pass → Reply → DispatcherBook
-booked τ b p (reply.Run task level hold) = moved τ b p task
-booked τ b p (reply.Idle hold) = moved τ b p 255
-booked τ b p (reply.Refused n) = b
+abbrev pub booked : List ℕ → List Task → DispatcherBook → Pass → Reply → DispatcherBook
+booked speeds ts b p r = pick (isOrder r) (ordered (moved speeds ts b p) r) b
 
-abbrev pub bookedAll : Timing → DispatcherBook → List Answered → DispatcherBook
-bookedAll τ b [] = b
-bookedAll τ b (a ∷ rest) = bookedAll τ (booked τ b (a .pass) (a .reply)) rest
+abbrev pub bookedAll : List ℕ → List Task → DispatcherBook → List Answered → DispatcherBook
+bookedAll speeds ts b [] = b
+bookedAll speeds ts b (a ∷ rest) = bookedAll speeds ts (booked speeds ts b (a .pass) (a .reply)) rest
 
 -- 01: "The plain schedule's book is fed the plan and the d of each accepted pass, and runs d ticks for it."
 abbrev pub ran : Timing → Book → Pass → Reply → Book
@@ -101,15 +120,15 @@ abbrev pub line : ℕ → Reply → Line
 line clock r = record { clock = clock; reply = r }
 
 -- the lines of the passes of a run, each with the clock of the dispatcher's book after it
-abbrev pub linesFrom : Timing → DispatcherBook → List Answered → List Line
-linesFrom τ b [] = []
-linesFrom τ b (a ∷ rest) =
-    let next : DispatcherBook = booked τ b (a .pass) (a .reply) in
-    line (next .clock) (a .reply) ∷ linesFrom τ next rest
+abbrev pub linesFrom : List ℕ → List Task → DispatcherBook → List Answered → List Line
+linesFrom speeds ts b [] = []
+linesFrom speeds ts b (a ∷ rest) =
+    let next : DispatcherBook = booked speeds ts b (a .pass) (a .reply) in
+    line (next .clock) (a .reply) ∷ linesFrom speeds ts next rest
 
 -- the lines of a run: one for the start, at clock 0, and one for each pass
 abbrev pub runLines : List ℕ → List ℕ → List ℕ → List Pass → List Line
 runLines speeds block buffer passes =
     let first : Reply = startReply speeds block (length buffer) in
     line 0 first
-    ∷ linesFrom (timing speeds (tasksIn block)) (openedBook first) (trace speeds (startedBytes speeds block buffer) passes)
+    ∷ linesFrom speeds (tasksIn block) (openedBook (tasksIn block) first) (trace speeds (startedBytes speeds block buffer) passes)

@@ -6,9 +6,9 @@ use mathlib.Core.List.{List, [], _∷_, _++_, map}
 use lib.Dec.{eqb}
 use lib.ListN.{length, getD, drop, replicate}
 use Rattle.arith.specs.Choice.{both}
-use Rattle.arith.specs.Need.{need}
 use Rattle.arith.specs.Digits.{number, digits}
 use Rattle.plan.specs.declared.Task.{Task}
+use Rattle.plan.specs.Times.{Rest, taskTime}
 use Rattle.plan.specs.Levels.{speedOf, nominal}
 use Rattle.plan.specs.Blocks.{noTask}
 use Rattle.schedule.specs.PlainSchedule.{Timing}
@@ -31,6 +31,13 @@ workOf s i = getD (s .entries) i noEntry .work
 abbrev pub remainingOf : State → ℕ → ℕ
 remainingOf s i = getD (s .entries) i noEntry .remaining
 
+-- what is left of task i's job, by which its time is told
+abbrev pub restIn : Entry → Rest
+restIn e = record { work = e .work }
+
+abbrev pub restOf : State → ℕ → Rest
+restOf s i = restIn (getD (s .entries) i noEntry)
+
 -- the plan in a state
 abbrev pub taskOf : Entry → Task
 taskOf e = record { period = e .period; worst = e .worst }
@@ -38,12 +45,16 @@ taskOf e = record { period = e .period; worst = e .worst }
 abbrev pub planIn : State → List Task
 planIn s = map taskOf (s .entries)
 
+-- an entry: its task, what is left of its job, and the plain ticks left
+abbrev pub entryWith : Task → Rest → ℕ → Entry
+entryWith t r remaining = record { period = t .period; worst = t .worst; work = r .work; remaining = remaining }
+
 -- what the plain schedule sees of a plan: periods, and the worst cases' times at a speed as allotments
 abbrev pub timingAt : ℕ → List Task → Timing
 timingAt speed ts = record {
   count = length ts;
   period = λ i. getD ts i noTask .period;
-  allotment = λ i. need speed (getD ts i noTask .worst);
+  allotment = λ i. taskTime speed (getD ts i noTask);
 }
 
 -- 01: "A task's allotment is its worst case's time at the nominal level."

@@ -5,6 +5,7 @@ use mathlib.Core.Path.{_≡_, refl}
 use mathlib.Core.List.{List, [], _∷_, _++_}
 use Rattle.arith.specs.Need.{need}
 use Rattle.arith.specs.Divisor.{gcd, lcm}
+use Rattle.plan.specs.Times.{timeOf, worn}
 use Rattle.plan.specs.Levels.{baseSpeeds}
 use Rattle.schedule.specs.PlainSchedule.{moreUrgent}
 use Rattle.reclaiming.specs.Cases.{benchBlock}
@@ -38,5 +39,5 @@ benchOutput =
     ∷ []
 
 pub bench-example : listing baseSpeeds benchInput ≡ benchOutput
-unfolding need lcm gcd moreUrgent
+unfolding need timeOf worn lcm gcd moreUrgent
 bench-example = refl
