@@ -37,7 +37,7 @@ use Rattle.schedule.proofs.QueueLaws.{queueOf-cong, in-queueOf}
 use Rattle.schedule.proofs.Span.{canonical-start}
 use Rattle.reclaiming.specs.declared.Reply.{Reply}
 use Rattle.reclaiming.specs.declared.Entry.{Entry}
-use Rattle.reclaiming.specs.StateBlock.{State, encode, decode, planIn, timing, workOf, remainingOf, restIn, restOf, noEntry}
+use Rattle.reclaiming.specs.StateBlock.{State, encode, decode, planIn, timing, workOf, remainingOf, restIn, restOf, noEntry, stateLength}
 use Rattle.reclaiming.specs.Orders.{runningTime, holdOf, orderWith}
 use Rattle.reclaiming.specs.Passes.{startState, newEntry, passedState, passedHold}
 use Rattle.reclaiming.specs.Questions.{largestClock, running}
@@ -75,16 +75,16 @@ module _ (speeds : List ℕ) (rising : Rising speeds) (few : length speeds ≤ 2
     number = not-refused (startNumber speeds block (length buffer)) (startOrder speeds s) ok
 
     abbrev then-room : List Question
-    then-room = roomQuestion 200 (length buffer) ∷ []
+    then-room = roomQuestion stateLength (length buffer) ∷ []
 
     -- the block reads as an accepted plan
     pub good : FineList speeds (length ts) ts
     good = block-list speeds block (fine-block speeds block (yes-of (reading speeds block) then-room number))
 
     -- the buffer had room
-    pub room : 200 ≤ length buffer
+    pub room : stateLength ≤ length buffer
     room =
-        leb-true 200 (length buffer) (all-yes then-room refl (yes-after (reading speeds block) then-room refl number) .0)
+        leb-true stateLength (length buffer) (all-yes then-room refl (yes-after (reading speeds block) then-room refl number) .0)
 
     fine : Fine speeds ts s
     fine = start-fine speeds ts good rising
@@ -99,19 +99,19 @@ module _ (speeds : List ℕ) (rising : Rising speeds) (few : length speeds ≤ 2
     in-time : s .clock ≤ largestClock
     in-time = omega (arith, clock)
 
-    size : length (encode s) ≡ 200
+    size : length (encode s) ≡ stateLength
     size = length-encode s (fine-storable speeds ts s good rising few fine in-time .count)
 
     begun : startedBytes speeds block buffer ≡ encode s
     begun =
-        ap (λ (n : ℕ). take 200 (storedBy n (encode s) buffer)) number
-        ∙ take-at (encode s) (drop (length (encode s)) buffer) 200 size
+        ap (λ (n : ℕ). take stateLength (storedBy n (encode s) buffer)) number
+        ∙ take-at (encode s) (drop (length (encode s)) buffer) stateLength size
 
     -- what lies past the state is untouched
-    pub untouched : drop 200 (startBuffer speeds block buffer) ≡ drop 200 buffer
+    pub untouched : drop stateLength (startBuffer speeds block buffer) ≡ drop stateLength buffer
     untouched =
-        ap (λ (n : ℕ). drop 200 (storedBy n (encode s) buffer)) number
-        ∙ drop-at (encode s) (drop (length (encode s)) buffer) 200 size
+        ap (λ (n : ℕ). drop stateLength (storedBy n (encode s) buffer)) number
+        ∙ drop-at (encode s) (drop (length (encode s)) buffer) stateLength size
         ∙ ap (λ (n : ℕ). drop n buffer) size
 
     entry : (i : ℕ) → i < length ts → getD (s .entries) i noEntry ≡ newEntry τ ts i
@@ -397,7 +397,7 @@ module _ (speeds : List ℕ) (rising : Rising speeds) (few : length speeds ≤ 2
   after-run block buffer passes ok = kept-run (tasksIn block) (good block buffer ok) passes (kept-start block buffer ok)
 
   -- the state is 200 bytes all along
-  pub after-length : (block buffer : List ℕ) (passes : List Pass) → Started speeds block buffer → length (stateAfter speeds block buffer passes) ≡ 200
+  pub after-length : (block buffer : List ℕ) (passes : List Pass) → Started speeds block buffer → length (stateAfter speeds block buffer passes) ≡ stateLength
   after-length block buffer passes ok =
       let k = after-run block buffer passes ok in
       stored-length speeds rising few (tasksIn block) (good block buffer ok) (k .stored) (k .in-time) (k .tied .fine)

@@ -1,6 +1,7 @@
 pub mod Fine
 pub mod Replies
 pub mod Plans
+pub mod FieldLaws
 pub mod StateCodec
 pub mod OrderFacts
 pub mod Soundness

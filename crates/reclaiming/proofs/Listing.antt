@@ -8,6 +8,7 @@ use Rattle.plan.specs.Times.{timeOf, worn}
 use Rattle.plan.specs.Levels.{baseSpeeds}
 use Rattle.plan.specs.Answers.{readBlock}
 use Rattle.schedule.specs.PlainSchedule.{moreUrgent}
+use Rattle.reclaiming.specs.StateBlock.{stateLength}
 use Rattle.reclaiming.specs.Calls.{isOrder, startReply}
 use Rattle.reclaiming.specs.Cases.{benchBlock, benchJudged, benchLines, listedLines}
 
@@ -20,6 +21,6 @@ unfolding need timeOf worn lcm gcd moreUrgent
 bench-listing = refl
 
 -- the hypothesis of demand 3 holds of it
-pub bench-started : isOrder (startReply baseSpeeds benchBlock 200) ≡ true
+pub bench-started : isOrder (startReply baseSpeeds benchBlock stateLength) ≡ true
 unfolding need timeOf worn lcm gcd moreUrgent
 bench-started = refl

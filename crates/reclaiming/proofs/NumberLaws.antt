@@ -18,7 +18,7 @@ use Rattle.arith.proofs.QuestionLaws.{yes-of, Yes, all-yes, yes-all, firstNo-mo
 use Rattle.schedule.specs.PlainSchedule.{Timing, Pending}
 use Rattle.schedule.proofs.QueueLaws.{queueOf-length}
 use Rattle.reclaiming.specs.declared.Reply.{Reply}
-use Rattle.reclaiming.specs.StateBlock.{State, planIn, timing, decode, remainingOf}
+use Rattle.reclaiming.specs.StateBlock.{State, planIn, timing, decode, remainingOf, stateLength}
 use Rattle.reclaiming.specs.Orders.{nextArrival, holdOf, orderWith}
 use Rattle.reclaiming.specs.Passes.{startState, passedState}
 use Rattle.reclaiming.specs.Questions.{passQuestions, passing, showing, starting}
@@ -72,7 +72,7 @@ module _ (speeds : List ℕ) (rising : Rising speeds) (few : length speeds ≤ 2
           let ts : List Task = tasksIn block in
           let s : State = startState speeds ts in
           let plan : FineList speeds (length ts) ts =
-          block-list speeds block (fine-block speeds block (yes-of (reading speeds block) (roomQuestion 200 room ∷ []) z)) in
+          block-list speeds block (fine-block speeds block (yes-of (reading speeds block) (roomQuestion stateLength room ∷ []) z)) in
           let fine : Fine speeds ts s = start-fine speeds ts plan rising in
           subst (λ (us : List Task). replyNumber (orderWith s (holdOf speeds (timing speeds us) s)) < 2 ^ 64) (sym (fine .entries .plan))
           (fine-most ts s plan fine)

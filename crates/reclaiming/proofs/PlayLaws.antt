@@ -18,7 +18,7 @@ use Rattle.plan.proofs.Facts.{FineList}
 use Rattle.schedule.specs.PlainSchedule.{Timing, opened}
 use Rattle.reclaiming.specs.declared.Reply.{Reply}
 use Rattle.reclaiming.specs.declared.Reply.the-variants as reply
-use Rattle.reclaiming.specs.StateBlock.{State, encode, decode, planIn, timing}
+use Rattle.reclaiming.specs.StateBlock.{State, encode, decode, planIn, timing, stateLength}
 use Rattle.reclaiming.specs.Orders.{orderWith, holdOf}
 use Rattle.reclaiming.specs.Passes.{startState, passedState, passedHold}
 use Rattle.reclaiming.specs.Questions.{passing, starting, passQuestions}
@@ -145,7 +145,7 @@ module _ (speeds : List ℕ) (rising : Rising speeds) (few : length speeds ≤ 2
   -- what playing leaves where the start is accepted
   module _ (block state : List ℕ) (passes : List Pass) where
     abbrev bytes-left : List ℕ
-    bytes-left = bytesAfter speeds (startedBytes speeds block state) passes ++ drop 200 state
+    bytes-left = bytesAfter speeds (startedBytes speeds block state) passes ++ drop stateLength state
 
     abbrev replies-left : List ℕ → List ℕ
     replies-left found = replyNumbers (trace speeds (startedBytes speeds block state) passes) ++ drop (length passes) found
@@ -245,20 +245,20 @@ module _ (speeds : List ℕ) (rising : Rising speeds) (few : length speeds ≤ 2
     )
 
     module _ (ok : Started speeds block state) (l : List ℕ) (started : l ≡ startBuffer speeds block state) where
-      left-state : (m : List ℕ) → m ≡ bytesAfter speeds (take 200 l) passes → m ++ drop 200 l ≡ playedState speeds block state passes
+      left-state : (m : List ℕ) → m ≡ bytesAfter speeds (take stateLength l) passes → m ++ drop stateLength l ≡ playedState speeds block state passes
       left-state m e =
           ap₂ (λ (x y : List ℕ). x ++ y)
-          (e ∙ ap (λ (x : List ℕ). bytesAfter speeds (take 200 x) passes) started)
-          (ap (drop 200) started ∙ untouched speeds rising few block state ok)
+          (e ∙ ap (λ (x : List ℕ). bytesAfter speeds (take stateLength x) passes) started)
+          (ap (drop stateLength) started ∙ untouched speeds rising few block state ok)
           ∙ sym (ap stateBy (started-number block state ok))
 
       left-replies :
           (m : List ℕ) →
-          m ≡ replyNumbers (trace speeds (take 200 l) passes) ++ drop (length passes) found →
+          m ≡ replyNumbers (trace speeds (take stateLength l) passes) ++ drop (length passes) found →
           m ≡ playedReplies speeds block state passes found
       left-replies m e =
           e
-          ∙ ap (λ (x : List ℕ). replyNumbers (trace speeds (take 200 x) passes) ++ drop (length passes) found) started
+          ∙ ap (λ (x : List ℕ). replyNumbers (trace speeds (take stateLength x) passes) ++ drop (length passes) found) started
           ∙ sym (ap repliesBy (started-number block state ok))
 
   module _ {block state : List ℕ} {x : Reply} {b : Bool} {l : List ℕ} (begun : Begun speeds block state x b l) where
@@ -272,7 +272,7 @@ module _ (speeds : List ℕ) (rising : Rising speeds) (few : length speeds ≤ 2
     no-refusal t = sym order-tested ∙ t
 
     -- an accepted start has its 200 bytes
-    pub play-room : b ≡ true → 200 ≤ length l
+    pub play-room : b ≡ true → stateLength ≤ length l
     play-room t = omega (arith, room speeds rising few block state (no-refusal t), begun .kept)
 
     module _ (passes : List Pass) (found : List ℕ) {first : ℕ} (numbered : first ≡ replyNumber x) where
@@ -287,10 +287,10 @@ module _ (speeds : List ℕ) (rising : Rising speeds) (few : length speeds ≤ 2
       pub play-accepted :
           {m replies : List ℕ} →
           b ≡ true →
-          m ≡ bytesAfter speeds (take 200 l) passes →
-          replies ≡ replyNumbers (trace speeds (take 200 l) passes) ++ drop (length passes) found →
-          PlayLeaves block state passes found first (m ++ drop 200 l) replies
+          m ≡ bytesAfter speeds (take stateLength l) passes →
+          replies ≡ replyNumbers (trace speeds (take stateLength l) passes) ++ drop (length passes) found →
+          PlayLeaves block state passes found first (m ++ drop stateLength l) replies
       play-accepted {m} {replies} t e r =
-          play-leaves block state passes found first (m ++ drop 200 l) replies first-is
+          play-leaves block state passes found first (m ++ drop stateLength l) replies first-is
           (left-state block state passes found (no-refusal t) l (begun .left) m e)
           (left-replies block state passes found (no-refusal t) l (begun .left) replies r)

@@ -14,7 +14,7 @@ use Rattle.plan.specs.Levels.{Rising}
 use Rattle.plan.specs.Blocks.{tasksIn}
 use Rattle.schedule.specs.PlainSchedule.{Timing, opened}
 use Rattle.reclaiming.specs.declared.Reply.{Reply}
-use Rattle.reclaiming.specs.StateBlock.{State, planIn, timing}
+use Rattle.reclaiming.specs.StateBlock.{State, planIn, timing, stateLength}
 use Rattle.reclaiming.specs.Orders.{holdOf, orderWith}
 use Rattle.reclaiming.specs.Passes.{startState}
 use Rattle.reclaiming.specs.Questions.{starting}
@@ -113,14 +113,14 @@ module _ (speeds : List ℕ) (rising : Rising speeds) (few : length speeds ≤ 2
       zero-is : startNumber speeds block (length state) ≡ 0
       zero-is = started-number speeds rising few block state ok
 
-      pub shown-room : 200 ≤ length m
+      pub shown-room : stateLength ≤ length m
       shown-room = omega (arith, room speeds rising few block state ok, r .kept)
 
       -- the state shown is the run's
-      shown-state : take 200 m ≡ bytes
+      shown-state : take stateLength m ≡ bytes
       shown-state =
-          ap (take 200) (r .state-is ∙ ap (λ (n : ℕ). leftBy n (bytes ++ drop 200 state) state) zero-is)
-          ∙ take-at bytes (drop 200 state) 200 (after-length speeds rising few block state passes ok)
+          ap (take stateLength) (r .state-is ∙ ap (λ (n : ℕ). leftBy n (bytes ++ drop stateLength state) state) zero-is)
+          ∙ take-at bytes (drop stateLength state) stateLength (after-length speeds rising few block state passes ok)
 
       abbrev τ : Timing
       τ = timing speeds (tasksIn block)
@@ -149,8 +149,8 @@ module _ (speeds : List ℕ) (rising : Rising speeds) (few : length speeds ≤ 2
 
       pub shown-is :
           {answer : Written} {left : List ℕ} →
-          answer ≡ showReply speeds (take 200 m) (length lent) →
-          left ≡ showBuffer speeds (take 200 m) lent →
+          answer ≡ showReply speeds (take stateLength m) (length lent) →
+          left ≡ showBuffer speeds (take stateLength m) lent →
           ShownLeaves answer left
       shown-is {answer} {left} a b =
           let a′ : answer ≡ showReply speeds bytes (length lent) = a ∙ ap (λ (l : List ℕ). showReply speeds l (length lent)) shown-state in

@@ -27,7 +27,7 @@ use Rattle.schedule.proofs.Drain.{Quiet}
 use Rattle.schedule.proofs.QueueLaws.{queueOf-cong}
 use Rattle.schedule.proofs.Span.{canonical-span, after-add, renewed, nothing-old}
 use Rattle.reclaiming.specs.declared.Reply.{Reply}
-use Rattle.reclaiming.specs.StateBlock.{State, encode, decode, laidOut, planIn, timing, workOf, remainingOf, restOf}
+use Rattle.reclaiming.specs.StateBlock.{State, encode, decode, laidOut, planIn, timing, workOf, remainingOf, restOf, stateLength}
 use Rattle.reclaiming.specs.Orders.{holdOf, orderWith}
 use Rattle.reclaiming.specs.Passes.{passedState, passedHold, workedBy, workedOf, drainedOf}
 use Rattle.reclaiming.specs.Questions.{largestClock, inTime, sound, stateSound, passQuestions}
@@ -116,7 +116,7 @@ module _ (speeds : List ℕ) (rising : Rising speeds) (few : length speeds ≤ 2
         (both-true (ap (λ (x : State). inTime (x .clock)) decoded ∙ le-leb (s .clock) largestClock in-time)
         (ap (stateSound speeds) decoded ∙ fine-sound speeds ts s good fine))
 
-    pub stored-length : length bytes ≡ 200
+    pub stored-length : length bytes ≡ stateLength
     stored-length = ap length stored ∙ length-encode s (storable .count)
 
     -- another sound state's block takes the place of all of them

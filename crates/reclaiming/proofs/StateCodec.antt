@@ -1,42 +1,65 @@
 -- A state that fits its block is read back from it, and a block that is laid out is what its own fields are written as.
 -- Assumes nothing.
 use Prim.Native.Nat.{ℕ, zero, suc, _-_, _*_, _^_, _<_, _≤_}
-use mathlib.Core.Path.{_≡_, refl, sym, subst, ap, ap₂}
+use mathlib.Core.Path.{_≡_, refl, sym, subst, ap, ap₂, _∙_}
 use mathlib.Core.Bool.{true}
 use mathlib.Core.List.{List, [], _∷_, _++_}
 use native.Mathlib.Omega.{arith}
 use borrow.Author.Tests.{eqb-true, eq-eqb}
 use lib.Dec.{T, eqb}
-use lib.ListN.{length, getD, drop, replicate, length-append, length-replicate}
+use lib.ListN.{length, getD, drop, length-append, length-replicate}
+use lib.Seq.{drop-at}
 use Rattle.arith.proofs.Tests.{both-left, both-right, both-true}
-use Rattle.arith.proofs.DigitLaws.{number-digits}
 use Rattle.reclaiming.specs.declared.Entry.{Entry}
-use Rattle.reclaiming.specs.StateBlock.{State, noEntry, entryBytes, entriesBytes, encode, entryFrom, entriesFrom, decode, sameBytes, laidOut}
+use Rattle.reclaiming.specs.Fields.{fieldsBytes, widthOf}
+use Rattle.reclaiming.specs.StateBlock.{State, noEntry, headFields, clockField, taskField, levelField, countField, tailFields, places}
+use Rattle.reclaiming.specs.StateBlock.{entryFields, periodField, worstField, workField, remainingField, headLength, entryLength, stateLength}
+use Rattle.reclaiming.specs.StateBlock.{entryBytes, entriesBytes, unusedBytes, encode, entryFrom, entriesFrom, stateCount, decode, sameBytes, laidOut}
+use Rattle.reclaiming.proofs.FieldLaws.{length-fields, read-field}
+
+-- the lengths that 01 gives
+pub head-length : headLength ≡ 8
+head-length = refl
+
+pub entry-length : entryLength ≡ 12
+entry-length = refl
+
+pub state-length : stateLength ≡ 200
+state-length = refl
 
 -- an entry whose numbers fit their bytes
 pub record StorableEntry (e : Entry) : Type 0 where
-  pub period : e .period < 256 ^ 2
-  pub worst : e .worst < 256 ^ 3
-  pub work : e .work < 256 ^ 3
-  pub remaining : e .remaining < 256 ^ 2
+  pub period : e .period < 256 ^ widthOf entryFields periodField
+  pub worst : e .worst < 256 ^ widthOf entryFields worstField
+  pub work : e .work < 256 ^ widthOf entryFields workField
+  pub remaining : e .remaining < 256 ^ widthOf entryFields remainingField
 
 -- a state whose numbers do
 pub record Storable (s : State) : Type 0 where
-  pub clock : s .clock < 256 ^ 4
-  pub task : s .task < 256
-  pub level : s .level < 256
-  pub count : length (s .entries) ≤ 16
+  pub clock : s .clock < 256 ^ widthOf headFields clockField
+  pub task : s .task < 256 ^ widthOf headFields taskField
+  pub level : s .level < 256 ^ widthOf headFields levelField
+  pub count : length (s .entries) ≤ places
   pub entries : (i : ℕ) → i < length (s .entries) → StorableEntry (getD (s .entries) i noEntry)
+
+-- what stands past the head, and past the entries
+abbrev pub pastEntries : State → List ℕ
+pastEntries s = unusedBytes (s .entries) ++ fieldsBytes tailFields s
+
+abbrev pub pastHead : State → List ℕ
+pastHead s = entriesBytes (s .entries) ++ pastEntries s
+
+pub past-head : (s : State) → drop headLength (encode s) ≡ pastHead s
+past-head s = drop-at (fieldsBytes headFields s) (pastHead s) headLength (length-fields headFields s)
 
 -- an entry is read back
 entry-back : (e : Entry) (rest : List ℕ) → StorableEntry e → entryFrom (entryBytes e ++ rest) ≡ e
 entry-back e rest h =
-    let bytes : List ℕ = entryBytes e ++ rest in
     λ i. record {
-      period = number-digits 256 2 (e .period) (drop 2 bytes) (omega arith) (h .period) i;
-      worst = number-digits 256 3 (e .worst) (drop 5 bytes) (omega arith) (h .worst) i;
-      work = number-digits 256 3 (e .work) (drop 8 bytes) (omega arith) (h .work) i;
-      remaining = number-digits 256 2 (e .remaining) (drop 10 bytes) (omega arith) (h .remaining) i;
+      period = read-field entryFields periodField e rest (h .period) i;
+      worst = read-field entryFields worstField e rest (h .worst) i;
+      work = read-field entryFields workField e rest (h .work) i;
+      remaining = read-field entryFields remainingField e rest (h .remaining) i;
     }
 
 entries-back :
@@ -51,31 +74,39 @@ entries-back (e ∷ es) rest h =
 -- a state is read back
 pub decode-encode : (s : State) → Storable s → decode (encode s) ≡ s
 decode-encode s h =
-    let after : List ℕ = replicate (12 * (16 - length (s .entries))) 0 in
     λ i. record {
-      clock = number-digits 256 4 (s .clock) (drop 4 (encode s)) (omega arith) (h .clock) i;
-      task = s .task;
-      level = s .level;
-      entries = entries-back (s .entries) after (h .entries) i;
+      clock = read-field headFields clockField s (pastHead s) (h .clock) i;
+      task = read-field headFields taskField s (pastHead s) (h .task) i;
+      level = read-field headFields levelField s (pastHead s) (h .level) i;
+      entries = entries i;
     }
+  where
+    entries : entriesFrom (stateCount (encode s)) (drop headLength (encode s)) ≡ s .entries
+    entries =
+        ap₂ (λ (n : ℕ) (l : List ℕ). entriesFrom n l) (read-field headFields countField s (pastHead s) (omega (arith, h .count))) (past-head s)
+        ∙ entries-back (s .entries) (pastEntries s) (h .entries)
 
 -- how many entries are read, and how many bytes are written
 pub length-entriesFrom : (n : ℕ) (bytes : List ℕ) → length (entriesFrom n bytes) ≡ n
 length-entriesFrom zero bytes = refl
-length-entriesFrom (suc n) bytes = ap suc (length-entriesFrom n (drop 12 bytes))
+length-entriesFrom (suc n) bytes = ap suc (length-entriesFrom n (drop entryLength bytes))
 
-pub length-entriesBytes : (es : List Entry) → length (entriesBytes es) ≡ 12 * length es
+pub length-entriesBytes : (es : List Entry) → length (entriesBytes es) ≡ entryLength * length es
 length-entriesBytes [] = refl
-length-entriesBytes (e ∷ es) = omega (arith, length-entriesBytes es)
+length-entriesBytes (e ∷ es) =
+    omega (arith, length-append (entryBytes e) (entriesBytes es), length-fields entryFields e, length-entriesBytes es)
 
-pub length-encode : (s : State) → length (s .entries) ≤ 16 → length (encode s) ≡ 200
+pub length-encode : (s : State) → length (s .entries) ≤ places → length (encode s) ≡ stateLength
 length-encode s h =
-    let n : ℕ = 12 * (16 - length (s .entries)) in
     omega (
       arith,
-      length-append (entriesBytes (s .entries)) (replicate n 0),
+      length-append (fieldsBytes headFields s) (pastHead s),
+      length-fields headFields s,
+      length-append (entriesBytes (s .entries)) (pastEntries s),
       length-entriesBytes (s .entries),
-      length-replicate {A = ℕ} n 0,
+      length-append (unusedBytes (s .entries)) (fieldsBytes tailFields s),
+      length-replicate {A = ℕ} (entryLength * (places - length (s .entries))) 0,
+      length-fields tailFields s,
     )
 
 -- the test of two lists of bytes passes exactly if they are equal
@@ -94,15 +125,15 @@ bytes-same (x ∷ xs) = both-true (eq-eqb x x refl) (bytes-same xs)
 -- what is written is laid out
 pub laid-out : (s : State) → Storable s → laidOut (encode s) ≡ true
 laid-out s h =
-    both-true (eq-eqb (length (encode s)) 200 (length-encode s (h .count)))
+    both-true (eq-eqb (length (encode s)) stateLength (length-encode s (h .count)))
     (subst (λ (t : State). sameBytes (encode t) (encode s) ≡ true) (sym (decode-encode s h)) (bytes-same (encode s)))
 
--- what is laid out has 200 bytes, and is written back
+-- what is laid out has the length of a state, and is written back
 module _ (bytes : List ℕ) (h : laidOut bytes ≡ true) where
-  pub laid-length : length bytes ≡ 200
-  laid-length = eqb-true (length bytes) 200 (both-left (eqb (length bytes) 200) (sameBytes (encode (decode bytes)) bytes) h)
+  pub laid-length : length bytes ≡ stateLength
+  laid-length = eqb-true (length bytes) stateLength (both-left (eqb (length bytes) stateLength) (sameBytes (encode (decode bytes)) bytes) h)
 
   pub laid-back : encode (decode bytes) ≡ bytes
   laid-back =
       same-bytes (encode (decode bytes)) bytes
-      (both-right (eqb (length bytes) 200) (sameBytes (encode (decode bytes)) bytes) h)
+      (both-right (eqb (length bytes) stateLength) (sameBytes (encode (decode bytes)) bytes) h)

@@ -18,7 +18,7 @@ use Rattle.plan.specs.Answers.{verdictAnswer, writtenAnswer, judgedList, readBl
 use Rattle.schedule.specs.PlainSchedule.{moreUrgent}
 use Rattle.reclaiming.specs.declared.Reply.{Reply}
 use Rattle.reclaiming.specs.declared.Reply.the-variants as reply
-use Rattle.reclaiming.specs.StateBlock.{sameBytes}
+use Rattle.reclaiming.specs.StateBlock.{sameBytes, stateLength}
 use Rattle.reclaiming.specs.Calls.{replyAnswer, passReply, showReply, showBuffer}
 use Rattle.reclaiming.specs.Run.{Pass, Line, bytesAfter, startedBytes, line, runLines}
 
@@ -40,7 +40,7 @@ benchPasses = pass true 1 ∷ pass true 7 ∷ pass true 2 ∷ pass true 4 ∷ pa
 
 -- the state's bytes at the start, and after the first n of these passes
 abbrev pub benchStarted : List ℕ
-benchStarted = startedBytes baseSpeeds benchBlock (replicate 200 0)
+benchStarted = startedBytes baseSpeeds benchBlock (replicate stateLength 0)
 
 abbrev pub benchAfter : ℕ → List ℕ
 benchAfter n = bytesAfter baseSpeeds benchStarted (take n benchPasses)
@@ -52,7 +52,7 @@ benchJudged = record { verdict = verdict.Admitted 7 30; plan = planOf benchTasks
 -- the example's run, line for line; the line that begins with `unfolding`, here and below, only lets them be computed
 abbrev pub benchLines : List Line
 unfolding need timeOf worn lcm gcd moreUrgent
-benchLines = runLines baseSpeeds benchBlock (replicate 200 0) benchPasses
+benchLines = runLines baseSpeeds benchBlock (replicate stateLength 0) benchPasses
 
 -- the example's lines after the first
 abbrev pub listedLines : List Line

@@ -1,3 +1,4 @@
+pub mod Fields
 pub mod StateBlock
 pub mod Orders
 pub mod Passes

@@ -13,7 +13,7 @@ use Rattle.plan.specs.Blocks.{tasksIn}
 use Rattle.schedule.specs.PlainSchedule.{Book, opened}
 use Rattle.reclaiming.specs.declared.Reply.{Reply}
 use Rattle.reclaiming.specs.declared.Reply.the-variants as reply
-use Rattle.reclaiming.specs.StateBlock.{timing}
+use Rattle.reclaiming.specs.StateBlock.{timing, stateLength}
 use Rattle.reclaiming.specs.Calls.{isOrder, startNumber, showReply, showBuffer}
 use Rattle.reclaiming.specs.Run.{Pass, Answered, DispatcherBook, trace, bytesAfter, startedBytes, openedBook, bookedAll, ranAll}
 use Rattle.reclaiming.specs.Promises.{OnTime, NamesMostUrgent, Shows, lastOrder}
@@ -46,7 +46,7 @@ leftBy (suc n) done found = found
 abbrev pub playedState : List ℕ → List ℕ → List ℕ → List Pass → List ℕ
 playedState speeds block state passes =
     leftBy (startNumber speeds block (length state))
-    (bytesAfter speeds (startedBytes speeds block state) passes ++ drop 200 state)
+    (bytesAfter speeds (startedBytes speeds block state) passes ++ drop stateLength state)
     state
 
 abbrev pub playedReplies : List ℕ → List ℕ → List ℕ → List Pass → List ℕ → List ℕ

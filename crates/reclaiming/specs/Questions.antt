@@ -12,17 +12,13 @@ use Rattle.plan.specs.Levels.{speedOf, nominal}
 use Rattle.plan.specs.Questions.{judging, reading, roomQuestion}
 use Rattle.schedule.specs.PlainSchedule.{Timing, Pending}
 use Rattle.reclaiming.specs.declared.Entry.{Entry}
-use Rattle.reclaiming.specs.StateBlock.{State, restIn, taskOf, planIn, timing, decode, laidOut}
+use Rattle.reclaiming.specs.StateBlock.{State, restIn, taskOf, planIn, timing, decode, laidOut, stateLength}
 use Rattle.reclaiming.specs.Orders.{nextArrival, allowance, openJobs, runningTime}
 use Rattle.reclaiming.specs.Passes.{clockAfter}
 
 -- 01: "The largest clock is 4,000,000,000 ticks."
 abbrev pub largestClock : ℕ
 largestClock = 4000000000
-
--- the size of the state block
-abbrev pub stateLength : ℕ
-stateLength = 200
 
 -- 01: "for each task, work left at most the worst case, plain ticks left at most the allotment, and the time needed for the work left
 -- at the nominal level at most the plain ticks left"

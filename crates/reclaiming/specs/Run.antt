@@ -14,7 +14,7 @@ use Rattle.plan.specs.Blocks.{noTask, tasksIn}
 use Rattle.schedule.specs.PlainSchedule.{Timing, Job, Book, latest, after}
 use Rattle.reclaiming.specs.declared.Reply.{Reply}
 use Rattle.reclaiming.specs.declared.Reply.the-variants as reply
-use Rattle.reclaiming.specs.StateBlock.{timing}
+use Rattle.reclaiming.specs.StateBlock.{timing, stateLength}
 use Rattle.reclaiming.specs.Passes.{workedBy, arrivesAt}
 use Rattle.reclaiming.specs.Calls.{isOrder, startReply, startBuffer, passReply, passBytes}
 
@@ -42,7 +42,7 @@ bytesAfter speeds bytes (p ∷ ps) = bytesAfter speeds (passBytes speeds bytes (
 
 -- demand 3: "the first gets the state that starting gave on an accepted plan": the first 200 bytes of the lent buffer
 abbrev pub startedBytes : List ℕ → List ℕ → List ℕ → List ℕ
-startedBytes speeds block buffer = take 200 (startBuffer speeds block buffer)
+startedBytes speeds block buffer = take stateLength (startBuffer speeds block buffer)
 
 -- the dispatcher's book: its clock, the jobs that it has closed, the running task and its level, which are those of "the order last
 -- returned" (255 and 0 for none), and what is left of each task's latest job

@@ -1,18 +1,18 @@
 -- 01, "Blocks": the state, and its block of 200 bytes.
 -- Assumes nothing.
-use Prim.Native.Nat.{ℕ, zero, suc, _-_, _*_}
+use Prim.Native.Nat.{ℕ, zero, suc, _+_, _-_, _*_}
 use mathlib.Core.Bool.{Bool, true, false}
 use mathlib.Core.List.{List, [], _∷_, _++_, map}
 use lib.Dec.{eqb}
 use lib.ListN.{length, getD, drop, replicate}
 use Rattle.arith.specs.Choice.{both}
-use Rattle.arith.specs.Digits.{number, digits}
 use Rattle.plan.specs.declared.Task.{Task}
 use Rattle.plan.specs.Times.{Rest, taskTime}
 use Rattle.plan.specs.Levels.{speedOf, nominal}
 use Rattle.plan.specs.Blocks.{noTask}
 use Rattle.schedule.specs.PlainSchedule.{Timing}
 use Rattle.reclaiming.specs.declared.Entry.{Entry}
+use Rattle.reclaiming.specs.Fields.{Field, field, zeros, fieldsBytes, fieldsLength, readField}
 
 -- the clock, the order that stands (its task, or 255 for idle; its level, or 0 for idle), and an entry for each task
 pub record State : Type 0 where
@@ -61,42 +61,113 @@ timingAt speed ts = record {
 abbrev pub timing : List ℕ → List Task → Timing
 timing speeds ts = timingAt (speedOf speeds (nominal speeds ts)) ts
 
+-- 01: "clock (4 bytes), task of the order (1; 255 for idle), level (1; 0 for idle), count (1), a zero byte"
+abbrev pub headFields : List (Field State)
+headFields =
+    field 4 (λ s. s .clock)
+    ∷ field 1 (λ s. s .task)
+    ∷ field 1 (λ s. s .level)
+    ∷ field 1 (λ s. length (s .entries))
+    ∷ zeros 1
+    ∷ []
+
+-- their places in this list
+abbrev pub clockField : ℕ
+clockField = 0
+
+abbrev pub taskField : ℕ
+taskField = 1
+
+abbrev pub levelField : ℕ
+levelField = 2
+
+abbrev pub countField : ℕ
+countField = 3
+
+abbrev pub zeroField : ℕ
+zeroField = 4
+
 -- 01: "sixteen entries of 12 bytes: period (2), worst case (3), work left (3; 0 once finished), plain ticks left (2), two zero bytes"
+abbrev pub places : ℕ
+places = 16
+
+abbrev pub entryFields : List (Field Entry)
+entryFields =
+    field 2 (λ e. e .period)
+    ∷ field 3 (λ e. e .worst)
+    ∷ field 3 (λ e. e .work)
+    ∷ field 2 (λ e. e .remaining)
+    ∷ zeros 2
+    ∷ []
+
+abbrev pub periodField : ℕ
+periodField = 0
+
+abbrev pub worstField : ℕ
+worstField = 1
+
+abbrev pub workField : ℕ
+workField = 2
+
+abbrev pub remainingField : ℕ
+remainingField = 3
+
+abbrev pub pairField : ℕ
+pairField = 4
+
+-- past the entries nothing stands
+abbrev pub tailFields : List (Field State)
+tailFields = []
+
+-- 8 bytes, 12 for an entry, and "200 bytes" in all
+abbrev pub headLength : ℕ
+headLength = fieldsLength headFields
+
+abbrev pub entryLength : ℕ
+entryLength = fieldsLength entryFields
+
+abbrev pub tailAt : ℕ
+tailAt = headLength + entryLength * places
+
+abbrev pub stateLength : ℕ
+stateLength = tailAt + fieldsLength tailFields
+
 abbrev pub entryBytes : Entry → List ℕ
-entryBytes e =
-    digits 256 2 (e .period)
-    ++ (digits 256 3 (e .worst) ++ (digits 256 3 (e .work) ++ (digits 256 2 (e .remaining) ++ (0 ∷ 0 ∷ []))))
+entryBytes e = fieldsBytes entryFields e
 
 abbrev pub entriesBytes : List Entry → List ℕ
 entriesBytes [] = []
 entriesBytes (e ∷ es) = entryBytes e ++ entriesBytes es
 
--- 01: "clock (4 bytes), task of the order (1; 255 for idle), level (1; 0 for idle), count (1), a zero byte", then the entries;
--- "Entries past the count are zero."
+-- 01: "Entries past the count are zero."
+abbrev pub unusedBytes : List Entry → List ℕ
+unusedBytes es = replicate (entryLength * (places - length es)) 0
+
 abbrev pub encode : State → List ℕ
-encode s =
-    digits 256 4 (s .clock)
-    ++ (s .task ∷ s .level ∷ length (s .entries) ∷ 0 ∷ entriesBytes (s .entries) ++ replicate (12 * (16 - length (s .entries))) 0)
+encode s = fieldsBytes headFields s ++ (entriesBytes (s .entries) ++ (unusedBytes (s .entries) ++ fieldsBytes tailFields s))
 
 -- the same fields read off a block
 abbrev pub entryFrom : List ℕ → Entry
 entryFrom bytes = record {
-  period = number 256 2 bytes;
-  worst = number 256 3 (drop 2 bytes);
-  work = number 256 3 (drop 5 bytes);
-  remaining = number 256 2 (drop 8 bytes);
+  period = readField entryFields periodField bytes;
+  worst = readField entryFields worstField bytes;
+  work = readField entryFields workField bytes;
+  remaining = readField entryFields remainingField bytes;
 }
 
 abbrev pub entriesFrom : ℕ → List ℕ → List Entry
 entriesFrom zero bytes = []
-entriesFrom (suc n) bytes = entryFrom bytes ∷ entriesFrom n (drop 12 bytes)
+entriesFrom (suc n) bytes = entryFrom bytes ∷ entriesFrom n (drop entryLength bytes)
+
+abbrev pub stateCount : List ℕ → ℕ
+stateCount bytes = readField headFields countField bytes
 
 abbrev pub decode : List ℕ → State
 decode bytes = record {
-  clock = number 256 4 bytes;
-  task = getD bytes 4 0;
-  level = getD bytes 5 0;
-  entries = entriesFrom (getD bytes 6 0) (drop 8 bytes);
+  clock = readField headFields clockField bytes;
+  task = readField headFields taskField bytes;
+  level = readField headFields levelField bytes;
+  entries = entriesFrom (stateCount bytes) (drop headLength bytes);
 }
 
 -- two lists of bytes are the same
@@ -108,4 +179,4 @@ sameBytes (x ∷ xs) (y ∷ ys) = both (eqb x y) (sameBytes xs ys)
 
 -- 01: "exactly 200 bytes, laid out as above": a block is what its own fields are written as
 abbrev pub laidOut : List ℕ → Bool
-laidOut bytes = both (eqb (length bytes) 200) (sameBytes (encode (decode bytes)) bytes)
+laidOut bytes = both (eqb (length bytes) stateLength) (sameBytes (encode (decode bytes)) bytes)

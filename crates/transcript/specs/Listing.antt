@@ -11,6 +11,7 @@ use Rattle.plan.specs.declared.Verdict.{Verdict}
 use Rattle.plan.specs.declared.Verdict.the-variants as verdict
 use Rattle.plan.specs.Blocks.{countIn, blockLength}
 use Rattle.plan.specs.Answers.{readBlock}
+use Rattle.reclaiming.specs.StateBlock.{stateLength}
 use Rattle.reclaiming.specs.declared.Reply.{Reply}
 use Rattle.reclaiming.specs.declared.Reply.the-variants as reply
 use Rattle.reclaiming.specs.Run.{Pass, Line, runLines}
@@ -56,7 +57,7 @@ linesText (l ∷ ls) = replyLine (l .clock) (l .reply) ++ linesText ls
 
 -- the lines from the start on: those of the run over a fresh state
 abbrev pub startedLines : List ℕ → List ℕ → List ℕ → List ℕ
-startedLines speeds block passes = linesText (runLines speeds block (replicate 200 0) (passesIn passes)) ++ oddLine passes
+startedLines speeds block passes = linesText (runLines speeds block (replicate stateLength 0) (passesIn passes)) ++ oddLine passes
 
 -- the lines from a plan that was read on; "If the reading is refused, the bench program prints that line and ends."
 abbrev pub judgedLines : List ℕ → List ℕ → Verdict → ℕ → List ℕ → List ℕ
