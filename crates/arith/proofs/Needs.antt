@@ -1,4 +1,4 @@
--- The laws of the time needed. All of them come from two: it covers the work, and nothing less does.
+-- The laws of division rounded up, here of work at a speed. All of them come from two: it covers the work, and nothing less does.
 -- Assumes nothing.
 use Prim.Native.Nat.{ℕ, suc, _+_, _-_, _*_, _/_, _%_, _<_, _≤_}
 use mathlib.Core.Path.{_≡_, sym, subst, ap, _∙_}

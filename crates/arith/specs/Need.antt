@@ -1,7 +1,7 @@
--- 01, "Plan, levels, plain schedule": the time that work needs at a speed.
+-- Division rounded up: how many of a size cover an amount. 01 rounds ticks, bits and bytes so.
 -- Assumes nothing.
 use Prim.Native.Nat.{ℕ, _+_, _-_, _/_}
 
--- 01: "The time needed for work at a level is the work divided by the speed, rounded up to whole ticks."
+-- the least number of the size's multiples that covers the amount
 unfoldable pub need : ℕ → ℕ → ℕ
-need speed work = (work + (speed - 1)) / speed
+need size amount = (amount + (size - 1)) / size

@@ -10,7 +10,7 @@ ghost use Rattle.arith.specs.Bits.{unpacked};
 
 // Ticks that work needs at a speed, rounded up.
 pub fn time_needed(speed: u32, work: u32) -> u32
-    requires { ⌜ 0 < speed ⌝ }
+    requires { ⌜ (0 < speed) × (speed ≤ 1000) × (work < 16777216) ⌝ }
     ensures { λ r. ⌜ r ≡ need speed work ⌝ }
 {
     let whole = work / speed;

@@ -18,18 +18,18 @@ rem-if1 c = search needs
 returns : tie.Need-returns
 returns c =
     let s = c .before in
-    need-exact (s .args .speed) (s .args .work) (s .pre) (c .if1 .taken)
+    need-exact (s .args .speed) (s .args .work) (s .pre .0) (c .if1 .taken)
 
 -- with a remainder, one more
 more : (c : tie.Else1) → c .before .args .work / c .before .args .speed + 1 ≡ need (c .before .args .speed) (c .before .args .work)
 more c =
     let s = c .before in
-    need-more (s .args .speed) (s .args .work) (s .pre) (c .if1 .left)
+    need-more (s .args .speed) (s .args .work) (s .pre .0) (c .if1 .left)
 
 add-result : tie.Need-add-result
 add-result c =
     let s = c .before in
-    omega (arith, more c, need-le (s .args .speed) (s .args .work) (s .pre))
+    omega (arith, more c, need-le (s .args .speed) (s .args .work) (s .pre .0))
 
 returns-2 : tie.Need-returns-2
 returns-2 c = more c
