@@ -12,7 +12,6 @@ use lib.Dec.{leb}
 use lib.ListN.{length, getD, drop}
 use Rattle.arith.specs.Arrays.{padded}
 use Rattle.arith.specs.Choice.{every, first}
-use Rattle.arith.specs.Need.{need}
 use Rattle.arith.specs.Ranges.{listTo}
 use Rattle.arith.specs.Sum.{sumTo}
 use Rattle.arith.specs.Divisor.{lcm}
@@ -22,17 +21,20 @@ use Rattle.plan.specs.declared.Plan.{Plan}
 use Rattle.plan.specs.declared.Verdict.{Verdict}
 use Rattle.plan.specs.declared.Verdict.the-variants as verdict
 use Rattle.plan.specs.Answers.{answered}
-use Rattle.plan.specs.Levels.{hyperperiod, demandWithin, baseSpeeds, speedOf, nominal, admits}
+use Rattle.plan.specs.Times.{whole, taskTime}
+use Rattle.plan.specs.Levels.{Rising, hyperperiod, demandWithin, speedOf, nominal, admits}
 use Rattle.plan.specs.Blocks.{noTask, tasksOf}
 use Rattle.plan.specs.Questions.{inRange, taskQuestions}
 use Rattle.arith.proofs.ArrayLaws.{value-at}
 use Rattle.arith.proofs.Loops.{rest-cons, rest-end, every-taken, every-again, every-not, every-end}
-use Rattle.arith.proofs.Needs.{need-le}
-use Rattle.arith.proofs.Searches.{first-found, first-next, first-weaker}
+use Rattle.arith.proofs.Searches.{first-found, first-next, first-none, first-weaker}
 use Rattle.arith.proofs.Sums.{sumTo-eq, sumOf-taken}
 use Rattle.arith.proofs.Tests.{both-false}
 use Rattle.plan.proofs.Facts.{InRange, in-range, length-tasksOf}
-use Rattle.plan.proofs.LevelLaws.{admits-covers, baseRising, hyperperiod-drop, range-positive}
+use Rattle.plan.proofs.LevelLaws.{admits-covers, hyperperiod-drop, range-positive}
+use Rattle.plan.proofs.TimeLaws.{time-most}
+use Rattle.levels.specs.Code.{loaded, Table}
+use Rattle.levels.proofs.Tables.{levels-are, speed-is}
 
 pub period-low : (t : Task) → t .period < 1 → false ≡ inRange t
 period-low t h = simp (lt-leb 1 (t .period) h)
@@ -129,8 +131,8 @@ module _ {p : Plan} {i h m : ℕ} (w : Widened p i h m) where
 abbrev pub jobsIn : ℕ → Plan → ℕ → ℕ
 jobsIn span p i = span / getD (p .tasks) i noTask .period
 
-abbrev pub timeOf : ℕ → Plan → List ℕ → ℕ → ℕ
-timeOf speed p jobs i = need speed (getD (p .tasks) i noTask .worst) * getD jobs i 0
+abbrev pub jobsTime : ℕ → Plan → List ℕ → ℕ → ℕ
+jobsTime speed p jobs i = taskTime speed (getD (p .tasks) i noTask) * getD jobs i 0
 
 -- what a demand is asked with
 pub record Asked (p : Plan) (jobs : List ℕ) (speed : ℕ) : Type 0 where
@@ -141,29 +143,29 @@ pub record Asked (p : Plan) (jobs : List ℕ) (speed : ℕ) : Type 0 where
 -- the loop that sums it up
 pub record Summed (p : Plan) (jobs : List ℕ) (speed total i : ℕ) : Type 0 where
   pub within : i ≤ p .count
-  pub sum : total ≡ sumTo i (timeOf speed p jobs)
+  pub sum : total ≡ sumTo i (jobsTime speed p jobs)
   pub small : total ≤ 1048575000000 * i
 
 pub summed-all :
     {p : Plan} {jobs : List ℕ} {speed total i : ℕ} →
     Summed p jobs speed total i →
     p .count ≤ i →
-    total ≡ sumTo (p .count) (timeOf speed p jobs)
+    total ≡ sumTo (p .count) (jobsTime speed p jobs)
 summed-all {p} {jobs} {speed} {total} {i} at h =
     let e : i ≡ p .count = omega arith in
-    at .sum ∙ ap (λ (n : ℕ). sumTo n (timeOf speed p jobs)) e
+    at .sum ∙ ap (λ (n : ℕ). sumTo n (jobsTime speed p jobs)) e
 
 -- a turn of it
 pub record Added (p : Plan) (jobs : List ℕ) (speed i ticks : ℕ) : Type 0 where
   pub asked : Asked p jobs speed
   pub below : i < p .count
-  pub needed : ticks ≡ need speed (getD (p .tasks) i noTask .worst)
+  pub needed : ticks ≡ taskTime speed (getD (p .tasks) i noTask)
 
 module _ {p : Plan} {jobs : List ℕ} {speed i ticks : ℕ} (a : Added p jobs speed i ticks) where
   pub added-small : ticks * getD jobs i 0 ≤ 1048575000000
   added-small =
-      let worst : ℕ = getD (p .tasks) i noTask .worst in
-      let short : ticks ≤ 1048575 = omega (arith, need-le speed worst (a .asked .positive), task-at (a .asked .plan) i (a .below) .worst-high) in
+      let t : Task = getD (p .tasks) i noTask in
+      let short : ticks ≤ 1048575 = omega (arith, a .needed, time-most speed (whole t) (a .asked .positive), task-at (a .asked .plan) i (a .below) .worst-high) in
       mul-le-mul short (a .asked .few i (a .below))
 
   pub summed-more : {total : ℕ} → Summed p jobs speed total i → Summed p jobs speed (total + ticks * getD jobs i 0) (i + 1)
@@ -174,18 +176,30 @@ module _ {p : Plan} {jobs : List ℕ} {speed i ticks : ℕ} (a : Added p jobs sp
         small = omega (arith, added-small);
       }
 
--- a search for the lowest level whose speed passes a test: the level that is tried, and its speed
-pub record Trying (test : ℕ → Bool) (level speed : ℕ) : Type 0 where
-  pub low : level ≤ first test baseSpeeds
-  pub below : level < 8
-  pub speed-is : speed ≡ speedOf baseSpeeds level
+-- a search for the lowest level whose speed passes a test: the level that is tried
+pub record Trying (test : ℕ → Bool) (held : List ℕ) (levels level : ℕ) : Type 0 where
+  pub table : Table held levels
+  pub low : level ≤ first test (loaded held levels)
+  pub below : level < levels
 
-module _ {test : ℕ → Bool} {level speed : ℕ} (at : Trying test level speed) where
-  pub level-found : test speed ≡ true → level ≡ first test baseSpeeds
-  level-found e = first-found test baseSpeeds level 0 (at .low) (at .below) (ap test (sym (at .speed-is)) ∙ e)
+module _ {test : ℕ → Bool} {held : List ℕ} {levels level : ℕ} (at : Trying test held levels level) where
+  told-at : {b : Bool} → test (getD held level 0) ≡ b → test (speedOf (loaded held levels) level) ≡ b
+  told-at e = ap test (sym (speed-is (at .table) level (at .below))) ∙ e
 
-  pub level-next : test speed ≡ false → level + 1 ≤ first test baseSpeeds
-  level-next e = first-next test baseSpeeds level 0 (at .low) (at .below) (ap test (sym (at .speed-is)) ∙ e)
+  pub level-found : test (getD held level 0) ≡ true → level ≡ first test (loaded held levels)
+  level-found e = first-found test (loaded held levels) level 0 (at .low) (omega (arith, levels-are (at .table))) (told-at e)
+
+  pub level-next : test (getD held level 0) ≡ false → level + 1 ≤ first test (loaded held levels)
+  level-next e = first-next test (loaded held levels) level 0 (at .low) (omega (arith, levels-are (at .table))) (told-at e)
+
+-- none of them passes
+pub level-none :
+    {held : List ℕ} {levels : ℕ} (t : Table held levels) (test : ℕ → Bool) (level : ℕ) →
+    level ≤ first test (loaded held levels) →
+    levels ≤ level →
+    level ≡ first test (loaded held levels)
+level-none {held} {levels} t test level low past =
+    first-none test (loaded held levels) level low (omega (arith, levels-are t))
 
 -- a speed that does so much work within a span
 abbrev pub does : ℕ → ℕ → ℕ → Bool
@@ -207,13 +221,13 @@ module _ {p : Plan} {span : ℕ} {jobs : List ℕ} (c : Counted p span jobs) whe
   counted-few i h = omega (arith, counted-at i h, div-le-self span (getD (p .tasks) i noTask .period))
 
   -- the demand of them all at a speed: the speed admits the tasks, or it does not
-  module _ (speed : ℕ) {total : ℕ} (e : total ≡ sumTo (p .count) (timeOf speed p jobs)) where
+  module _ (speed : ℕ) {total : ℕ} (e : total ≡ sumTo (p .count) (jobsTime speed p jobs)) where
     pub demand-all : total ≡ demandWithin span speed (tasksOf p)
     demand-all =
-        let time : ℕ → ℕ = λ i. need speed (getD (p .tasks) i noTask .worst) in
+        let time : ℕ → ℕ = λ i. taskTime speed (getD (p .tasks) i noTask) in
         e
-        ∙ sumTo-eq (p .count) (timeOf speed p jobs) (λ i. time i * jobsIn span p i) (λ i h. ap (λ (n : ℕ). time i * n) (counted-at i h))
-        ∙ sumOf-taken (λ (t : Task). need speed (t .worst) * (span / t .period)) (p .tasks) noTask (p .count) (listed (c .plan .held))
+        ∙ sumTo-eq (p .count) (jobsTime speed p jobs) (λ i. time i * jobsIn span p i) (λ i h. ap (λ (n : ℕ). time i * n) (counted-at i h))
+        ∙ sumOf-taken (λ (t : Task). taskTime speed t * (span / t .period)) (p .tasks) noTask (p .count) (listed (c .plan .held))
 
     compared : leb total span ≡ admits (tasksOf p) speed
     compared =
@@ -228,18 +242,19 @@ module _ {p : Plan} {span : ℕ} {jobs : List ℕ} (c : Counted p span jobs) whe
 
   -- a level that is too slow for the plain work does not admit
   pub nominal-from :
-      {work level : ℕ} →
-      work ≡ sumTo (p .count) (timeOf 1 p jobs) →
-      level ≡ first (does work span) baseSpeeds →
-      level ≤ nominal baseSpeeds (tasksOf p)
-  nominal-from {work} e l =
-      subst (λ (x : ℕ). x ≤ nominal baseSpeeds (tasksOf p)) (sym l)
-      (first-weaker (admits (tasksOf p)) (does work span) baseSpeeds 0 covers)
+      {speeds : List ℕ} {work level : ℕ} →
+      Rising speeds →
+      work ≡ sumTo (p .count) (jobsTime 1 p jobs) →
+      level ≡ first (does work span) speeds →
+      level ≤ nominal speeds (tasksOf p)
+  nominal-from {speeds} {work} rising e l =
+      subst (λ (x : ℕ). x ≤ nominal speeds (tasksOf p)) (sym l)
+      (first-weaker (admits (tasksOf p)) (does work span) speeds 0 covers)
     where
-      covers : (k : ℕ) → k < 8 → admits (tasksOf p) (getD baseSpeeds k 0) ≡ true → does work span (getD baseSpeeds k 0) ≡ true
+      covers : (k : ℕ) → k < length speeds → admits (tasksOf p) (getD speeds k 0) ≡ true → does work span (getD speeds k 0) ≡ true
       covers k h a =
-          let speed : ℕ = getD baseSpeeds k 0 in
-          le-leb work (span * speed) (admits-covers (tasksOf p) span work speed (baseRising .positive k h) (c .span-is) (demand-all 1 e) a)
+          let speed : ℕ = getD speeds k 0 in
+          le-leb work (span * speed) (admits-covers (tasksOf p) span work speed (rising .positive k h) (c .span-is) (demand-all 1 e) a)
 
 -- the verdict, by the first no of the questions 6, 7 and 8
 abbrev pub verdictOf : List ℕ → List Task → Verdict

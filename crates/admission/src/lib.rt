@@ -9,22 +9,22 @@ ghost use lib.Dec.{leb};
 ghost use lib.ListN.{getD};
 ghost use Rattle.arith.specs.Arrays.{padded};
 ghost use Rattle.arith.specs.Choice.{every, first};
-ghost use Rattle.arith.specs.Need.{need};
 ghost use Rattle.arith.specs.Ranges.{listTo};
 ghost use Rattle.arith.specs.Sum.{sumTo};
-ghost use Rattle.plan.specs.Levels.{baseSpeeds, speedOf, hyperperiod, nominal};
+ghost use Rattle.plan.specs.Levels.{hyperperiod, nominal};
+ghost use Rattle.plan.specs.Times.{taskTime};
+ghost use Rattle.levels.specs.Code.{loaded, Table};
 ghost use Rattle.plan.specs.Questions.{inRange, taskQuestions};
 ghost use Rattle.arith.specs.Asking.{firstNo};
 ghost use Rattle.plan.specs.Blocks.{noTask, tasksOf};
 ghost use Rattle.plan.specs.Answers.{answered};
 
-const SPEEDS: [u32; 8] = [10, 20, 30, 40, 50, 60, 80, 100];
-
-pub fn speed_of(level: usize) -> u32
-    requires { ⌜ level < 8 ⌝ }
-    ensures { λ r. ⌜ r ≡ speedOf baseSpeeds level ⌝ }
+// The ticks that a task's worst case needs at a speed.
+pub fn task_time(speed: u32, t: Task) -> u32
+    requires { ⌜ (0 < speed) × (speed ≤ 1000) × (t .worst < 16777216) ⌝ }
+    ensures { λ r. ⌜ r ≡ taskTime speed t ⌝ }
 {
-    SPEEDS[level]
+    numeric::time_needed(speed, t.worst)
 }
 
 fn task_in_range(t: Task) -> bool
@@ -96,16 +96,16 @@ fn jobs_within(p: Plan, span: u32) -> [u32; 16]
 
 // The time that the worst cases of so many jobs of each task take at a speed.
 fn demand(p: Plan, jobs: &[u32; 16], speed: u32) -> u64
-    requires { ⌜ (p .count ≤ 16) × (every inRange (tasksOf p) ≡ true) × (0 < speed) ⌝ }
+    requires { ⌜ (p .count ≤ 16) × (every inRange (tasksOf p) ≡ true) × (0 < speed) × (speed ≤ 1000) ⌝ }
     requires { ⌜ ((i : ℕ) → i < p .count → getD (now jobs) i 0 ≤ 1000000) ⌝ }
-    ensures { λ r. ⌜ r ≡ sumTo (p .count) (λ i. need speed (getD (p .tasks) i noTask .worst) * getD (now (jobs .entry)) i 0) ⌝ }
+    ensures { λ r. ⌜ r ≡ sumTo (p .count) (λ i. taskTime speed (getD (p .tasks) i noTask) * getD (now (jobs .entry)) i 0) ⌝ }
 {
     let count = p.count;
     let mut total: u64 = 0;
     let mut i: usize = 0;
     while i < count {
         let t = p.tasks[i];
-        let ticks = numeric::time_needed(speed, t.worst);
+        let ticks = task_time(speed, t);
         let n = jobs[i];
         total += (ticks as u64) * (n as u64);
         i += 1;
@@ -113,13 +113,14 @@ fn demand(p: Plan, jobs: &[u32; 16], speed: u32) -> u64
     total
 }
 
-// The lowest level whose speed does so much work within a span, or 8.
-fn slowest_for(work: u64, span: u32) -> usize
-    ensures { λ r. ⌜ r ≡ first (λ (speed : ℕ). leb work (span * speed)) baseSpeeds ⌝ }
+// The lowest level whose speed does so much work within a span, or the count of the levels.
+fn slowest_for(speeds: &[u32; 8], levels: usize, work: u64, span: u32) -> usize
+    requires { ⌜ Table (now speeds) levels ⌝ }
+    ensures { λ r. ⌜ r ≡ first (λ (speed : ℕ). leb work (span * speed)) (loaded (now (speeds .entry)) levels) ⌝ }
 {
     let mut lowest: usize = 0;
-    while lowest < 8 {
-        let speed = speed_of(lowest);
+    while lowest < levels {
+        let speed = speeds[lowest];
         if work <= (span as u64) * (speed as u64) {
             return lowest;
         }
@@ -128,17 +129,19 @@ fn slowest_for(work: u64, span: u32) -> usize
     lowest
 }
 
-// The lowest level that admits a plan of this hyperperiod, or 8. A level too slow for the plain work is passed over at once.
-fn nominal_of(p: Plan, span: u32) -> usize
+// The lowest level that admits a plan of this hyperperiod, or the count of the levels. A level too slow for the plain work is
+// passed over at once.
+fn nominal_of(speeds: &[u32; 8], levels: usize, p: Plan, span: u32) -> usize
+    requires { ⌜ Table (now speeds) levels ⌝ }
     requires { ⌜ (p .count ≤ 16) × (every inRange (tasksOf p) ≡ true) ⌝ }
     requires { ⌜ (span ≡ hyperperiod (tasksOf p)) × (span ≤ 1000000) ⌝ }
-    ensures { λ r. ⌜ r ≡ nominal baseSpeeds (tasksOf p) ⌝ }
+    ensures { λ r. ⌜ r ≡ nominal (loaded (now (speeds .entry)) levels) (tasksOf p) ⌝ }
 {
     let jobs = jobs_within(p, span);
     let work = demand(p, &jobs, 1);
-    let mut level = slowest_for(work, span);
-    while level < 8 {
-        let speed = speed_of(level);
+    let mut level = slowest_for(speeds, levels, work, span);
+    while level < levels {
+        let speed = speeds[level];
         if demand(p, &jobs, speed) <= (span as u64) {
             return level;
         }
@@ -148,9 +151,11 @@ fn nominal_of(p: Plan, span: u32) -> usize
 }
 
 // The questions 6, 7 and 8.
-pub fn verdict_of(p: Plan) -> Verdict
-    requires { ⌜ p .count ≤ 16 ⌝ }
-    ensures { λ r. ⌜ r ≡ answered (firstNo (taskQuestions baseSpeeds (tasksOf p))) baseSpeeds (tasksOf p) ⌝ }
+pub fn verdict_of(speeds: &[u32; 8], levels: usize, p: Plan) -> Verdict
+    requires { ⌜ (p .count ≤ 16) × Table (now speeds) levels ⌝ }
+    ensures { λ r. ⌜ r ≡ answered
+        (firstNo (taskQuestions (loaded (now (speeds .entry)) levels) (tasksOf p)))
+        (loaded (now (speeds .entry)) levels) (tasksOf p) ⌝ }
 {
     if !in_range(p) {
         return Verdict::Refused(6);
@@ -159,8 +164,8 @@ pub fn verdict_of(p: Plan) -> Verdict
     if span > 1000000 {
         return Verdict::Refused(7);
     }
-    let level = nominal_of(p, span);
-    if level >= 8 {
+    let level = nominal_of(speeds, levels, p, span);
+    if level >= levels {
         return Verdict::Refused(8);
     }
     Verdict::Admitted {

@@ -5,7 +5,6 @@ use mathlib.Core.Path.{_≡_, sym, ap, _∙_}
 use mathlib.Core.List.{List, []}
 use native.Mathlib.Omega.{arith}
 use borrow.Author.Tests.{le-leb, lt-leb}
-use native.Mathlib.Nat.{not-suc-le-zero}
 use lib.ListN.{length, getD, take, set}
 use lib.Seq.{length-take-le}
 use Rattle.arith.specs.Arrays.{padded}
@@ -15,7 +14,7 @@ use Rattle.plan.specs.declared.Plan.{Plan}
 use Rattle.plan.specs.declared.Judged.{Judged}
 use Rattle.plan.specs.declared.Verdict.{Verdict}
 use Rattle.plan.specs.declared.Verdict.the-variants as verdict
-use Rattle.plan.specs.Answers.{judgedBy, judgedPlan, answered}
+use Rattle.plan.specs.Answers.{judgedBy, judgedPlan, refusedWith, answered}
 use Rattle.plan.specs.Blocks.{noTask, planOf, tasksOf}
 use Rattle.plan.specs.Questions.{taskQuestions, judging}
 use Rattle.arith.proofs.ArrayLaws.{taken-more}
@@ -48,14 +47,9 @@ module _ {l : List Task} {count : ℕ} {q : Plan} {i : ℕ} (at : Filled l count
       let tasks : q .tasks ≡ padded 16 noTask (take count l) = at .tasks ∙ ap (λ (n : ℕ). padded 16 noTask (take n l)) e in
       λ j. record { count = counts j; tasks = tasks j }
 
--- a refusal, whatever the tasks are
-pub refused-is :
-    (n : ℕ) (q : Plan) (speeds : List ℕ) (ts : List Task) →
-    0 < n →
-    q ≡ planOf [] →
-    _≡_ {A = Judged} (record { verdict = verdict.Refused n; plan = q }) (judgedBy n speeds ts)
-refused-is zero q speeds ts h e = absurd (not-suc-le-zero h)
-refused-is (suc n) q speeds ts h e = λ i. record { verdict = verdict.Refused (suc n); plan = e i }
+-- a refusal
+pub refused-is : (n : ℕ) {q : Plan} → q ≡ planOf [] → _≡_ {A = Judged} (record { verdict = verdict.Refused n; plan = q }) (refusedWith n)
+refused-is n e = λ i. record { verdict = verdict.Refused n; plan = e i }
 
 -- a verdict, and the plan beside it
 module _ (speeds : List ℕ) (ts : List Task) {v : Verdict} {q : Plan} where
@@ -89,6 +83,17 @@ module _ (speeds : List ℕ) (ts : List Task) where
   count-good count a b = simp (le-leb 1 count a, le-leb count 16 b)
 
 -- what judges a plan, where the first no is known
-pub judged-by :
-    (speeds : List ℕ) (p : Plan) {n : ℕ} → firstNo (judging speeds (p .count) (tasksOf p)) ≡ n → judgedBy n speeds (tasksOf p) ≡ judgedPlan speeds p
-judged-by speeds p e = sym (ap (λ (n : ℕ). judgedBy n speeds (tasksOf p)) e)
+module _ (speeds : List ℕ) (p : Plan) {r : Judged} where
+  pub judged-by : (n : ℕ) → r ≡ judgedBy n speeds (tasksOf p) → firstNo (judging speeds (p .count) (tasksOf p)) ≡ n → r ≡ judgedPlan speeds p
+  judged-by n a e = a ∙ sym (ap (λ (k : ℕ). judgedBy k speeds (tasksOf p)) e)
+
+  pub judged-low : r ≡ refusedWith 3 → p .count < 1 → r ≡ judgedPlan speeds p
+  judged-low a h = judged-by 3 a (count-low speeds (tasksOf p) (p .count) h)
+
+  pub judged-high : r ≡ refusedWith 3 → 16 < p .count → r ≡ judgedPlan speeds p
+  judged-high a h = judged-by 3 a (count-high speeds (tasksOf p) (p .count) h)
+
+  pub judged-good :
+      r ≡ judgedBy (firstNo (taskQuestions speeds (tasksOf p))) speeds (tasksOf p) → 1 ≤ p .count → p .count ≤ 16 → r ≡ judgedPlan speeds p
+  judged-good a l h =
+      judged-by (firstNo (taskQuestions speeds (tasksOf p))) a (count-good speeds (tasksOf p) (p .count) l h)

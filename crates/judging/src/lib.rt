@@ -6,12 +6,13 @@ use plan::Task;
 use plan::Verdict;
 ghost use mathlib.Core.Path.{_≡_};
 ghost use mathlib.Core.List.{[]};
-ghost use Prim.Native.Nat.{_<_, _≤_};
-ghost use Rattle.plan.specs.Levels.{baseSpeeds, hyperperiod, nominal};
+ghost use Prim.Native.Nat.{_≤_};
+ghost use Rattle.plan.specs.Levels.{baseSpeeds};
 ghost use Rattle.plan.specs.Questions.{taskQuestions};
 ghost use Rattle.arith.specs.Asking.{firstNo};
 ghost use Rattle.plan.specs.Blocks.{tasksOf, planOf};
-ghost use Rattle.plan.specs.Answers.{judgedBy, judgedPlan};
+ghost use Rattle.plan.specs.Answers.{judgedBy, judgedPlan, refusedWith};
+ghost use Rattle.levels.specs.Code.{loaded, Table};
 
 pub fn empty_plan() -> Plan
     ensures { λ r. ⌜ r ≡ planOf [] ⌝ }
@@ -44,8 +45,7 @@ pub fn cleared(p: Plan) -> Plan
 
 // A refusal, with a plan that is zero throughout.
 pub fn refused(n: u32) -> Judged
-    requires { ⌜ 0 < n ⌝ }
-    ensures { λ r. ⌜ r ≡ judgedBy n baseSpeeds [] ⌝ }
+    ensures { λ r. ⌜ r ≡ refusedWith n ⌝ }
 {
     Judged {
         verdict: Verdict::Refused(n),
@@ -54,11 +54,13 @@ pub fn refused(n: u32) -> Judged
 }
 
 // A verdict with the plan that stands beside it.
-pub fn judged_with(p: Plan) -> Judged
-    requires { ⌜ p .count ≤ 16 ⌝ }
-    ensures { λ r. ⌜ r ≡ judgedBy (firstNo (taskQuestions baseSpeeds (tasksOf p))) baseSpeeds (tasksOf p) ⌝ }
+pub fn judged_with(speeds: &[u32; 8], levels: usize, p: Plan) -> Judged
+    requires { ⌜ (p .count ≤ 16) × Table (now speeds) levels ⌝ }
+    ensures { λ r. ⌜ r ≡ judgedBy
+        (firstNo (taskQuestions (loaded (now (speeds .entry)) levels) (tasksOf p)))
+        (loaded (now (speeds .entry)) levels) (tasksOf p) ⌝ }
 {
-    let v = verdict_of(p);
+    let v = verdict_of(speeds, levels, p);
     match v {
         Verdict::Refused(_) => Judged {
             verdict: v,
@@ -74,9 +76,10 @@ pub fn judged_with(p: Plan) -> Judged
     }
 }
 
-// A plan judged: the questions 3, 6, 7, 8.
-pub fn judge(p: Plan) -> Judged
-    ensures { λ r. ⌜ r ≡ judgedPlan baseSpeeds p ⌝ }
+// A plan judged over a table of speeds: the questions 3, 6, 7, 8.
+pub fn judge_over(speeds: &[u32; 8], levels: usize, p: Plan) -> Judged
+    requires { ⌜ Table (now speeds) levels ⌝ }
+    ensures { λ r. ⌜ r ≡ judgedPlan (loaded (now (speeds .entry)) levels) p ⌝ }
 {
     let count = p.count;
     if count < 1 {
@@ -85,5 +88,13 @@ pub fn judge(p: Plan) -> Judged
     if count > 16 {
         return refused(3);
     }
-    judged_with(p)
+    judged_with(speeds, levels, p)
+}
+
+// A plan judged over 01's levels.
+pub fn judge(p: Plan) -> Judged
+    ensures { λ r. ⌜ r ≡ judgedPlan baseSpeeds p ⌝ }
+{
+    let speeds = levels::base();
+    judge_over(&speeds, levels::LEVELS, p)
 }

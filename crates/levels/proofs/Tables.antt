@@ -1,7 +1,7 @@
 -- The speeds of a table: how many they are, each by its level, and their range.
 -- Assumes nothing.
 use Prim.Native.Nat.{ℕ, _<_, _≤_}
-use mathlib.Core.Path.{_≡_, refl, sym, subst}
+use mathlib.Core.Path.{_≡_, refl, sym, subst, ap}
 use mathlib.Core.List.{List}
 use native.Mathlib.Decide.{ℕ-discrete}
 use native.Mathlib.Omega.{arith}
@@ -27,7 +27,11 @@ module _ {held : List ℕ} {levels : ℕ} (t : Table held levels) where
     pub speed-most : getD held level 0 ≤ 1000
     speed-most = t .most level h
 
--- 01's speeds are a table of eight levels
+-- 01's speeds, handed over
+pub loaded-base : {held : List ℕ} → held ≡ baseSpeeds → loaded held 8 ≡ baseSpeeds
+loaded-base e = ap (λ (l : List ℕ). loaded l 8) e
+
+-- they are a table of eight levels
 pub base-table : Table baseSpeeds 8
 base-table = record { size = refl; few = omega arith; rising = baseRising; most = most }
   where

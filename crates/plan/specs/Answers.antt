@@ -38,6 +38,10 @@ beside (suc n) ts = planOf []
 abbrev pub judgedBy : ℕ → List ℕ → List Task → Judged
 judgedBy n speeds ts = record { verdict = answered n speeds ts; plan = beside n ts }
 
+-- a refusal: its number "is all that is returned"
+abbrev pub refusedWith : ℕ → Judged
+refusedWith n = record { verdict = verdict.Refused n; plan = planOf [] }
+
 -- a list of tasks judged
 abbrev pub judgedList : List ℕ → ℕ → List Task → Judged
 judgedList speeds count ts = judgedBy (firstNo (judging speeds count ts)) speeds ts

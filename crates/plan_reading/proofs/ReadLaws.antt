@@ -3,7 +3,7 @@
 use Prim.Native.Nat.{ℕ, zero, suc, _+_, _-_, _*_, _<_, _≤_}
 use mathlib.Core.Bool.{true}
 use mathlib.Core.Path.{_≡_, refl, sym, ap, _∙_}
-use mathlib.Core.List.{List, [], _∷_}
+use mathlib.Core.List.{List, _∷_}
 use native.Mathlib.Omega.{arith}
 use borrow.Author.Tests.{le-leb, lt-leb, eq-eqb, ne-eqb}
 use lib.Dec.{eqb}
@@ -20,7 +20,7 @@ use Rattle.plan.specs.declared.Written.the-variants as written
 use Rattle.plan.specs.Blocks.{bitCount, blockLength, editionIn, countIn, closingBits, taskFrom, tasksFrom, tasksIn, tasksOf, planOf, noTask}
 use Rattle.plan.specs.Questions.{countQuestion, taskQuestions, reading}
 use Rattle.arith.specs.Asking.{Question, ask, firstNo}
-use Rattle.plan.specs.Answers.{judgedBy, readBlock}
+use Rattle.plan.specs.Answers.{judgedBy, refusedWith, readBlock}
 use Rattle.judging.proofs.Judgements.{Filled, filled-all}
 use Rattle.arith.proofs.QuestionLaws.{within-true, ask-no, ask-yes, within-over, within-under}
 use Rattle.plan.proofs.BlockBits.{length-tasksFrom, tasksFrom-at, closing-zero}
@@ -61,13 +61,13 @@ module _ (bits : List ℕ) (count : ℕ) where
 
 -- a refusal's number is all that is told, whatever the tasks are
 pub refused-as :
-    (speeds : List ℕ) (ts us : List Task) {r : Judged} {number n : ℕ} →
-    r ≡ judgedBy n speeds ts →
+    (speeds : List ℕ) (ts : List Task) {r : Judged} {number n : ℕ} →
+    r ≡ refusedWith n →
     0 < n →
     number ≡ n →
-    r ≡ judgedBy number speeds us
-refused-as speeds ts us {n = zero} a h e = absurd (omega arith)
-refused-as speeds ts us {n = suc n} a h e = a ∙ sym (ap (λ (k : ℕ). judgedBy k speeds us) e)
+    r ≡ judgedBy number speeds ts
+refused-as speeds ts {n = zero} a h e = absurd (omega arith)
+refused-as speeds ts {n = suc n} a h e = a ∙ sym (ap (λ (k : ℕ). judgedBy k speeds ts) e)
 
 -- the questions that a block is asked past its count
 abbrev sized : List ℕ → List ℕ → List Question
@@ -78,15 +78,15 @@ sized speeds block =
 
 -- each way out of reading a block, by the first no of its questions
 module _ (speeds block : List ℕ) {r : Judged} where
-  refused-at : (n : ℕ) → r ≡ judgedBy (suc n) speeds [] → firstNo (reading speeds block) ≡ suc n → r ≡ readBlock speeds block
-  refused-at n a e = refused-as speeds [] (tasksIn block) a (omega arith) e
+  refused-at : (n : ℕ) → r ≡ refusedWith (suc n) → firstNo (reading speeds block) ≡ suc n → r ≡ readBlock speeds block
+  refused-at n a e = refused-as speeds (tasksIn block) a (omega arith) e
 
-  pub read-short : r ≡ judgedBy 1 speeds [] → length block < 2 → r ≡ readBlock speeds block
+  pub read-short : r ≡ refusedWith 1 → length block < 2 → r ≡ readBlock speeds block
   read-short a h = refused-at 0 a (ask-no 1 _ (lt-leb 2 (length block) h))
 
   pub read-edition :
       {x : ℕ} →
-      r ≡ judgedBy 2 speeds [] →
+      r ≡ refusedWith 2 →
       2 ≤ length block →
       x ≡ editionIn block →
       (x ≡ 1 → ⊥) →
@@ -104,10 +104,10 @@ module _ (speeds : List ℕ) {block : List ℕ} {count : ℕ} (o : Opened block 
   opened : (m : ℕ) → firstNo (countQuestion (countIn block) ∷ sized speeds block) ≡ m → firstNo (reading speeds block) ≡ m
   opened m h = ask-yes 1 (le-leb 2 (length block) (o .long)) (ask-yes 2 (eq-eqb (editionIn block) 1 (o .edition)) h)
 
-  pub read-low : {r : Judged} → r ≡ judgedBy 3 speeds [] → count < 1 → r ≡ readBlock speeds block
+  pub read-low : {r : Judged} → r ≡ refusedWith 3 → count < 1 → r ≡ readBlock speeds block
   read-low a h = refused-at speeds block 2 a (opened 3 (ask-no 3 _ (within-under 1 16 (countIn block) (omega arith))))
 
-  pub read-high : {r : Judged} → r ≡ judgedBy 3 speeds [] → 16 < count → r ≡ readBlock speeds block
+  pub read-high : {r : Judged} → r ≡ refusedWith 3 → 16 < count → r ≡ readBlock speeds block
   read-high a h = refused-at speeds block 2 a (opened 3 (ask-no 3 _ (within-over 1 16 (countIn block) (omega arith))))
 
 -- 3 is answered yes too
@@ -122,7 +122,7 @@ module _ (speeds : List ℕ) {block : List ℕ} {count : ℕ} (c : Counted block
 
   pub read-size :
       {r : Judged} {n : ℕ} →
-      r ≡ judgedBy 4 speeds [] →
+      r ≡ refusedWith 4 →
       n ≡ blockLength count →
       (length block ≡ n → ⊥) →
       r ≡ readBlock speeds block
@@ -146,7 +146,7 @@ module _ (speeds : List ℕ) {block : List ℕ} {count x : ℕ} (c : Closing blo
       let bits : ℕ → ℕ = λ k. number 2 (8 * length block - bitCount k) (drop (bitCount k) (unpacked block)) in
       closing-zero block ∙ sym (ap (λ (m : ℕ). eqb m 0) (c .closing ∙ ap bits (c .counts .opens .counted)))
 
-  pub read-closing : {r : Judged} → r ≡ judgedBy 5 speeds [] → (x ≡ 0 → ⊥) → r ≡ readBlock speeds block
+  pub read-closing : {r : Judged} → r ≡ refusedWith 5 → (x ≡ 0 → ⊥) → r ≡ readBlock speeds block
   read-closing a h =
       refused-at speeds block 4 a (counted speeds (c .counts) 5 (ask-yes 4 four (ask-no 5 _ (five ∙ ne-eqb x 0 h))))
 

@@ -12,6 +12,7 @@ ghost use Rattle.arith.specs.Bits.{unpacked};
 ghost use Rattle.plan.specs.Levels.{baseSpeeds};
 ghost use Rattle.plan.specs.Blocks.{tasksFrom, taskFrom, planOf, bitCount, blockLength, editionIn, countIn};
 ghost use Rattle.plan.specs.Answers.{readBlock};
+ghost use Rattle.levels.specs.Code.{loaded, Table};
 
 // Task i of a block.
 fn task_in(block: &[u8], i: usize) -> Task
@@ -48,22 +49,24 @@ pub fn block_length(count: usize) -> usize
 }
 
 // Questions 5 to 8, of a block of which 1 to 4 are answered yes.
-fn read_counted(block: &[u8], count: usize) -> Judged
+fn read_counted(speeds: &[u32; 8], levels: usize, block: &[u8], count: usize) -> Judged
+    requires { ⌜ Table (now speeds) levels ⌝ }
     requires { ⌜ (editionIn (now block) ≡ 1) × (count ≡ countIn (now block)) ⌝ }
     requires { ⌜ (1 ≤ count) × (count ≤ 16) × (length (now block) ≡ blockLength count) ⌝ }
-    ensures { λ r. ⌜ r ≡ readBlock baseSpeeds (now (block .entry)) ⌝ }
+    ensures { λ r. ⌜ r ≡ readBlock (loaded (now (speeds .entry)) levels) (now (block .entry)) ⌝ }
 {
     let used = 9 + 36 * count;
     let closing = numeric::bits_at(block, used, 8 * block.len() - used);
     if closing != 0 {
         return refused(5);
     }
-    judged_with(plan_in(block, count))
+    judged_with(speeds, levels, plan_in(block, count))
 }
 
-// A block read: the questions 1 to 8.
-pub fn read(block: &[u8]) -> Judged
-    ensures { λ r. ⌜ r ≡ readBlock baseSpeeds (now (block .entry)) ⌝ }
+// A block read over a table of speeds: the questions 1 to 8.
+pub fn read_over(speeds: &[u32; 8], levels: usize, block: &[u8]) -> Judged
+    requires { ⌜ Table (now speeds) levels ⌝ }
+    ensures { λ r. ⌜ r ≡ readBlock (loaded (now (speeds .entry)) levels) (now (block .entry)) ⌝ }
 {
     if block.len() < 2 {
         return refused(1);
@@ -81,5 +84,13 @@ pub fn read(block: &[u8]) -> Judged
     if block.len() != block_length(count) {
         return refused(4);
     }
-    read_counted(block, count)
+    read_counted(speeds, levels, block, count)
+}
+
+// A block read over 01's levels.
+pub fn read(block: &[u8]) -> Judged
+    ensures { λ r. ⌜ r ≡ readBlock baseSpeeds (now (block .entry)) ⌝ }
+{
+    let speeds = levels::base();
+    read_over(&speeds, levels::LEVELS, block)
 }

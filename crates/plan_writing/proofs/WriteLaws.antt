@@ -141,7 +141,7 @@ module _ (speeds : List ℕ) (p : Plan) where
   write-fits room e h = write-last room e ∙ ask-yes 9 (le-leb (length (planBlock (tasksOf p))) room h) refl
 
 -- each way out of writing a plan
-abbrev Wrote : List ℕ → Plan → List ℕ → Written → List ℕ → Type 0
+abbrev pub Wrote : List ℕ → Plan → List ℕ → Written → List ℕ → Type 0
 Wrote speeds p buffer r m = Leaves (writeNumber speeds p (length buffer)) (planBlock (tasksOf p)) buffer r m
 
 module _ (speeds : List ℕ) (p : Plan) (buffer : List ℕ) where
@@ -199,7 +199,7 @@ module _ (speeds block : List ℕ) where
   abbrev room-asked : ℕ → List Question
   room-asked room = roomQuestion (length block) room ∷ []
 
-  abbrev Copied : List ℕ → Written → List ℕ → Type 0
+  abbrev pub Copied : List ℕ → Written → List ℕ → Type 0
   Copied buffer r m = Leaves (firstNo (reading speeds block ++ room-asked (length buffer))) block buffer r m
 
   -- accepted: its plan's block is the block itself, and its plan is accepted too
@@ -253,7 +253,12 @@ module _ (speeds block : List ℕ) where
       leaves-refused (firstNo (reading speeds block ++ room-asked (length buffer))) n block buffer (t .0)
       (no-before (reading speeds block) (room-asked (length buffer)) n (t .0) (t .1))
 
--- a plan written: the front of the buffer is its block, which reads back
+-- a plan written and read back
+abbrev pub Reread : List ℕ → Plan → List ℕ → Judged → List ℕ → Type 0
+Reread speeds p buffer r m =
+    (r ≡ judgedBy (writeNumber speeds p (length buffer)) speeds (tasksOf p)) × (m ≡ writeBuffer speeds p buffer)
+
+-- the front of the buffer is its block, which reads back
 pub record Rewritten (speeds : List ℕ) (p : Plan) (buffer m : List ℕ) (n : ℕ) : Type 0 where
   pub number : writeNumber speeds p (length buffer) ≡ 0
   pub wanted : n ≡ length (planBlock (tasksOf p))

@@ -6,13 +6,14 @@ use plan::Plan;
 use plan::Verdict;
 use plan::Written;
 use plan_reading::block_length;
-use plan_reading::read;
+use plan_reading::read_over;
 ghost use mathlib.Core.Path.{_≡_};
 ghost use Prim.Native.Nat.{_+_, _*_, _/_, _%_, _^_, _<_, _≤_};
 ghost use lib.ListN.{length, drop, getD};
 ghost use Rattle.arith.specs.Digits.{number};
 ghost use Rattle.plan.specs.Levels.{baseSpeeds};
 ghost use Rattle.plan.specs.Blocks.{tasksOf, planBits, planBlock, blockLength};
+ghost use Rattle.levels.specs.Code.{loaded, Table};
 ghost use Rattle.plan.specs.Answers.{writePlan, writeBuffer, writtenBy, storedBy, writeNumber, judgedBy, copyNumber};
 
 // Bit k of a number, counted from its lowest.
@@ -82,10 +83,11 @@ fn put_block(p: Plan, buffer: &mut [u8])
     }
 }
 
-// A plan written: the questions 3, 6, 7, 8, then 9.
-pub fn write(p: Plan, buffer: &mut [u8]) -> Written
-    ensures { λ r. ⌜ r ≡ writePlan baseSpeeds p (length (now (buffer .entry))) ⌝ }
-    ensures { λ _. ⌜ now (buffer .exit) ≡ writeBuffer baseSpeeds p (now (buffer .entry)) ⌝ }
+// A plan written over a table of speeds: the questions 3, 6, 7, 8, then 9.
+pub fn write_over(speeds: &[u32; 8], levels: usize, p: Plan, buffer: &mut [u8]) -> Written
+    requires { ⌜ Table (now speeds) levels ⌝ }
+    ensures { λ r. ⌜ r ≡ writePlan (loaded (now (speeds .entry)) levels) p (length (now (buffer .entry))) ⌝ }
+    ensures { λ _. ⌜ now (buffer .exit) ≡ writeBuffer (loaded (now (speeds .entry)) levels) p (now (buffer .entry)) ⌝ }
 {
     let count = p.count;
     if count < 1 {
@@ -94,7 +96,7 @@ pub fn write(p: Plan, buffer: &mut [u8]) -> Written
     if count > 16 {
         return Written::Refused(3);
     }
-    let v = verdict_of(p);
+    let v = verdict_of(speeds, levels, p);
     if let Verdict::Refused(n) = v {
         return Written::Refused(n);
     }
@@ -106,6 +108,15 @@ pub fn write(p: Plan, buffer: &mut [u8]) -> Written
     Written::Bytes(wanted)
 }
 
+// A plan written over 01's levels.
+pub fn write(p: Plan, buffer: &mut [u8]) -> Written
+    ensures { λ r. ⌜ r ≡ writePlan baseSpeeds p (length (now (buffer .entry))) ⌝ }
+    ensures { λ _. ⌜ now (buffer .exit) ≡ writeBuffer baseSpeeds p (now (buffer .entry)) ⌝ }
+{
+    let speeds = levels::base();
+    write_over(&speeds, levels::LEVELS, p, buffer)
+}
+
 // A block read and written again: the very same bytes, where the reading accepts it and there is room.
 pub fn copy(block: &[u8], buffer: &mut [u8]) -> Written
     ensures { λ r. ⌜ r ≡ writtenBy
@@ -115,13 +126,14 @@ pub fn copy(block: &[u8], buffer: &mut [u8]) -> Written
         (copyNumber baseSpeeds (now (block .entry)) (length (now (buffer .entry))))
         (now (block .entry)) (now (buffer .entry)) ⌝ }
 {
-    let j = read(block);
+    let speeds = levels::base();
+    let j = read_over(&speeds, levels::LEVELS, block);
     let v = j.verdict;
     if let Verdict::Refused(n) = v {
         return Written::Refused(n);
     }
     let p = j.plan;
-    write(p, buffer)
+    write_over(&speeds, levels::LEVELS, p, buffer)
 }
 
 // A plan written and read back: judged as the plan itself is, where there is room for its block.
@@ -129,9 +141,10 @@ pub fn reread(p: Plan, buffer: &mut [u8]) -> Judged
     ensures { λ r. ⌜ r ≡ judgedBy (writeNumber baseSpeeds p (length (now (buffer .entry)))) baseSpeeds (tasksOf p) ⌝ }
     ensures { λ _. ⌜ now (buffer .exit) ≡ writeBuffer baseSpeeds p (now (buffer .entry)) ⌝ }
 {
-    let w = write(p, buffer);
+    let speeds = levels::base();
+    let w = write_over(&speeds, levels::LEVELS, p, buffer);
     match w {
         Written::Refused(n) => refused(n),
-        Written::Bytes(n) => read(&buffer[..n]),
+        Written::Bytes(n) => read_over(&speeds, levels::LEVELS, &buffer[..n]),
     }
 }

@@ -5,7 +5,7 @@ use mathlib.Core.Path.{refl}
 use native.Mathlib.Omega.{arith}
 use borrow.Author.Needs.{needs}
 use Rattle.arith.proofs.Loops.{length-mapped}
-use Rattle.admission.proofs.Admissions.{Asked, Added, Summed, added-small, summed-more, summed-all}
+use Rattle.admission.proofs.Admissions.{Asked, Added, Summed, task-at, added-small, summed-more, summed-all}
 use Rattle.admission.proofs.demand.Statement.{statement}
 use Rattle.admission.proofs.demand.Tie as tie
 
@@ -24,14 +24,14 @@ asked c =
     }
 
 -- this turn's part of the sum
-abbrev start : tie.After-time-needed Inv-loop μ-loop → tie.Start Inv-loop μ-loop
+abbrev start : tie.After-task-time Inv-loop μ-loop → tie.Start Inv-loop μ-loop
 start c = c .before .before .before .before
 
-abbrev turn : tie.After-time-needed Inv-loop μ-loop → tie.At-loop Inv-loop μ-loop
+abbrev turn : tie.After-task-time Inv-loop μ-loop → tie.At-loop Inv-loop μ-loop
 turn c = c .before .before .before
 
-added : (c : tie.After-time-needed Inv-loop μ-loop) → Added (start c .args .t1) (start c .args .jobs .now) (start c .args .speed) (turn c .loop .i) (c .time-needed .result)
-added c = record { asked = asked (start c); below = omega arith; needed = c .time-needed .ensures }
+added : (c : tie.After-task-time Inv-loop μ-loop) → Added (start c .args .t1) (start c .args .jobs .now) (start c .args .speed) (turn c .loop .i) (c .task-time .result)
+added c = record { asked = asked (start c); below = omega arith; needed = c .task-time .ensures }
 
 loop-holds : tie.Need-loop-holds Inv-loop μ-loop
 loop-holds c = record { within = omega arith; sum = refl; small = omega arith }
@@ -42,8 +42,10 @@ mul-t c = omega arith
 element-copy-out-t : tie.Need-element-copy-out-t Inv-loop μ-loop
 element-copy-out-t c = omega arith
 
-time-needed-requires : tie.Need-time-needed-requires Inv-loop μ-loop
-time-needed-requires c κs = asked (c .before .before .before) .positive
+task-time-requires : tie.Need-task-time-requires Inv-loop μ-loop
+task-time-requires c κs =
+    let s = c .before .before .before in
+    (s .pre .0 .2, s .pre .0 .3, omega (arith, task-at (asked s .plan) (c .before .before .loop .i) (omega arith) .worst-high))
 
 mul-n : tie.Need-mul-n Inv-loop μ-loop
 mul-n c = omega arith
@@ -52,7 +54,7 @@ element-copy-out-n : tie.Need-element-copy-out-n Inv-loop μ-loop
 element-copy-out-n c = omega arith
 
 cast-total : tie.Need-cast-total Inv-loop μ-loop
-cast-total c = omega (arith, c .before .time-needed .ok)
+cast-total c = omega (arith, c .before .task-time .ok)
 
 cast-total-2 : tie.Need-cast-total-2 Inv-loop μ-loop
 cast-total-2 c = omega (arith, asked (start (c .before)) .few (turn (c .before) .loop .i) (added (c .before) .below))
@@ -84,7 +86,7 @@ demand-spec =
     loop-holds
     mul-t
     element-copy-out-t
-    time-needed-requires
+    task-time-requires
     mul-n
     element-copy-out-n
     cast-total

@@ -3,7 +3,7 @@
 use borrow.Author.Needs.{needs}
 use Rattle.arith.specs.Asking.{firstNo}
 use Rattle.plan.specs.Blocks.{tasksOf}
-use Rattle.plan.specs.Levels.{baseSpeeds}
+use Rattle.levels.specs.Code.{loaded}
 use Rattle.plan.specs.Questions.{taskQuestions}
 use Rattle.judging.proofs.Judgements.{beside-refused, beside-admitted}
 use Rattle.judging.proofs.judged_with.Statement.{statement}
@@ -27,14 +27,18 @@ cleared-requires c κs = search needs
 returns : tie.Need-returns
 returns c =
     let judged = c .before .before .before in
-    let ts = tasksOf (judged .before .args .p) in
-    beside-refused baseSpeeds ts (firstNo (taskQuestions baseSpeeds ts)) (judged .verdict-of .ensures) (c .before .enum-told .given .1) (c .empty-plan .ensures)
+    let s = judged .before in
+    let ts = tasksOf (s .args .p) in
+    let speeds = loaded (s .args .speeds .now) (s .args .levels) in
+    beside-refused speeds ts (firstNo (taskQuestions speeds ts)) (judged .verdict-of .ensures) (c .before .enum-told .given .1) (c .empty-plan .ensures)
 
 returns-2 : tie.Need-returns-2
 returns-2 c =
     let judged = c .before .before .before in
-    let ts = tasksOf (judged .before .args .p) in
-    beside-admitted baseSpeeds ts (firstNo (taskQuestions baseSpeeds ts)) (judged .verdict-of .ensures) (c .before .enum-told2 .given .1) (c .cleared .ensures)
+    let s = judged .before in
+    let ts = tasksOf (s .args .p) in
+    let speeds = loaded (s .args .speeds .now) (s .args .levels) in
+    beside-admitted speeds ts (firstNo (taskQuestions speeds ts)) (judged .verdict-of .ensures) (c .before .enum-told2 .given .1) (c .cleared .ensures)
 
 pub judged-with-spec : {M : Type 1} → statement M
 judged-with-spec =

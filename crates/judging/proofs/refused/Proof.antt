@@ -1,7 +1,5 @@
 -- `refused` meets its contract.
 -- Assumes nothing.
-use mathlib.Core.List.{[]}
-use Rattle.plan.specs.Levels.{baseSpeeds}
 use Rattle.judging.proofs.Judgements.{refused-is}
 use borrow.Author.Needs.{needs}
 use Rattle.judging.proofs.refused.Statement.{statement}
@@ -11,7 +9,7 @@ empty-plan-requires : tie.Need-empty-plan-requires
 empty-plan-requires c κs = search needs
 
 returns : tie.Need-returns
-returns c = refused-is (c .before .args .n) (c .empty-plan .result) baseSpeeds [] (c .before .pre) (c .empty-plan .ensures)
+returns c = refused-is (c .before .args .n) (c .empty-plan .ensures)
 
 pub refused-spec : {M : Type 1} → statement M
 refused-spec = tie.close (tie.spec empty-plan-requires returns)

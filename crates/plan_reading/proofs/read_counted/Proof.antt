@@ -1,12 +1,14 @@
 -- `read_counted` meets its contract.
 -- Assumes nothing.
+use Prim.Native.Nat.{ℕ}
 use mathlib.Core.Path.{ap}
+use mathlib.Core.List.{List}
 use native.Mathlib.Omega.{arith}
 use borrow.Author.Needs.{needs}
 use lib.ListN.{drop}
 use Rattle.arith.specs.Bits.{unpacked}
 use Rattle.plan.specs.declared.Plan.{Plan}
-use Rattle.plan.specs.Levels.{baseSpeeds}
+use Rattle.levels.specs.Code.{loaded}
 use Rattle.plan.proofs.BlockBits.{blockLength-most, blockLength-covers, blockLength-tight, length-tasksFrom}
 use Rattle.plan_reading.proofs.ReadLaws.{Closing, read-closing, read-tasks}
 use Rattle.plan_reading.proofs.read_counted.Statement.{statement}
@@ -15,6 +17,10 @@ use Rattle.plan_reading.proofs.read_counted.Tie as tie
 abbrev start : tie.After-bits-at → tie.Start
 start c = c .before .before
 
+-- the levels' speeds
+abbrev speeds : tie.After-bits-at → List ℕ
+speeds c = loaded (start c .args .speeds .now) (start c .args .levels)
+
 -- the block up to its closing bits
 closing : (c : tie.After-bits-at) → Closing (start c .args .block .now) (start c .args .count) (c .bits-at .result)
 closing c =
@@ -22,11 +28,11 @@ closing c =
     record {
       counts =
           record {
-            opens = record { long = omega (arith, blockLength-covers (s .args .count)); edition = s .pre .0 .0; counted = s .pre .0 .1 };
-            low = s .pre .1 .0;
-            high = s .pre .1 .1;
+            opens = record { long = omega (arith, blockLength-covers (s .args .count)); edition = s .pre .1 .0 .0; counted = s .pre .1 .0 .1 };
+            low = s .pre .1 .1 .0;
+            high = s .pre .1 .1 .1;
           };
-      size = s .pre .1 .2;
+      size = s .pre .1 .1 .2;
       closing = c .bits-at .ensures;
     }
 
@@ -50,23 +56,25 @@ refused-requires : tie.Need-refused-requires
 refused-requires c κs = search needs
 
 returns : tie.Need-returns
-returns c = read-closing baseSpeeds (closing (c .before .before)) (c .refused .ensures) (c .before .if1 .taken)
+returns c = read-closing (speeds (c .before .before)) (closing (c .before .before)) (c .refused .ensures) (c .before .if1 .taken)
 
 plan-in-requires : tie.Need-plan-in-requires
 plan-in-requires c κs = omega (arith, blockLength-covers (start (c .before) .args .count))
 
 judged-with-requires : tie.Need-judged-with-requires
 judged-with-requires c κs =
-    let s = start (c .before .before) in
-    omega (
-      arith,
-      ap (λ (q : Plan). q .count) (c .plan-in .ensures),
-      length-tasksFrom (s .args .count) (drop 9 (unpacked (s .args .block .now))),
+    let s = start (c .before .before) in (
+      omega (
+        arith,
+        ap (λ (q : Plan). q .count) (c .plan-in .ensures),
+        length-tasksFrom (s .args .count) (drop 9 (unpacked (s .args .block .now))),
+      ),
+      s .pre .0,
     )
 
 returns-2 : tie.Need-returns-2
 returns-2 c =
-    read-tasks baseSpeeds (closing (c .before .before .before)) (c .before .before .if1 .left) (c .before .plan-in .ensures) (c .judged-with .ensures)
+    read-tasks (speeds (c .before .before .before)) (closing (c .before .before .before)) (c .before .before .if1 .left) (c .before .plan-in .ensures) (c .judged-with .ensures)
 
 pub read-counted-spec : {M : Type 1} → statement M
 read-counted-spec =
