@@ -7,7 +7,8 @@ use native.Mathlib.Nat.{mul-comm, mul-le-mul}
 use lib.Dec.{leb}
 use lib.ListN.{getD}
 use Rattle.plan.specs.Levels.{speedOf}
-use Rattle.plan.specs.Times.{Rest, timeOf}
+use Rattle.plan.specs.declared.Rest.{Rest}
+use Rattle.plan.specs.Times.{timeOf}
 use Rattle.plan.proofs.TimeLaws.{time-test}
 use Rattle.levels.specs.Code.{loaded, Table}
 use Rattle.levels.proofs.Tables.{speed-is, speed-positive, speed-most}

@@ -12,7 +12,8 @@ use Rattle.arith.specs.Need.{need}
 use Rattle.arith.proofs.Tests.{same-test}
 use Rattle.arith.proofs.Needs.{need-covers, need-least, need-mono, need-faster, need-zero, need-zero-work, need-after, need-le}
 use Rattle.plan.specs.declared.Task.{Task}
-use Rattle.plan.specs.Times.{Rest, whole, noRest, Within, timeOf, worn}
+use Rattle.plan.specs.declared.Rest.{Rest}
+use Rattle.plan.specs.Times.{whole, noRest, Within, timeOf, worn}
 
 -- 1. what has more left needs no less
 pub time-more : (s : ℕ) (a b : Rest) → 0 < s → Within a b → timeOf s a ≤ timeOf s b

@@ -4,10 +4,7 @@
 use Prim.Native.Nat.{ℕ, _-_, _*_, _≤_}
 use Rattle.arith.specs.Need.{need}
 use Rattle.plan.specs.declared.Task.{Task}
-
--- what is left of a job: 01's "work left"
-pub record Rest : Type 0 where
-  pub work : ℕ
+use Rattle.plan.specs.declared.Rest.{Rest}
 
 -- a whole job of a task: "full worst case"
 abbrev pub whole : Task → Rest

@@ -7,6 +7,11 @@ pub struct Task {
     pub worst: u32,
 }
 
+// What is left of a job: its work.
+pub struct Rest {
+    pub work: u32,
+}
+
 // A plan is its first `count` tasks.
 pub struct Plan {
     pub count: usize,

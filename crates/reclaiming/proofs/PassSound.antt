@@ -17,7 +17,8 @@ use Rattle.arith.proofs.Sums.{sumTo-eq}
 use Rattle.arith.proofs.RangeLaws.{length-listTo, getD-listTo, no-none}
 use Rattle.arith.proofs.Searches.{first-le, first-passes}
 use Rattle.plan.specs.declared.Task.{Task}
-use Rattle.plan.specs.Times.{Rest, noRest, timeOf, worn}
+use Rattle.plan.specs.declared.Rest.{Rest}
+use Rattle.plan.specs.Times.{noRest, timeOf, worn}
 use Rattle.plan.specs.Levels.{Rising, speedOf, nominal}
 use Rattle.plan.specs.Blocks.{noTask}
 use Rattle.plan.proofs.Facts.{FineList}

@@ -15,7 +15,8 @@ use Rattle.arith.specs.Asking.{firstNo}
 use Rattle.arith.proofs.Tests.{passed, failed, tested, both-true}
 use Rattle.arith.proofs.QuestionLaws.{ask-yes}
 use Rattle.plan.specs.declared.Task.{Task}
-use Rattle.plan.specs.Times.{Rest, whole, noRest, timeOf, worn}
+use Rattle.plan.specs.declared.Rest.{Rest}
+use Rattle.plan.specs.Times.{whole, noRest, timeOf, worn}
 use Rattle.plan.specs.Levels.{Rising, speedOf, hyperperiod}
 use Rattle.plan.specs.Blocks.{noTask}
 use Rattle.plan.specs.Answers.{storedBy}

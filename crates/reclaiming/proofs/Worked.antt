@@ -14,7 +14,8 @@ use Rattle.arith.specs.Choice.{pick}
 use Rattle.arith.specs.Sum.{sumTo}
 use Rattle.arith.proofs.Tests.{passed, failed, tested}
 use Rattle.plan.specs.declared.Task.{Task}
-use Rattle.plan.specs.Times.{Rest, noRest, Within, timeOf, worn}
+use Rattle.plan.specs.declared.Rest.{Rest}
+use Rattle.plan.specs.Times.{noRest, Within, timeOf, worn}
 use Rattle.plan.specs.Levels.{Rising, speedOf, nominal}
 use Rattle.plan.proofs.TimeLaws.{time-more, time-faster, time-none, time-some, time-after, worn-within, worn-open, none-within, within-self}
 use Rattle.plan.proofs.Facts.{FineList}

@@ -6,7 +6,8 @@ use lib.Dec.{leb, eqb}
 use Rattle.arith.specs.Choice.{pick, first}
 use Rattle.arith.specs.Sum.{sumTo}
 use Rattle.arith.specs.Ranges.{leastTo}
-use Rattle.plan.specs.Times.{Rest, timeOf}
+use Rattle.plan.specs.declared.Rest.{Rest}
+use Rattle.plan.specs.Times.{timeOf}
 use Rattle.plan.specs.Levels.{speedOf}
 use Rattle.schedule.specs.PlainSchedule.{Timing, Pending, deadline, moreUrgent, latest, queueOf}
 use Rattle.reclaiming.specs.declared.Reply.{Reply}

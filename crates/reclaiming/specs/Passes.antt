@@ -8,7 +8,8 @@ use lib.ListN.{length, getD}
 use Rattle.arith.specs.Choice.{pick}
 use Rattle.arith.specs.Ranges.{listTo, someTo}
 use Rattle.plan.specs.declared.Task.{Task}
-use Rattle.plan.specs.Times.{Rest, whole, noRest, worn}
+use Rattle.plan.specs.declared.Rest.{Rest}
+use Rattle.plan.specs.Times.{whole, noRest, worn}
 use Rattle.plan.specs.Levels.{speedOf}
 use Rattle.plan.specs.Blocks.{noTask}
 use Rattle.schedule.specs.PlainSchedule.{Timing, drain, queueOf, leftIn}

@@ -8,7 +8,8 @@ use mathlib.Core.List.{List, [], _∷_}
 use lib.ListN.{length, getD, take}
 use Rattle.arith.specs.Choice.{pick}
 use Rattle.plan.specs.declared.Task.{Task}
-use Rattle.plan.specs.Times.{Rest, whole}
+use Rattle.plan.specs.declared.Rest.{Rest}
+use Rattle.plan.specs.Times.{whole}
 use Rattle.plan.specs.Levels.{speedOf}
 use Rattle.plan.specs.Blocks.{noTask, tasksIn}
 use Rattle.schedule.specs.PlainSchedule.{Timing, Job, Book, latest, after}

@@ -7,7 +7,8 @@ use lib.Dec.{eqb}
 use lib.ListN.{length, getD, drop, replicate}
 use Rattle.arith.specs.Choice.{both}
 use Rattle.plan.specs.declared.Task.{Task}
-use Rattle.plan.specs.Times.{Rest, taskTime}
+use Rattle.plan.specs.declared.Rest.{Rest}
+use Rattle.plan.specs.Times.{taskTime}
 use Rattle.plan.specs.Levels.{speedOf, nominal}
 use Rattle.plan.specs.Blocks.{noTask}
 use Rattle.schedule.specs.PlainSchedule.{Timing}

@@ -1,0 +1,52 @@
+// The time that a job needs, and what ticks leave of it: all that the code knows of how work and speeds make a time.
+use plan::Rest;
+use plan::Task;
+ghost use mathlib.Core.Path.{_≡_};
+ghost use Prim.Native.Nat.{_<_, _≤_};
+ghost use lib.Dec.{leb};
+ghost use Rattle.plan.specs.Times.{timeOf, worn, whole, taskTime};
+
+// A whole job of a task.
+pub fn whole_of(t: Task) -> Rest
+    ensures { λ r. ⌜ r ≡ whole t ⌝ }
+{
+    Rest { work: t.worst }
+}
+
+// The ticks that a job needs at a speed.
+pub fn time_of(speed: u32, rest: Rest) -> u32
+    requires { ⌜ (0 < speed) × (speed ≤ 1000) × (rest .work < 16777216) ⌝ }
+    ensures { λ r. ⌜ r ≡ timeOf speed rest ⌝ }
+{
+    numeric::time_needed(speed, rest.work)
+}
+
+// The ticks that a task's worst case needs at a speed.
+pub fn task_time(speed: u32, t: Task) -> u32
+    requires { ⌜ (0 < speed) × (speed ≤ 1000) × (t .worst < 16777216) ⌝ }
+    ensures { λ r. ⌜ r ≡ taskTime speed t ⌝ }
+{
+    time_of(speed, whole_of(t))
+}
+
+// Whether some ticks at a speed are enough for a job: told by the work that they do, without a division.
+pub fn is_enough(speed: u32, rest: Rest, ticks: u32) -> bool
+    requires { ⌜ (0 < speed) × (speed ≤ 1000) × (ticks ≤ 1048560) ⌝ }
+    ensures { λ r. ⌜ r ≡ leb (timeOf speed rest) ticks ⌝ }
+{
+    rest.work <= speed * ticks
+}
+
+// What so many ticks at a speed leave of a job.
+pub fn worn_by(speed: u32, ticks: u32, rest: Rest) -> Rest
+    requires { ⌜ (speed ≤ 1000) × (ticks ≤ 65535) ⌝ }
+    ensures { λ r. ⌜ r ≡ worn speed ticks rest ⌝ }
+{
+    let done = ticks * speed;
+    if rest.work < done {
+        return Rest { work: 0 };
+    }
+    Rest {
+        work: rest.work - done,
+    }
+}
