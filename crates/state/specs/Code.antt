@@ -3,30 +3,61 @@
 use Prim.Native.Nat.{ℕ, zero, suc, _+_, _*_, _≤_}
 use mathlib.Core.Path.{_≡_}
 use mathlib.Core.Bool.{Bool, true}
-use mathlib.Core.List.{List}
+use mathlib.Core.List.{List, [], _∷_}
 use lib.Dec.{eqb}
-use lib.ListN.{length, drop, getD}
+use lib.ListN.{length, take, drop, getD}
+use lib.Seq.{sets}
 use Rattle.arith.specs.Choice.{pick, both}
-use Rattle.arith.specs.Digits.{number}
+use Rattle.arith.specs.Digits.{number, digits}
 use Rattle.schedule.specs.PlainSchedule.{Timing}
 use Rattle.reclaiming.specs.declared.Entry.{Entry}
-use Rattle.reclaiming.specs.StateBlock.{State, noEntry, entryFrom, decode, planIn, timing}
+use Rattle.reclaiming.specs.Fields.{Field, field, zeros, fieldsBytes, widthOf, offsetOf}
+use Rattle.reclaiming.specs.StateBlock.{State, noEntry, headFields, entryFields, pairField, places, headLength, entryLength, stateLength}
+use Rattle.reclaiming.specs.StateBlock.{entryFrom, stateCount, decode, planIn, timing}
 use Rattle.arith.specs.Ranges.{listTo}
 use Rattle.plan.specs.Levels.{baseSpeeds}
 
--- bytes that may hold a state: 200 of them, of at most 16 tasks
+-- bytes that may hold a state: as many as one has, of at most 16 tasks
 pub record Holds (bytes : List ℕ) : Type 0 where
-  pub size : length bytes ≡ 200
-  pub few : getD bytes 6 0 ≤ 16
+  pub size : length bytes ≡ stateLength
+  pub few : stateCount bytes ≤ places
 
--- entry i of a block
+-- entry i of a block, and where it begins
+abbrev pub entryAt : ℕ → ℕ
+entryAt i = headLength + entryLength * i
+
 abbrev pub entryIn : List ℕ → ℕ → Entry
-entryIn bytes i = entryFrom (drop (8 + 12 * i) bytes)
+entryIn bytes i = entryFrom (drop (entryAt i) bytes)
 
--- whether the two bytes past the fields of each of n entries are zero
+-- where field k of the first entry begins; that of entry i is as many entries further on
+abbrev pub fieldPlace : ℕ → ℕ
+fieldPlace k = headLength + offsetOf entryFields k
+
+-- the number of some bytes at the same place of entry i, counted from the front of the block
+abbrev pub fieldIn : List ℕ → ℕ → ℕ → ℕ → ℕ
+fieldIn bytes at n i = number 256 n (drop (at + entryLength * i) bytes)
+
+-- a block with a number stored in field k of entry i, and in field k in front of the entries
+abbrev pub entryStored : List ℕ → ℕ → ℕ → ℕ → List ℕ
+entryStored bytes k i x = sets bytes (fieldPlace k + entryLength * i) (digits 256 (widthOf entryFields k) x)
+
+abbrev pub headStored : List ℕ → ℕ → ℕ → List ℕ
+headStored bytes k x = sets bytes (offsetOf headFields k) (digits 256 (widthOf headFields k) x)
+
+-- the bytes of an entry without the zero bytes past its numbers
+abbrev pub entryNumbers : Entry → List ℕ
+entryNumbers e = fieldsBytes (take pairField entryFields) e
+
+-- whether the zero bytes among some fields are zero, where the fields begin at a place
+abbrev pub zerosIn : {X : Type 0} → List (Field X) → ℕ → List ℕ → Bool
+zerosIn [] at bytes = true
+zerosIn (field n value ∷ fs) at bytes = zerosIn fs (at + n) bytes
+zerosIn (zeros n ∷ fs) at bytes = both (eqb (number 256 n (drop at bytes)) 0) (zerosIn fs (at + n) bytes)
+
+-- whether they are in each of n entries
 abbrev pub pairsZero : ℕ → List ℕ → Bool
 pairsZero zero bytes = true
-pairsZero (suc n) bytes = both (eqb (number 256 2 (drop 10 bytes)) 0) (pairsZero n (drop 12 bytes))
+pairsZero (suc n) bytes = both (zerosIn entryFields 0 bytes) (pairsZero n (drop entryLength bytes))
 
 -- what the plain schedule sees of the plan in a block, at 01's speeds
 abbrev pub timingIn : List ℕ → Timing
@@ -54,7 +85,3 @@ withJobs s work remaining = record {
 -- the same state at another clock
 abbrev pub withClock : State → ℕ → State
 withClock s clock = record { clock = clock; task = s .task; level = s .level; entries = s .entries }
-
--- the number of some bytes at the same place of entry i, counted from the front of the block
-abbrev pub fieldIn : List ℕ → ℕ → ℕ → ℕ → ℕ
-fieldIn bytes at n i = number 256 n (drop (at + 12 * i) bytes)

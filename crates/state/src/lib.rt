@@ -1,72 +1,124 @@
-// The state block of 200 bytes: reading its fields, testing how it is laid out, and storing into it.
+// The state block: its fields, reading them, testing how it is laid out, and storing into it.
 use reclaiming::Entry;
 ghost use mathlib.Core.Path.{_≡_};
 ghost use mathlib.Core.List.{_++_};
-ghost use Prim.Native.Nat.{_+_, _*_, _<_, _≤_};
+ghost use Prim.Native.Nat.{_<_, _≤_};
 ghost use lib.Dec.{eqb};
-ghost use lib.ListN.{length, take, drop, getD};
+ghost use lib.ListN.{length, take, drop};
 ghost use lib.Seq.{sets};
 ghost use Rattle.arith.specs.Choice.{every};
-ghost use Rattle.arith.specs.Digits.{digits};
-ghost use Rattle.reclaiming.specs.StateBlock.{decode, entryBytes, laidOut};
-ghost use Rattle.state.specs.Code.{Holds, entryIn, pairsZero};
+ghost use Rattle.reclaiming.specs.StateBlock.{places, workField, remainingField, headLength, stateLength, tailAt, stateCount, decode, laidOut};
+ghost use Rattle.state.specs.Code.{Holds, entryAt, entryIn, entryStored, entryNumbers, pairsZero};
+
+// The fields of a block: where each begins, and its count of bytes.
+pub const CLOCK_AT: usize = 0;
+
+pub const CLOCK_WIDTH: usize = 4;
+
+pub const TASK_AT: usize = CLOCK_AT + CLOCK_WIDTH;
+
+pub const TASK_WIDTH: usize = 1;
+
+pub const LEVEL_AT: usize = TASK_AT + TASK_WIDTH;
+
+pub const LEVEL_WIDTH: usize = 1;
+
+pub const COUNT_AT: usize = LEVEL_AT + LEVEL_WIDTH;
+
+pub const COUNT_WIDTH: usize = 1;
+
+pub const ZERO_AT: usize = COUNT_AT + COUNT_WIDTH;
+
+pub const ZERO_WIDTH: usize = 1;
+
+pub const HEAD_LENGTH: usize = ZERO_AT + ZERO_WIDTH;
+
+// The fields of an entry, where they stand in the first one.
+pub const PERIOD_AT: usize = HEAD_LENGTH;
+
+pub const PERIOD_WIDTH: usize = 2;
+
+pub const WORST_AT: usize = PERIOD_AT + PERIOD_WIDTH;
+
+pub const WORST_WIDTH: usize = 3;
+
+pub const WORK_AT: usize = WORST_AT + WORST_WIDTH;
+
+pub const WORK_WIDTH: usize = 3;
+
+pub const REMAINING_AT: usize = WORK_AT + WORK_WIDTH;
+
+pub const REMAINING_WIDTH: usize = 2;
+
+pub const PAIR_AT: usize = REMAINING_AT + REMAINING_WIDTH;
+
+pub const PAIR_WIDTH: usize = 2;
+
+pub const ENTRY_LENGTH: usize = PAIR_AT + PAIR_WIDTH - HEAD_LENGTH;
+
+// The places for entries, and what follows them.
+pub const PLACES: usize = 16;
+
+pub const TAIL_AT: usize = HEAD_LENGTH + ENTRY_LENGTH * PLACES;
+
+pub const STATE_LENGTH: usize = TAIL_AT;
 
 // The clock of a block.
 pub fn clock_at(block: &[u8]) -> u32
-    requires { ⌜ length (now block) ≡ 200 ⌝ }
+    requires { ⌜ length (now block) ≡ stateLength ⌝ }
     ensures { λ r. ⌜ r ≡ decode (now (block .entry)) .clock ⌝ }
 {
-    numeric::get_number(block, 0, 4)
+    numeric::get_number(block, CLOCK_AT, CLOCK_WIDTH)
 }
 
 // How many tasks a block has.
 pub fn count_at(block: &[u8]) -> usize
     requires { ⌜ Holds (now block) ⌝ }
-    ensures { λ r. ⌜ r ≡ getD (now (block .entry)) 6 0 ⌝ }
+    ensures { λ r. ⌜ r ≡ stateCount (now (block .entry)) ⌝ }
 {
-    block[6] as usize
+    block[COUNT_AT] as usize
 }
 
 // The period of task i.
 pub fn period_at(block: &[u8], i: usize) -> u32
-    requires { ⌜ (i < 16) × (length (now block) ≡ 200) ⌝ }
+    requires { ⌜ (i < places) × (length (now block) ≡ stateLength) ⌝ }
     ensures { λ r. ⌜ (r ≡ entryIn (now (block .entry)) i .period) × (r ≤ 65535) ⌝ }
 {
-    numeric::get_number(block, 8 + 12 * i, 2)
+    numeric::get_number(block, PERIOD_AT + ENTRY_LENGTH * i, PERIOD_WIDTH)
 }
 
 // The worst case of task i.
 pub fn worst_at(block: &[u8], i: usize) -> u32
-    requires { ⌜ (i < 16) × (length (now block) ≡ 200) ⌝ }
+    requires { ⌜ (i < places) × (length (now block) ≡ stateLength) ⌝ }
     ensures { λ r. ⌜ (r ≡ entryIn (now (block .entry)) i .worst) × (r ≤ 16777215) ⌝ }
 {
-    numeric::get_number(block, 10 + 12 * i, 3)
+    numeric::get_number(block, WORST_AT + ENTRY_LENGTH * i, WORST_WIDTH)
 }
 
 // The work left of task i's job.
 pub fn work_at(block: &[u8], i: usize) -> u32
-    requires { ⌜ (i < 16) × (length (now block) ≡ 200) ⌝ }
+    requires { ⌜ (i < places) × (length (now block) ≡ stateLength) ⌝ }
     ensures { λ r. ⌜ (r ≡ entryIn (now (block .entry)) i .work) × (r ≤ 16777215) ⌝ }
 {
-    numeric::get_number(block, 13 + 12 * i, 3)
+    numeric::get_number(block, WORK_AT + ENTRY_LENGTH * i, WORK_WIDTH)
 }
 
 // The remaining ticks of task i's job.
 pub fn remaining_at(block: &[u8], i: usize) -> u32
-    requires { ⌜ (i < 16) × (length (now block) ≡ 200) ⌝ }
+    requires { ⌜ (i < places) × (length (now block) ≡ stateLength) ⌝ }
     ensures { λ r. ⌜ (r ≡ entryIn (now (block .entry)) i .remaining) × (r ≤ 65535) ⌝ }
 {
-    numeric::get_number(block, 16 + 12 * i, 2)
+    numeric::get_number(block, REMAINING_AT + ENTRY_LENGTH * i, REMAINING_WIDTH)
 }
 
 // Whether the two bytes past the fields of each of so many entries are zero.
 fn pairs_zero(block: &[u8], count: usize) -> bool
-    requires { ⌜ (count ≤ 16) × (length (now block) ≡ 200) ⌝ }
-    ensures { λ r. ⌜ r ≡ pairsZero count (drop 8 (now (block .entry))) ⌝ }
+    requires { ⌜ (count ≤ places) × (length (now block) ≡ stateLength) ⌝ }
+    ensures { λ r. ⌜ r ≡ pairsZero count (drop headLength (now (block .entry))) ⌝ }
 {
     let mut i: usize = 0;
     while i < count {
-        if numeric::get_number(block, 18 + 12 * i, 2) != 0 {
+        if numeric::get_number(block, PAIR_AT + ENTRY_LENGTH * i, PAIR_WIDTH) != 0 {
             return false;
         }
         i += 1;
@@ -74,70 +126,70 @@ fn pairs_zero(block: &[u8], count: usize) -> bool
     true
 }
 
-// Whether every byte from a place on is zero: their sum is. A sum has no way out in its loop, so several bytes are added at once.
+// Whether every byte from a place on is zero, up to the end of the places: their sum is. A sum has no way out in its loop, so several bytes are added at once.
 fn zero_from(block: &[u8], at: usize) -> bool
-    requires { ⌜ (at ≤ 200) × (length (now block) ≡ 200) ⌝ }
-    ensures { λ r. ⌜ r ≡ every (eqb 0) (drop at (now (block .entry))) ⌝ }
+    requires { ⌜ (at ≤ tailAt) × (length (now block) ≡ stateLength) ⌝ }
+    ensures { λ r. ⌜ r ≡ every (eqb 0) (drop at (take tailAt (now (block .entry)))) ⌝ }
 {
     let mut sum: u32 = 0;
     let mut i: usize = at;
-    while i < 200 {
+    while i < TAIL_AT {
         sum += numeric::wide(block[i]);
         i += 1;
     }
     sum == 0
 }
 
-// Whether a block of 200 bytes with a count of at most 16 is laid out as a state is.
+// Whether a block of a state's length with a count of at most 16 is laid out as a state is.
 pub fn laid_out(block: &[u8]) -> bool
-    requires { ⌜ (length (now block) ≡ 200) × (getD (now block) 6 0 ≤ 16) ⌝ }
+    requires { ⌜ (length (now block) ≡ stateLength) × (stateCount (now block) ≤ places) ⌝ }
     ensures { λ r. ⌜ r ≡ laidOut (now (block .entry)) ⌝ }
 {
-    if block[7] != 0 {
+    if block[ZERO_AT] != 0 {
         return false;
     }
-    let count = block[6] as usize;
+    let count = count_at(block);
     if !pairs_zero(block, count) {
         return false;
     }
-    zero_from(block, 8 + 12 * count)
+    zero_from(block, HEAD_LENGTH + ENTRY_LENGTH * count)
 }
 
 // Stores the work left of task i's job.
 pub fn put_work(block: &mut [u8], i: usize, x: u32)
-    requires { ⌜ (i < 16) × (length (now block) ≡ 200) ⌝ }
-    ensures { λ _. ⌜ now (block .exit) ≡ sets (now (block .entry)) (13 + 12 * i) (digits 256 3 x) ⌝ }
+    requires { ⌜ (i < places) × (length (now block) ≡ stateLength) ⌝ }
+    ensures { λ _. ⌜ now (block .exit) ≡ entryStored (now (block .entry)) workField i x ⌝ }
 {
-    numeric::put_number(block, 13 + 12 * i, 3, x);
+    numeric::put_number(block, WORK_AT + ENTRY_LENGTH * i, WORK_WIDTH, x);
 }
 
 // Stores the remaining ticks of task i's job.
 pub fn put_remaining(block: &mut [u8], i: usize, x: u32)
-    requires { ⌜ (i < 16) × (length (now block) ≡ 200) ⌝ }
-    ensures { λ _. ⌜ now (block .exit) ≡ sets (now (block .entry)) (16 + 12 * i) (digits 256 2 x) ⌝ }
+    requires { ⌜ (i < places) × (length (now block) ≡ stateLength) ⌝ }
+    ensures { λ _. ⌜ now (block .exit) ≡ entryStored (now (block .entry)) remainingField i x ⌝ }
 {
-    numeric::put_number(block, 16 + 12 * i, 2, x);
+    numeric::put_number(block, REMAINING_AT + ENTRY_LENGTH * i, REMAINING_WIDTH, x);
 }
 
 // Stores the fields of an entry; the two bytes past them stay.
 pub fn put_entry(image: &mut [u8], i: usize, e: Entry)
-    requires { ⌜ (i < 16) × (length (now image) ≡ 200) ⌝ }
-    ensures { λ _. ⌜ now (image .exit) ≡ sets (now (image .entry)) (8 + 12 * i) (take 10 (entryBytes e)) ⌝ }
+    requires { ⌜ (i < places) × (length (now image) ≡ stateLength) ⌝ }
+    ensures { λ _. ⌜ now (image .exit) ≡ sets (now (image .entry)) (entryAt i) (entryNumbers e) ⌝ }
 {
-    let at = 8 + 12 * i;
-    numeric::put_number(image, at, 2, e.period);
-    numeric::put_number(image, at + 2, 3, e.worst);
-    numeric::put_number(image, at + 5, 3, e.work);
-    numeric::put_number(image, at + 8, 2, e.remaining);
+    let at = ENTRY_LENGTH * i;
+    numeric::put_number(image, PERIOD_AT + at, PERIOD_WIDTH, e.period);
+    numeric::put_number(image, WORST_AT + at, WORST_WIDTH, e.worst);
+    numeric::put_number(image, WORK_AT + at, WORK_WIDTH, e.work);
+    numeric::put_number(image, REMAINING_AT + at, REMAINING_WIDTH, e.remaining);
 }
 
-// Stores an image of 200 bytes at the front of a buffer.
+// Stores an image of a state at the front of a buffer.
 pub fn store(buffer: &mut [u8], image: &[u8])
-    requires { ⌜ (length (now image) ≡ 200) × (200 ≤ length (now buffer)) ⌝ }
-    ensures { λ _. ⌜ now (buffer .exit) ≡ now (image .entry) ++ drop 200 (now (buffer .entry)) ⌝ }
+    requires { ⌜ (length (now image) ≡ stateLength) × (stateLength ≤ length (now buffer)) ⌝ }
+    ensures { λ _. ⌜ now (buffer .exit) ≡ now (image .entry) ++ drop stateLength (now (buffer .entry)) ⌝ }
 {
     let mut i: usize = 0;
-    while i < 200 {
+    while i < STATE_LENGTH {
         buffer[i] = image[i];
         i += 1;
     }

@@ -1,9 +1,10 @@
--- `laid_out` meets its contract: the eighth byte, a pair of bytes past an entry or a byte past all entries decides.
+-- `laid_out` meets its contract: the zero byte, the zero bytes past an entry's numbers or a byte past all entries decides.
 -- Assumes nothing.
+use mathlib.Core.Path.{refl}
 use native.Mathlib.Omega.{arith}
 use borrow.Author.Needs.{needs}
 use borrow.Author.Tests.{not-true, not-false}
-use Rattle.state.proofs.LayoutLaws.{BlockBytes, eighth-not, pairs-decide, zeros-decide}
+use Rattle.state.proofs.LayoutLaws.{BlockBytes, zero-not, pairs-decide, zeros-decide}
 use Rattle.state.proofs.laid_out.Statement.{statement}
 use Rattle.state.proofs.laid_out.Tie as tie
 
@@ -18,13 +19,10 @@ shared-slice-read-if1 : tie.Need-shared-slice-read-if1
 shared-slice-read-if1 c = search needs
 
 returns : tie.Need-returns
-returns c = eighth-not (known (c .before .before)) (c .if1 .taken)
+returns c = zero-not (known (c .before .before)) refl (c .if1 .taken)
 
-shared-slice-read-count : tie.Need-shared-slice-read-count
-shared-slice-read-count c = search needs
-
-cast-count : tie.Need-cast-count
-cast-count c = search needs
+count-at-requires : tie.Need-count-at-requires
+count-at-requires c κs = search needs
 
 pairs-zero-requires : tie.Need-pairs-zero-requires
 pairs-zero-requires c κs = search needs
@@ -32,7 +30,8 @@ pairs-zero-requires c κs = search needs
 returns-2 : tie.Need-returns-2
 returns-2 c =
     let e : tie.Else1 = tested (c .before) in
-    pairs-decide (known (e .before .before)) (e .if1 .left) (c .before .pairs-zero .ensures) (not-true _ (c .if2 .taken))
+    pairs-decide (known (e .before .before)) refl (e .if1 .left) (c .before .before .count-at .ensures) (c .before .pairs-zero .ensures)
+    (not-true _ (c .if2 .taken))
 
 mul-zero-from : tie.Need-mul-zero-from
 mul-zero-from c = search needs
@@ -45,8 +44,10 @@ zero-from-requires c κs = search needs
 
 returns-3 : tie.Need-returns-3
 returns-3 c =
-    let e : tie.Else1 = tested (c .before .before) in
-    zeros-decide (known (e .before .before)) (e .if1 .left) (c .before .before .pairs-zero .ensures) (not-false _ (c .before .if2 .left)) (c .zero-from .ensures)
+    let paired : tie.After-pairs-zero = c .before .before in
+    let e : tie.Else1 = tested paired in
+    zeros-decide (known (e .before .before)) refl (e .if1 .left) (paired .before .count-at .ensures) (paired .pairs-zero .ensures)
+    (not-false _ (c .before .if2 .left)) (c .zero-from .ensures)
 
 pub laid-out-spec : {M : Type 1} → statement M
 laid-out-spec =
@@ -54,8 +55,7 @@ laid-out-spec =
     (tie.spec
     shared-slice-read-if1
     returns
-    shared-slice-read-count
-    cast-count
+    count-at-requires
     pairs-zero-requires
     returns-2
     mul-zero-from

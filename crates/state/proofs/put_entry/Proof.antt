@@ -1,8 +1,9 @@
 -- `put_entry` meets its contract: each field is stored past the one before it.
 -- Assumes nothing.
-use Prim.Native.Nat.{_+_, _*_}
+use mathlib.Core.Path.{refl}
 use borrow.Author.Needs.{needs}
-use Rattle.state.proofs.BlockLaws.{entry-stored}
+use Rattle.reclaiming.specs.StateBlock.{periodField, worstField, workField, remainingField}
+use Rattle.state.proofs.BlockLaws.{stored-next}
 use Rattle.state.proofs.put_entry.Statement.{statement}
 use Rattle.state.proofs.put_entry.Tie as tie
 
@@ -22,26 +23,26 @@ third c = c .before .before .before .before
 mul-at : tie.Need-mul-at
 mul-at c = search needs
 
-add-at : tie.Need-add-at
-add-at c = search needs
+add-put-number : tie.Need-add-put-number
+add-put-number c = search needs
 
 put-number-requires : tie.Need-put-number-requires
 put-number-requires c κs = search needs
 
-add-put-number : tie.Need-add-put-number
-add-put-number c = search needs
+add-put-number-2 : tie.Need-add-put-number-2
+add-put-number-2 c = search needs
 
 put-number-requires-2 : tie.Need-put-number-requires-2
 put-number-requires-2 c κs = search needs
 
-add-put-number-2 : tie.Need-add-put-number-2
-add-put-number-2 c = search needs
+add-put-number-3 : tie.Need-add-put-number-3
+add-put-number-3 c = search needs
 
 put-number-requires-3 : tie.Need-put-number-requires-3
 put-number-requires-3 c κs = search needs
 
-add-put-number-3 : tie.Need-add-put-number-3
-add-put-number-3 c = search needs
+add-put-number-4 : tie.Need-add-put-number-4
+add-put-number-4 c = search needs
 
 put-number-requires-4 : tie.Need-put-number-requires-4
 put-number-requires-4 c κs = search needs
@@ -53,21 +54,26 @@ returns : tie.Need-returns
 returns c =
     let last : tie.After-put-number4 = c .before .before in
     let s : tie.Start = start (first (second (third last))) in
-    entry-stored (s .args .e) (8 + 12 * s .args .i) (s .args .image .now) (first (second (third last)) .put-number .ensures) (second (third last) .put-number2 .ensures)
-    (third last .put-number3 .ensures) (last .put-number4 .ensures)
+    stored-next (s .args .e) (s .args .i) (s .args .image .now) remainingField
+    (stored-next (s .args .e) (s .args .i) (s .args .image .now) workField
+    (stored-next (s .args .e) (s .args .i) (s .args .image .now) worstField
+    (stored-next (s .args .e) (s .args .i) (s .args .image .now) periodField refl (first (second (third last)) .put-number .ensures))
+    (second (third last) .put-number2 .ensures))
+    (third last .put-number3 .ensures))
+    (last .put-number4 .ensures)
 
 pub put-entry-spec : {M : Type 1} → statement M
 put-entry-spec =
     tie.close
     (tie.spec
     mul-at
-    add-at
-    put-number-requires
     add-put-number
-    put-number-requires-2
+    put-number-requires
     add-put-number-2
-    put-number-requires-3
+    put-number-requires-2
     add-put-number-3
+    put-number-requires-3
+    add-put-number-4
     put-number-requires-4
     same-length
     returns)

@@ -2,6 +2,7 @@
 -- Assumes nothing.
 use native.Mathlib.Omega.{arith}
 use borrow.Author.Needs.{needs}
+use Rattle.reclaiming.specs.StateBlock.{remainingField}
 use Rattle.state.proofs.BlockLaws.{field-read}
 use Rattle.state.proofs.remaining_at.Statement.{statement}
 use Rattle.state.proofs.remaining_at.Tie as tie
@@ -18,7 +19,7 @@ get-number-requires c κs = search needs
 returns : tie.Need-returns
 returns c =
     let s : tie.Start = c .before .before in
-    field-read (s .args .block .now) (s .args .i) 8 2 (λ j. omega (arith, c .before .shared-slice-known .given j)) (c .get-number .ensures)
+    field-read (s .args .block .now) (s .args .i) remainingField (λ j. omega (arith, c .before .shared-slice-known .given j)) (c .get-number .ensures)
 
 pub remaining-at-spec : {M : Type 1} → statement M
 remaining-at-spec = tie.close (tie.spec mul-get-number add-get-number get-number-requires returns)

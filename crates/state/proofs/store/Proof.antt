@@ -2,6 +2,7 @@
 -- Assumes nothing.
 use Prim.Native.Nat.{_-_}
 use native.Mathlib.Omega.{arith}
+use Rattle.reclaiming.specs.StateBlock.{stateLength}
 use Rattle.state.proofs.BlockLaws.{CopiedTo, copy-none, copy-more, copy-all}
 use Rattle.state.proofs.store.Statement.{statement}
 use Rattle.state.proofs.store.Tie as tie
@@ -10,7 +11,7 @@ abbrev Inv-loop : tie.InvT-loop
 Inv-loop buffer₀ image i₀ buffer i = CopiedTo image buffer₀ buffer i
 
 abbrev μ-loop : tie.MeasureT-loop
-μ-loop buffer₀ image i₀ buffer i = 200 - i
+μ-loop buffer₀ image i₀ buffer i = stateLength - i
 
 loop-holds : tie.Need-loop-holds Inv-loop μ-loop
 loop-holds c = copy-none (c .args .image .now) (c .args .buffer .now) (c .pre .0) (c .pre .1)

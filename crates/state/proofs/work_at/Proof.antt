@@ -2,6 +2,7 @@
 -- Assumes nothing.
 use native.Mathlib.Omega.{arith}
 use borrow.Author.Needs.{needs}
+use Rattle.reclaiming.specs.StateBlock.{workField}
 use Rattle.state.proofs.BlockLaws.{field-read}
 use Rattle.state.proofs.work_at.Statement.{statement}
 use Rattle.state.proofs.work_at.Tie as tie
@@ -18,7 +19,7 @@ get-number-requires c κs = search needs
 returns : tie.Need-returns
 returns c =
     let s : tie.Start = c .before .before in
-    field-read (s .args .block .now) (s .args .i) 5 3 (λ j. omega (arith, c .before .shared-slice-known .given j)) (c .get-number .ensures)
+    field-read (s .args .block .now) (s .args .i) workField (λ j. omega (arith, c .before .shared-slice-known .given j)) (c .get-number .ensures)
 
 pub work-at-spec : {M : Type 1} → statement M
 work-at-spec = tie.close (tie.spec mul-get-number add-get-number get-number-requires returns)

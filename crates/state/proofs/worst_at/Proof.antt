@@ -2,6 +2,7 @@
 -- Assumes nothing.
 use native.Mathlib.Omega.{arith}
 use borrow.Author.Needs.{needs}
+use Rattle.reclaiming.specs.StateBlock.{worstField}
 use Rattle.state.proofs.BlockLaws.{field-read}
 use Rattle.state.proofs.worst_at.Statement.{statement}
 use Rattle.state.proofs.worst_at.Tie as tie
@@ -18,7 +19,7 @@ get-number-requires c κs = search needs
 returns : tie.Need-returns
 returns c =
     let s : tie.Start = c .before .before in
-    field-read (s .args .block .now) (s .args .i) 2 3 (λ j. omega (arith, c .before .shared-slice-known .given j)) (c .get-number .ensures)
+    field-read (s .args .block .now) (s .args .i) worstField (λ j. omega (arith, c .before .shared-slice-known .given j)) (c .get-number .ensures)
 
 pub worst-at-spec : {M : Type 1} → statement M
 worst-at-spec = tie.close (tie.spec mul-get-number add-get-number get-number-requires returns)

@@ -3,6 +3,7 @@
 use Prim.Native.Nat.{_-_, _≤_}
 use native.Mathlib.Omega.{arith}
 use borrow.Author.Needs.{needs}
+use Rattle.reclaiming.specs.StateBlock.{tailAt}
 use Rattle.state.proofs.LayoutLaws.{SummedTo, sum-none, sum-more, sum-all}
 use Rattle.state.proofs.zero_from.Statement.{statement}
 use Rattle.state.proofs.zero_from.Tie as tie
@@ -11,7 +12,7 @@ abbrev Inv-loop : tie.InvT-loop
 Inv-loop block at sum₀ i₀ sum i = SummedTo block at sum i
 
 abbrev μ-loop : tie.MeasureT-loop
-μ-loop block at sum₀ i₀ sum i = 200 - i
+μ-loop block at sum₀ i₀ sum i = tailAt - i
 
 abbrev turn : tie.After-wide Inv-loop μ-loop → tie.In-loop Inv-loop μ-loop
 turn c = c .before .before
