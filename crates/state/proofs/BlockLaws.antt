@@ -21,7 +21,7 @@ use Rattle.reclaiming.specs.StateBlock.{entryFields, worstField, workField, rem
 use Rattle.reclaiming.specs.StateBlock.{entryBytes, entriesBytes, unusedBytes, encode, entryFrom, entriesFrom, stateCount, decode}
 use Rattle.reclaiming.specs.Orders.{withOrder}
 use Rattle.arith.specs.Ranges.{listTo}
-use Rattle.state.specs.Code.{entryAt, entryIn, fieldPlace, fieldIn, entryStored, headStored, entryNumbers, changed, withJobs, withClock}
+use Rattle.state.specs.Code.{entryAt, entryIn, fieldPlace, numberIn, entryStored, headStored, entryNumbers, changed, withJobs, withClock}
 use Rattle.reclaiming.proofs.FieldLaws.{fieldsValues, sets-past, sets-over, length-fields, read-field, fields-same, store-field, store-next}
 use Rattle.reclaiming.proofs.StateCodec.{pastHead, pastEntries, past-head, length-entriesFrom, length-entriesBytes}
 use Rattle.arith.proofs.RangeLaws.{length-listTo, getD-listTo, listTo-same}
@@ -58,23 +58,23 @@ field-place : (k i : ℕ) → fieldPlace k + entryLength * i ≡ entryAt i + off
 field-place k i = omega arith
 
 -- a field of an entry is read there
-pub field-in : (bytes : List ℕ) (k i : ℕ) → fieldIn bytes (fieldPlace k) (widthOf entryFields k) i ≡ readField entryFields k (drop (entryAt i) bytes)
+pub field-in : (bytes : List ℕ) (k i : ℕ) → numberIn bytes k i ≡ readField entryFields k (drop (entryAt i) bytes)
 field-in bytes k i =
     ap (λ (l : List ℕ). number 256 (widthOf entryFields k) l)
     (ap (λ (m : ℕ). drop m bytes) (field-place k i) ∙ sym (drop-drop (offsetOf entryFields k) (entryAt i) bytes))
 
-pub field-work : (bytes : List ℕ) (i : ℕ) → fieldIn bytes (fieldPlace workField) (widthOf entryFields workField) i ≡ entryIn bytes i .work
+pub field-work : (bytes : List ℕ) (i : ℕ) → numberIn bytes workField i ≡ entryIn bytes i .work
 field-work bytes i = field-in bytes workField i
 
 pub field-remaining :
-    (bytes : List ℕ) (i : ℕ) → fieldIn bytes (fieldPlace remainingField) (widthOf entryFields remainingField) i ≡ entryIn bytes i .remaining
+    (bytes : List ℕ) (i : ℕ) → numberIn bytes remainingField i ≡ entryIn bytes i .remaining
 field-remaining bytes i = field-in bytes remainingField i
 
 -- what is read there is in its range
 pub field-read :
     (bytes : List ℕ) (i k : ℕ) {r : ℕ} →
     ((j : ℕ) → getD bytes j 0 < 256) →
-    r ≡ fieldIn bytes (fieldPlace k) (widthOf entryFields k) i →
+    r ≡ numberIn bytes k i →
     (r ≡ readField entryFields k (drop (entryAt i) bytes)) × (r ≤ 256 ^ widthOf entryFields k - 1)
 field-read bytes i k b h =
     let at : ℕ = fieldPlace k + entryLength * i in

@@ -17,10 +17,10 @@ use Rattle.arith.specs.Sum.{sumOf}
 use Rattle.arith.specs.Digits.{number, digits}
 use Rattle.arith.proofs.Tests.{same-test}
 use Rattle.arith.proofs.DigitLaws.{length-digits, number-digits, digits-number}
-use Rattle.reclaiming.specs.Fields.{Field, field, zeros, fieldsBytes, fieldsLength, widthOf, offsetOf, readField}
+use Rattle.reclaiming.specs.Fields.{Field, field, zeros, fieldsBytes, fieldsLength, offsetOf, readField}
 use Rattle.reclaiming.specs.StateBlock.{State, headFields, zeroField, entryFields, pairField, tailFields, places, headLength, entryLength, tailAt, stateLength}
 use Rattle.reclaiming.specs.StateBlock.{entryBytes, entriesBytes, encode, entryFrom, entriesFrom, stateCount, decode, sameBytes, laidOut}
-use Rattle.state.specs.Code.{entryAt, fieldPlace, fieldIn, zerosIn, pairsZero}
+use Rattle.state.specs.Code.{entryAt, numberIn, zerosIn, pairsZero}
 use Rattle.reclaiming.proofs.StateCodec.{pastHead, length-entriesFrom, same-bytes, bytes-same}
 use Rattle.state.proofs.BlockLaws.{count-in, byte-field, field-in}
 
@@ -50,7 +50,7 @@ module _ {bytes : List ℕ} {count i : ℕ} (so-far : PairsTo bytes count i) whe
       sym (ap (λ (k : ℕ). pairsZero k (drop (entryAt i) bytes)) n) ∙ so-far .left
 
   -- the zero bytes of entry i, as a number
-  module _ (h : i < count) {x : ℕ} (read : x ≡ fieldIn bytes (fieldPlace pairField) (widthOf entryFields pairField) i) where
+  module _ (h : i < count) {x : ℕ} (read : x ≡ numberIn bytes pairField i) where
     abbrev after : Bool
     after = pairsZero (count - (i + 1)) (drop (entryAt (i + 1)) bytes)
 

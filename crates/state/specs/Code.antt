@@ -37,6 +37,10 @@ fieldPlace k = headLength + offsetOf entryFields k
 abbrev pub fieldIn : List ℕ → ℕ → ℕ → ℕ → ℕ
 fieldIn bytes at n i = number 256 n (drop (at + entryLength * i) bytes)
 
+-- the number in field k of entry i
+abbrev pub numberIn : List ℕ → ℕ → ℕ → ℕ
+numberIn bytes k i = fieldIn bytes (fieldPlace k) (widthOf entryFields k) i
+
 -- a block with a number stored in field k of entry i, and in field k in front of the entries
 abbrev pub entryStored : List ℕ → ℕ → ℕ → ℕ → List ℕ
 entryStored bytes k i x = sets bytes (fieldPlace k + entryLength * i) (digits 256 (widthOf entryFields k) x)

@@ -12,9 +12,9 @@ use Rattle.plan.specs.declared.Task.{Task}
 use Rattle.plan.specs.Blocks.{noTask}
 use Rattle.schedule.specs.PlainSchedule.{Timing, Pending}
 use Rattle.reclaiming.specs.declared.Entry.{Entry}
-use Rattle.reclaiming.specs.StateBlock.{State, workOf, remainingOf, taskOf, planIn, decode}
+use Rattle.reclaiming.specs.StateBlock.{State, workOf, remainingOf, taskOf, planIn, workField, stateCount, decode}
 use Rattle.reclaiming.specs.Orders.{allowance, openJobs}
-use Rattle.state.specs.Code.{Holds, entryIn, timingIn, fieldIn}
+use Rattle.state.specs.Code.{Holds, entryIn, timingIn, numberIn}
 use Rattle.urgency.specs.Code.{Keyed, noKey, leastKey, allowedBy}
 use Rattle.reclaiming.proofs.Soundness.{planIn-at}
 use Rattle.reclaiming.proofs.OrderFacts.{head-below}
@@ -23,7 +23,7 @@ use Rattle.urgency.proofs.OpenJobs.{timing-count, open-head}
 use Rattle.urgency.proofs.KeyLaws.{headKey, key-below, key-task, allowance-is}
 
 -- entry i of a block: its task in the plan, its work and its plain ticks left
-module _ (b : List ℕ) (i : ℕ) (h : i < getD b 6 0) where
+module _ (b : List ℕ) (i : ℕ) (h : i < stateCount b) where
   pub task-is : getD (planIn (decode b)) i noTask ≡ taskOf (entryIn b i)
   task-is = planIn-at (decode b) i ∙ ap taskOf (entry-at b i h)
 
@@ -40,8 +40,8 @@ module _ (b : List ℕ) (i : ℕ) (h : i < getD b 6 0) where
 pub record Looked (b l : List ℕ) (count best : ℕ) : Type 0 where
   pub holds : Holds b
   pub keyed : Keyed (timingIn b) (decode b .clock) l
-  pub same : count ≡ getD b 6 0
-  pub found : best ≡ leastKey l (fieldIn b 13 3) count
+  pub same : count ≡ stateCount b
+  pub found : best ≡ leastKey l (numberIn b workField) count
 
 -- the most urgent open job is task i's
 pub record Head (b l : List ℕ) (best i : ℕ) : Type 0 where
@@ -49,7 +49,7 @@ pub record Head (b l : List ℕ) (best i : ℕ) : Type 0 where
   pub rest : List Pending
   pub queue : openJobs (timingIn b) (decode b) ≡ job ∷ rest
   pub task : job .job .task ≡ i
-  pub below : i < getD b 6 0
+  pub below : i < stateCount b
   pub key : best ≡ getD l i 0
 
 module _ {b l : List ℕ} {count best : ℕ} (k : Looked b l count best) where
@@ -85,7 +85,7 @@ module _ {b l : List ℕ} {count best : ℕ} (k : Looked b l count best) where
             rest = q;
             queue = o;
             task = t;
-            below = subst (λ (n : ℕ). n < getD b 6 0) t (omega (arith, timing-count b));
+            below = subst (λ (n : ℕ). n < stateCount b) t (omega (arith, timing-count b));
             key = e ∙ ap (λ (n : ℕ). getD l n 0) t;
           }
 
