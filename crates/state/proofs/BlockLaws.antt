@@ -15,13 +15,14 @@ use Rattle.arith.specs.Digits.{number, digits}
 use Rattle.arith.specs.Choice.{pick}
 use Rattle.arith.proofs.DigitLaws.{number-below}
 use Rattle.reclaiming.specs.declared.Entry.{Entry}
+use Rattle.plan.specs.declared.Rest.{Rest}
 use Rattle.reclaiming.specs.Fields.{valueIn, fieldsBytes, fieldAt, widthOf, offsetOf, readField}
-use Rattle.reclaiming.specs.StateBlock.{State, noEntry, workOf, remainingOf, headFields, clockField, taskField, levelField, tailFields, places}
-use Rattle.reclaiming.specs.StateBlock.{entryFields, worstField, workField, remainingField, pairField, headLength, entryLength, stateLength}
+use Rattle.reclaiming.specs.StateBlock.{State, noEntry, workOf, remainingOf, restIn, restOf, taskOf, entryWith, headFields, clockField, taskField, levelField, tailFields, places}
+use Rattle.reclaiming.specs.StateBlock.{entryFields, periodField, worstField, workField, remainingField, pairField, headLength, entryLength, stateLength}
 use Rattle.reclaiming.specs.StateBlock.{entryBytes, entriesBytes, unusedBytes, encode, entryFrom, entriesFrom, stateCount, decode}
 use Rattle.reclaiming.specs.Orders.{withOrder}
 use Rattle.arith.specs.Ranges.{listTo}
-use Rattle.state.specs.Code.{entryAt, entryIn, fieldPlace, numberIn, entryStored, headStored, entryNumbers, changed, withJobs, withClock}
+use Rattle.state.specs.Code.{entryAt, entryIn, fieldPlace, numberIn, entryStored, headStored, entryNumbers, changed, withJobs, withClock, restStored}
 use Rattle.reclaiming.proofs.FieldLaws.{fieldsValues, sets-past, sets-over, length-fields, read-field, fields-same, store-field, store-next}
 use Rattle.reclaiming.proofs.StateCodec.{pastHead, pastEntries, past-head, length-entriesFrom, length-entriesBytes}
 use Rattle.arith.proofs.RangeLaws.{length-listTo, getD-listTo, listTo-same}
@@ -209,49 +210,47 @@ module _ (s : State) (i : ℕ) (h : i < length (s .entries)) where
       ∙ from-entry (s .entries) (pastEntries s) i h)
       ∙ read-field entryFields k entry (entriesBytes (drop (suc i) (s .entries)) ++ pastEntries s) fits
 
-  pub encode-worst : getD (s .entries) i noEntry .worst ≤ 16777215 → entryIn (encode s) i .worst ≡ getD (s .entries) i noEntry .worst
-  encode-worst e = encode-field worstField (omega arith)
+  -- its task and what is left of its job, where their numbers fit
+  pub encode-task :
+      getD (s .entries) i noEntry .period ≤ 65535 →
+      getD (s .entries) i noEntry .worst ≤ 16777215 →
+      taskOf (entryIn (encode s) i) ≡ taskOf (getD (s .entries) i noEntry)
+  encode-task p w = λ k. record { period = encode-field periodField (omega arith) k; worst = encode-field worstField (omega arith) k }
 
-  pub encode-work : workOf s i ≤ 16777215 → entryIn (encode s) i .work ≡ workOf s i
-  encode-work e = encode-field workField (omega arith)
+  pub encode-rest : workOf s i ≤ 16777215 → restIn (entryIn (encode s) i) ≡ restOf s i
+  encode-rest e = λ k. record { work = encode-field workField (omega arith) k }
 
   pub encode-remaining : remainingOf s i ≤ 65535 → entryIn (encode s) i .remaining ≡ remainingOf s i
   encode-remaining e = encode-field remainingField (omega arith)
 
 -- a function that is changed at one place: there, and elsewhere
-pub changed-there : (f : ℕ → ℕ) (i x j : ℕ) → j ≡ i → changed f i x j ≡ x
-changed-there f i x j e = ap (λ (b : Bool). pick b x (f j)) (eq-eqb j i e)
+module _ {ℓ} {A : Type ℓ} (f : ℕ → A) (i : ℕ) (x : A) (j : ℕ) where
+  pub changed-there : j ≡ i → changed f i x j ≡ x
+  changed-there e = ap (λ (b : Bool). pick b x (f j)) (eq-eqb j i e)
 
-pub changed-else : (f : ℕ → ℕ) (i x j : ℕ) → (j ≡ i → ⊥) → changed f i x j ≡ f j
-changed-else f i x j n = ap (λ (b : Bool). pick b x (f j)) (ne-eqb j i n)
+  pub changed-else : (j ≡ i → ⊥) → changed f i x j ≡ f j
+  changed-else n = ap (λ (b : Bool). pick b x (f j)) (ne-eqb j i n)
 
 -- a state with other jobs
-module _ (s : State) (work remaining : ℕ → ℕ) where
-  abbrev entryWith : ℕ → Entry
-  entryWith i = record {
-    period = getD (s .entries) i noEntry .period;
-    worst = getD (s .entries) i noEntry .worst;
-    work = work i;
-    remaining = remaining i;
-  }
+module _ (s : State) (left : ℕ → Rest) (remaining : ℕ → ℕ) where
+  abbrev jobWith : ℕ → Entry
+  jobWith i = entryWith (taskOf (getD (s .entries) i noEntry)) (left i) (remaining i)
 
-  pub jobs-count : length (withJobs s work remaining .entries) ≡ length (s .entries)
-  jobs-count = length-listTo (length (s .entries)) entryWith
+  pub jobs-count : length (withJobs s left remaining .entries) ≡ length (s .entries)
+  jobs-count = length-listTo (length (s .entries)) jobWith
 
   module _ (i : ℕ) (h : i < length (s .entries)) where
-    pub jobs-entry :
-        getD (withJobs s work remaining .entries) i noEntry
-        ≡ record { period = getD (s .entries) i noEntry .period; worst = getD (s .entries) i noEntry .worst; work = work i; remaining = remaining i }
-    jobs-entry = getD-listTo (length (s .entries)) entryWith i noEntry h
+    pub jobs-entry : getD (withJobs s left remaining .entries) i noEntry ≡ entryWith (taskOf (getD (s .entries) i noEntry)) (left i) (remaining i)
+    jobs-entry = getD-listTo (length (s .entries)) jobWith i noEntry h
 
-    pub jobs-work : workOf (withJobs s work remaining) i ≡ work i
-    jobs-work = ap (λ (e : Entry). e .work) jobs-entry
+    pub jobs-rest : restOf (withJobs s left remaining) i ≡ left i
+    jobs-rest = ap restIn jobs-entry
 
-    pub jobs-remaining : remainingOf (withJobs s work remaining) i ≡ remaining i
+    pub jobs-remaining : remainingOf (withJobs s left remaining) i ≡ remaining i
     jobs-remaining = ap (λ (e : Entry). e .remaining) jobs-entry
 
-    pub jobs-worst : getD (withJobs s work remaining .entries) i noEntry .worst ≡ getD (s .entries) i noEntry .worst
-    jobs-worst = ap (λ (e : Entry). e .worst) jobs-entry
+    pub jobs-task : taskOf (getD (withJobs s left remaining .entries) i noEntry) ≡ taskOf (getD (s .entries) i noEntry)
+    jobs-task = ap taskOf jobs-entry
 
 -- a list of n values that are known
 listTo-is :
@@ -261,26 +260,21 @@ listTo-is n f es size each =
     (λ i h. each i (omega arith) ∙ sym (getD-listTo n f i noEntry (omega arith)))
 
 -- its own jobs, and the same jobs
-pub jobs-same : (s : State) → withJobs s (workOf s) (remainingOf s) ≡ s
+pub jobs-same : (s : State) → withJobs s (restOf s) (remainingOf s) ≡ s
 jobs-same s =
-    let e : s .entries ≡ withJobs s (workOf s) (remainingOf s) .entries =
-    listTo-is (length (s .entries)) (entryWith s (workOf s) (remainingOf s)) (s .entries) refl (λ i h. refl) in
+    let e : s .entries ≡ withJobs s (restOf s) (remainingOf s) .entries =
+    listTo-is (length (s .entries)) (jobWith s (restOf s) (remainingOf s)) (s .entries) refl (λ i h. refl) in
     λ k. record { clock = s .clock; task = s .task; level = s .level; entries = sym e k }
 
 pub jobs-eq :
-    (s : State) (f g p q : ℕ → ℕ) →
+    (s : State) (f g : ℕ → Rest) (p q : ℕ → ℕ) →
     ((i : ℕ) → i < length (s .entries) → f i ≡ g i) →
     ((i : ℕ) → i < length (s .entries) → p i ≡ q i) →
     withJobs s f p ≡ withJobs s g q
 jobs-eq s f g p q a b =
     let e : withJobs s f p .entries ≡ withJobs s g q .entries =
-    listTo-same (length (s .entries)) (entryWith s f p) (entryWith s g q)
-    (λ i h k. record {
-      period = getD (s .entries) i noEntry .period;
-      worst = getD (s .entries) i noEntry .worst;
-      work = a i h k;
-      remaining = b i h k;
-    }) in
+    listTo-same (length (s .entries)) (jobWith s f p) (jobWith s g q)
+    (λ i h k. entryWith (taskOf (getD (s .entries) i noEntry)) (a i h k) (b i h k)) in
     λ k. record { clock = s .clock; task = s .task; level = s .level; entries = e k }
 
 -- a state with another entry in the place of one
@@ -335,53 +329,49 @@ store-head s t k v e past =
     store-field headFields k s t v (pastHead s) e ∙ ap (λ (l : List ℕ). fieldsBytes headFields t ++ l) past
 
 -- storing one field of one entry
-module _ (s : State) (work remaining : ℕ → ℕ) (i x : ℕ) (h : i < length (s .entries)) where
-  in-jobs : i < length (withJobs s work remaining .entries)
-  in-jobs = omega (arith, jobs-count s work remaining)
+module _ (s : State) (left : ℕ → Rest) (remaining : ℕ → ℕ) (i : ℕ) (h : i < length (s .entries)) where
+  in-jobs : i < length (withJobs s left remaining .entries)
+  in-jobs = omega (arith, jobs-count s left remaining)
 
   -- one entry of many
   changed-entries :
-      (f p : ℕ → ℕ) →
-      ((j : ℕ) → (j ≡ i → ⊥) → f j ≡ work j) →
+      (f : ℕ → Rest) (p : ℕ → ℕ) →
+      ((j : ℕ) → (j ≡ i → ⊥) → f j ≡ left j) →
       ((j : ℕ) → (j ≡ i → ⊥) → p j ≡ remaining j) →
-      set (withJobs s work remaining .entries) i (entryWith s f p i) ≡ withJobs s f p .entries
+      set (withJobs s left remaining .entries) i (jobWith s f p i) ≡ withJobs s f p .entries
   changed-entries f p a b =
-      let es : List Entry = withJobs s work remaining .entries in
-      let e : Entry = entryWith s f p i in
-      listTo-is (length (s .entries)) (entryWith s f p) (set es i e) (length-set es i e ∙ jobs-count s work remaining)
+      let es : List Entry = withJobs s left remaining .entries in
+      let e : Entry = jobWith s f p i in
+      listTo-is (length (s .entries)) (jobWith s f p) (set es i e) (length-set es i e ∙ jobs-count s left remaining)
       (λ j k.
       elim (ℕ-discrete j i) [
-        | yes z ↦ subst (λ (n : ℕ). getD (set es i e) n noEntry ≡ entryWith s f p n) (sym z) (getD-set-same es i e noEntry in-jobs)
+        | yes z ↦ subst (λ (n : ℕ). getD (set es i e) n noEntry ≡ jobWith s f p n) (sym z) (getD-set-same es i e noEntry in-jobs)
         | no z ↦
             getD-set-other es i j e noEntry z
-            ∙ jobs-entry s work remaining j k
-            ∙ (λ n. record {
-              period = getD (s .entries) j noEntry .period;
-              worst = getD (s .entries) j noEntry .worst;
-              work = sym (a j z) n;
-              remaining = sym (b j z) n;
-            })
+            ∙ jobs-entry s left remaining j k
+            ∙ ap₂ (entryWith (taskOf (getD (s .entries) j noEntry))) (sym (a j z)) (sym (b j z))
       ])
 
   -- the bytes of a state in which one number of entry i is stored
   store-jobs :
-      (f p : ℕ → ℕ) (k : ℕ) →
-      fieldsValues entryFields (entryWith s f p i) ≡ set (fieldsValues entryFields (entryWith s work remaining i)) k x →
-      ((j : ℕ) → (j ≡ i → ⊥) → f j ≡ work j) →
+      (f : ℕ → Rest) (p : ℕ → ℕ) (k x : ℕ) →
+      fieldsValues entryFields (jobWith s f p i) ≡ set (fieldsValues entryFields (jobWith s left remaining i)) k x →
+      ((j : ℕ) → (j ≡ i → ⊥) → f j ≡ left j) →
       ((j : ℕ) → (j ≡ i → ⊥) → p j ≡ remaining j) →
-      entryStored (encode (withJobs s work remaining)) k i x ≡ encode (withJobs s f p)
-  store-jobs f p k e a b =
-      store-entry k x (entryWith s f p i) (withJobs s work remaining) i in-jobs
-      (e ∙ ap (λ (y : Entry). set (fieldsValues entryFields y) k x) (sym (jobs-entry s work remaining i h)))
+      entryStored (encode (withJobs s left remaining)) k i x ≡ encode (withJobs s f p)
+  store-jobs f p k x e a b =
+      store-entry k x (jobWith s f p i) (withJobs s left remaining) i in-jobs
+      (e ∙ ap (λ (y : Entry). set (fieldsValues entryFields y) k x) (sym (jobs-entry s left remaining i h)))
       ∙ ap encode (λ j. record { clock = s .clock; task = s .task; level = s .level; entries = changed-entries f p a b j })
 
-  pub store-work : entryStored (encode (withJobs s work remaining)) workField i x ≡ encode (withJobs s (changed work i x) remaining)
-  store-work =
-      store-jobs (changed work i x) remaining workField (simp (eq-eqb i i refl)) (changed-else work i x) (λ j z. refl)
+  pub store-rest : (x : Rest) → restStored (encode (withJobs s left remaining)) i x ≡ encode (withJobs s (changed left i x) remaining)
+  store-rest x =
+      store-jobs (changed left i x) remaining workField (x .work) (simp (eq-eqb i i refl)) (λ j z. changed-else left i x j z) (λ j z. refl)
 
-  pub store-remaining : entryStored (encode (withJobs s work remaining)) remainingField i x ≡ encode (withJobs s work (changed remaining i x))
-  store-remaining =
-      store-jobs work (changed remaining i x) remainingField (simp (eq-eqb i i refl)) (λ j z. refl) (changed-else remaining i x)
+  pub store-remaining :
+      (x : ℕ) → entryStored (encode (withJobs s left remaining)) remainingField i x ≡ encode (withJobs s left (changed remaining i x))
+  store-remaining x =
+      store-jobs left (changed remaining i x) remainingField x (simp (eq-eqb i i refl)) (λ j z. refl) (λ j z. changed-else remaining i x j z)
 
 -- storing the clock, and an order
 pub store-clock : (s : State) (x : ℕ) → headStored (encode s) clockField x ≡ encode (withClock s x)

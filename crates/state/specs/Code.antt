@@ -11,11 +11,11 @@ use Rattle.arith.specs.Choice.{pick, both}
 use Rattle.arith.specs.Digits.{number, digits}
 use Rattle.schedule.specs.PlainSchedule.{Timing}
 use Rattle.reclaiming.specs.declared.Entry.{Entry}
+use Rattle.plan.specs.declared.Rest.{Rest}
 use Rattle.reclaiming.specs.Fields.{Field, field, zeros, fieldsBytes, widthOf, offsetOf}
-use Rattle.reclaiming.specs.StateBlock.{State, noEntry, headFields, entryFields, pairField, places, headLength, entryLength, stateLength}
-use Rattle.reclaiming.specs.StateBlock.{entryFrom, stateCount, decode, planIn, timing}
+use Rattle.reclaiming.specs.StateBlock.{State, noEntry, headFields, entryFields, workField, pairField, places, headLength, entryLength, stateLength}
+use Rattle.reclaiming.specs.StateBlock.{taskOf, entryWith, entryFrom, stateCount, decode, planIn, timing}
 use Rattle.arith.specs.Ranges.{listTo}
-use Rattle.plan.specs.Levels.{baseSpeeds}
 
 -- bytes that may hold a state: as many as one has, of at most 16 tasks
 pub record Holds (bytes : List ℕ) : Type 0 where
@@ -63,28 +63,26 @@ abbrev pub pairsZero : ℕ → List ℕ → Bool
 pairsZero zero bytes = true
 pairsZero (suc n) bytes = both (zerosIn entryFields 0 bytes) (pairsZero n (drop entryLength bytes))
 
--- what the plain schedule sees of the plan in a block, at 01's speeds
-abbrev pub timingIn : List ℕ → Timing
-timingIn bytes = timing baseSpeeds (planIn (decode bytes))
+-- what the plain schedule sees of the plan in a block, at a table of speeds
+abbrev pub timingIn : List ℕ → List ℕ → Timing
+timingIn speeds bytes = timing speeds (planIn (decode bytes))
 
 -- a function with another value at one place
-abbrev pub changed : (ℕ → ℕ) → ℕ → ℕ → ℕ → ℕ
+abbrev pub changed {ℓ} : {A : Type ℓ} → (ℕ → A) → ℕ → A → ℕ → A
 changed f i x j = pick (eqb j i) x (f j)
 
--- the same state with other work and other plain ticks left for each task
-abbrev pub withJobs : State → (ℕ → ℕ) → (ℕ → ℕ) → State
-withJobs s work remaining = record {
+-- the same state with something else left of each task's job, and other plain ticks left
+abbrev pub withJobs : State → (ℕ → Rest) → (ℕ → ℕ) → State
+withJobs s left remaining = record {
   clock = s .clock;
   task = s .task;
   level = s .level;
-  entries = listTo (length (s .entries))
-      (λ i. record {
-        period = getD (s .entries) i noEntry .period;
-        worst = getD (s .entries) i noEntry .worst;
-        work = work i;
-        remaining = remaining i;
-      });
+  entries = listTo (length (s .entries)) (λ i. entryWith (taskOf (getD (s .entries) i noEntry)) (left i) (remaining i));
 }
+
+-- a block in which something else is left of task i's job
+abbrev pub restStored : List ℕ → ℕ → Rest → List ℕ
+restStored bytes i r = entryStored bytes workField i (r .work)
 
 -- the same state at another clock
 abbrev pub withClock : State → ℕ → State

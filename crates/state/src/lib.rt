@@ -1,4 +1,6 @@
 // The state block: its fields, reading them, testing how it is laid out, and storing into it.
+use plan::Rest;
+use plan::Task;
 use reclaiming::Entry;
 ghost use mathlib.Core.Path.{_≡_};
 ghost use mathlib.Core.List.{_++_};
@@ -7,8 +9,8 @@ ghost use lib.Dec.{eqb};
 ghost use lib.ListN.{length, take, drop};
 ghost use lib.Seq.{sets};
 ghost use Rattle.arith.specs.Choice.{every};
-ghost use Rattle.reclaiming.specs.StateBlock.{places, workField, remainingField, headLength, stateLength, tailAt, stateCount, decode, laidOut};
-ghost use Rattle.state.specs.Code.{Holds, entryAt, entryIn, entryStored, entryNumbers, pairsZero};
+ghost use Rattle.reclaiming.specs.StateBlock.{places, remainingField, headLength, stateLength, tailAt, restIn, taskOf, stateCount, decode, laidOut};
+ghost use Rattle.state.specs.Code.{Holds, entryAt, entryIn, entryStored, entryNumbers, pairsZero, restStored};
 
 // The fields of a block: where each begins, and its count of bytes.
 pub const CLOCK_AT: usize = 0;
@@ -111,6 +113,27 @@ pub fn remaining_at(block: &[u8], i: usize) -> u32
     numeric::get_number(block, REMAINING_AT + ENTRY_LENGTH * i, REMAINING_WIDTH)
 }
 
+// Task i.
+pub fn task_at(block: &[u8], i: usize) -> Task
+    requires { ⌜ (i < places) × (length (now block) ≡ stateLength) ⌝ }
+    ensures { λ r. ⌜ (r ≡ taskOf (entryIn (now (block .entry)) i)) × (r .worst ≤ 16777215) ⌝ }
+{
+    Task {
+        period: period_at(block, i),
+        worst: worst_at(block, i),
+    }
+}
+
+// What is left of task i's job.
+pub fn rest_at(block: &[u8], i: usize) -> Rest
+    requires { ⌜ (i < places) × (length (now block) ≡ stateLength) ⌝ }
+    ensures { λ r. ⌜ (r ≡ restIn (entryIn (now (block .entry)) i)) × (r .work ≤ 16777215) ⌝ }
+{
+    Rest {
+        work: work_at(block, i),
+    }
+}
+
 // Whether the two bytes past the fields of each of so many entries are zero.
 fn pairs_zero(block: &[u8], count: usize) -> bool
     requires { ⌜ (count ≤ places) × (length (now block) ≡ stateLength) ⌝ }
@@ -155,12 +178,12 @@ pub fn laid_out(block: &[u8]) -> bool
     zero_from(block, HEAD_LENGTH + ENTRY_LENGTH * count)
 }
 
-// Stores the work left of task i's job.
-pub fn put_work(block: &mut [u8], i: usize, x: u32)
+// Stores what is left of task i's job.
+pub fn put_rest(block: &mut [u8], i: usize, rest: Rest)
     requires { ⌜ (i < places) × (length (now block) ≡ stateLength) ⌝ }
-    ensures { λ _. ⌜ now (block .exit) ≡ entryStored (now (block .entry)) workField i x ⌝ }
+    ensures { λ _. ⌜ now (block .exit) ≡ restStored (now (block .entry)) i rest ⌝ }
 {
-    numeric::put_number(block, WORK_AT + ENTRY_LENGTH * i, WORK_WIDTH, x);
+    numeric::put_number(block, WORK_AT + ENTRY_LENGTH * i, WORK_WIDTH, rest.work);
 }
 
 // Stores the remaining ticks of task i's job.

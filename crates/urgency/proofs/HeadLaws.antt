@@ -1,4 +1,4 @@
--- What a block's entries are to the definitions, and the most urgent open job that its keys tell: whose it is, its work and its allowance.
+-- What a block's entries are to the definitions, and the most urgent open job that its keys tell: whose it is, what is left of it and its allowance.
 -- Assumes nothing.
 use Prim.Native.Nat.{ℕ, _%_, _<_}
 use mathlib.Core.Path.{_≡_, refl, sym, ap, ap₂, subst, _∙_}
@@ -9,10 +9,11 @@ use lib.ListN.{getD}
 use Rattle.arith.specs.Choice.{pick}
 use Rattle.arith.proofs.Sums.{sumTo-eq}
 use Rattle.plan.specs.declared.Task.{Task}
+use Rattle.plan.specs.declared.Rest.{Rest}
 use Rattle.plan.specs.Blocks.{noTask}
 use Rattle.schedule.specs.PlainSchedule.{Timing, Pending}
 use Rattle.reclaiming.specs.declared.Entry.{Entry}
-use Rattle.reclaiming.specs.StateBlock.{State, workOf, remainingOf, taskOf, planIn, workField, stateCount, decode}
+use Rattle.reclaiming.specs.StateBlock.{State, workOf, remainingOf, restIn, restOf, taskOf, planIn, workField, stateCount, decode}
 use Rattle.reclaiming.specs.Orders.{allowance, openJobs}
 use Rattle.state.specs.Code.{Holds, entryIn, timingIn, numberIn}
 use Rattle.urgency.specs.Code.{Keyed, noKey, leastKey, allowedBy}
@@ -27,40 +28,40 @@ module _ (b : List ℕ) (i : ℕ) (h : i < stateCount b) where
   pub task-is : getD (planIn (decode b)) i noTask ≡ taskOf (entryIn b i)
   task-is = planIn-at (decode b) i ∙ ap taskOf (entry-at b i h)
 
-  pub period-is : timingIn b .period i ≡ entryIn b i .period
+  pub period-is : getD (planIn (decode b)) i noTask .period ≡ entryIn b i .period
   period-is = ap (λ (t : Task). t .period) task-is
 
-  pub work-is : workOf (decode b) i ≡ entryIn b i .work
-  work-is = ap (λ (e : Entry). e .work) (entry-at b i h)
+  pub rest-is : restOf (decode b) i ≡ restIn (entryIn b i)
+  rest-is = ap restIn (entry-at b i h)
 
   remaining-is : remainingOf (decode b) i ≡ entryIn b i .remaining
   remaining-is = ap (λ (e : Entry). e .remaining) (entry-at b i h)
 
 -- the least key of the jobs with work left was looked for
-pub record Looked (b l : List ℕ) (count best : ℕ) : Type 0 where
+pub record Looked (speeds b l : List ℕ) (count best : ℕ) : Type 0 where
   pub holds : Holds b
-  pub keyed : Keyed (timingIn b) (decode b .clock) l
+  pub keyed : Keyed (timingIn speeds b) (decode b .clock) l
   pub same : count ≡ stateCount b
   pub found : best ≡ leastKey l (numberIn b workField) count
 
 -- the most urgent open job is task i's
-pub record Head (b l : List ℕ) (best i : ℕ) : Type 0 where
+pub record Head (speeds b l : List ℕ) (best i : ℕ) : Type 0 where
   pub job : Pending
   pub rest : List Pending
-  pub queue : openJobs (timingIn b) (decode b) ≡ job ∷ rest
+  pub queue : openJobs (timingIn speeds b) (decode b) ≡ job ∷ rest
   pub task : job .job .task ≡ i
   pub below : i < stateCount b
   pub key : best ≡ getD l i 0
 
-module _ {b l : List ℕ} {count best : ℕ} (k : Looked b l count best) where
+module _ {speeds b l : List ℕ} {count best : ℕ} (k : Looked speeds b l count best) where
   abbrev τ : Timing
-  τ = timingIn b
+  τ = timingIn speeds b
 
   abbrev s : State
   s = decode b
 
   best-is : best ≡ headKey l (openJobs τ s)
-  best-is = open-head b l count best (k .same) (k .keyed) (k .found)
+  best-is = open-head speeds b l count best (k .same) (k .keyed) (k .found)
 
   -- without a key no job is open
   pub none-open : best ≡ noKey → openJobs τ s ≡ []
@@ -72,10 +73,10 @@ module _ {b l : List ℕ} {count best : ℕ} (k : Looked b l count best) where
           absurd (omega (arith, key-below τ (s .clock) l (k .keyed) (f .job .task) (head-below τ (s .clock) (workOf s) (τ .count) f q o)))
 
   -- else it tells the task
-  pub head : (best ≡ noKey → ⊥) → {i : ℕ} → i ≡ best % 16 → Head b l best i
+  pub head : (best ≡ noKey → ⊥) → {i : ℕ} → i ≡ best % 16 → Head speeds b l best i
   head some {i} task = go (openJobs τ s) refl best-is
     where
-      go : (q : List Pending) → openJobs τ s ≡ q → best ≡ headKey l q → Head b l best i
+      go : (q : List Pending) → openJobs τ s ≡ q → best ≡ headKey l q → Head speeds b l best i
       go [] o e = absurd (some e)
       go (f ∷ q) o e =
           let h : f .job .task < τ .count = head-below τ (s .clock) (workOf s) (τ .count) f q o in
@@ -90,36 +91,36 @@ module _ {b l : List ℕ} {count best : ℕ} (k : Looked b l count best) where
           }
 
 -- a key was found, and tells task i
-pub record Told (b l : List ℕ) (count best i : ℕ) : Type 0 where
-  pub looked : Looked b l count best
+pub record Told (speeds b l : List ℕ) (count best i : ℕ) : Type 0 where
+  pub looked : Looked speeds b l count best
   pub some : best ≡ noKey → ⊥
   pub task : i ≡ best % 16
 
-module _ {b l : List ℕ} {count best i : ℕ} (k : Told b l count best i) where
-  pub first-open : Head b l best i
+module _ {speeds b l : List ℕ} {count best i : ℕ} (k : Told speeds b l count best i) where
+  pub first-open : Head speeds b l best i
   first-open = head (k .looked) (k .some) (k .task)
 
   pub told-task : i < 16
   told-task = omega (arith, first-open .below, k .looked .holds .few)
 
--- whose work and allowance were read
-pub record Read (b l : List ℕ) (count best i work allowed : ℕ) : Type 0 where
-  pub told : Told b l count best i
-  pub work-in : work ≡ entryIn b i .work
+-- what is left of it and its allowance were read
+pub record Read (speeds b l : List ℕ) (count best i : ℕ) (rest : Rest) (allowed : ℕ) : Type 0 where
+  pub told : Told speeds b l count best i
+  pub rest-in : rest ≡ restIn (entryIn b i)
   pub allowed-in : allowed ≡ allowedBy l (λ j. entryIn b j .remaining) count best
 
-module _ {b l : List ℕ} {count best i work allowed : ℕ} (k : Read b l count best i work allowed) where
-  pub read-below : i < timingIn b .count
+module _ {speeds b l : List ℕ} {count best i : ℕ} {rest : Rest} {allowed : ℕ} (k : Read speeds b l count best i rest allowed) where
+  pub read-below : i < timingIn speeds b .count
   read-below = omega (arith, first-open (k .told) .below, timing-count b)
 
-  pub read-work : work ≡ workOf (decode b) i
-  read-work = k .work-in ∙ sym (work-is b i (first-open (k .told) .below))
+  pub read-rest : rest ≡ restOf (decode b) i
+  read-rest = k .rest-in ∙ sym (rest-is b i (first-open (k .told) .below))
 
-  pub read-allowed : allowed ≡ allowance (timingIn b) (decode b) i
+  pub read-allowed : allowed ≡ allowance (timingIn speeds b) (decode b) i
   read-allowed =
-      let counted : count ≡ timingIn b .count = k .told .looked .same ∙ sym (timing-count b) in
+      let counted : count ≡ timingIn speeds b .count = k .told .looked .same ∙ sym (timing-count b) in
       k .allowed-in
       ∙ sumTo-eq count (λ j. pick (ltb best (getD l j 0)) 0 (entryIn b j .remaining)) (λ j. pick (ltb best (getD l j 0)) 0 (remainingOf (decode b) j))
       (λ j h. ap (λ (x : ℕ). pick {A = ℕ} (ltb best (getD l j 0)) 0 x) (sym (remaining-is b j (omega (arith, k .told .looked .same)))))
       ∙ ap₂ (allowedBy l (remainingOf (decode b))) counted (first-open (k .told) .key)
-      ∙ allowance-is (timingIn b) (decode b) l (k .told .looked .keyed) i read-below
+      ∙ allowance-is (timingIn speeds b) (decode b) l (k .told .looked .keyed) i read-below

@@ -5,10 +5,10 @@ use mathlib.Core.Path.{_≡_, refl, sym, ap, ap₂, _∙_}
 use mathlib.Core.List.{List}
 use native.Mathlib.Omega.{arith}
 use lib.Dec.{eqb}
-use lib.ListN.{getD}
+use lib.ListN.{length, getD}
 use Rattle.arith.specs.Choice.{pick}
 use Rattle.reclaiming.specs.declared.Entry.{Entry}
-use Rattle.reclaiming.specs.StateBlock.{workOf, workField, stateCount, decode}
+use Rattle.reclaiming.specs.StateBlock.{workOf, planIn, workField, stateCount, decode}
 use Rattle.reclaiming.specs.Orders.{openJobs}
 use Rattle.state.specs.Code.{timingIn, numberIn}
 use Rattle.urgency.specs.Code.{Keyed, leastKey}
@@ -17,7 +17,7 @@ use Rattle.state.proofs.BlockLaws.{count-in, entry-at, field-work}
 use Rattle.urgency.proofs.KeyLaws.{headKey, least-is}
 
 -- how many tasks the plan in a block has
-pub timing-count : (b : List ℕ) → timingIn b .count ≡ stateCount b
+pub timing-count : (b : List ℕ) → length (planIn (decode b)) ≡ stateCount b
 timing-count b = length-planIn (decode b) ∙ count-in b
 
 -- the least key is found from what is left below n only
@@ -28,11 +28,11 @@ least-eq keys f g (suc n) h =
 
 -- the least key of the tasks with work left is at the head of the open jobs
 pub open-head :
-    (b keys : List ℕ) (count best : ℕ) → count ≡ stateCount b → Keyed (timingIn b) (decode b .clock) keys →
-    best ≡ leastKey keys (numberIn b workField) count → best ≡ headKey keys (openJobs (timingIn b) (decode b))
-open-head b keys count best same keyed e =
+    (speeds b keys : List ℕ) (count best : ℕ) → count ≡ stateCount b → Keyed (timingIn speeds b) (decode b .clock) keys →
+    best ≡ leastKey keys (numberIn b workField) count → best ≡ headKey keys (openJobs (timingIn speeds b) (decode b))
+open-head speeds b keys count best same keyed e =
     e
     ∙ least-eq keys (numberIn b workField) (workOf (decode b)) count
     (λ i h. field-work b i ∙ sym (ap (λ (x : Entry). x .work) (entry-at b i (omega arith))))
     ∙ ap (leastKey keys (workOf (decode b))) (same ∙ sym (timing-count b))
-    ∙ least-is (timingIn b) (decode b .clock) keys keyed (workOf (decode b)) (timingIn b .count) (omega arith)
+    ∙ least-is (timingIn speeds b) (decode b .clock) keys keyed (workOf (decode b)) (timingIn speeds b .count) (omega arith)
