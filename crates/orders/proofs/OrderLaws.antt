@@ -10,10 +10,8 @@ use native.Mathlib.Omega.{arith}
 use borrow.Author.Tests.{leb-true, le-leb, lt-leb, eq-eqb, ne-eqb}
 use lib.Dec.{leb, eqb}
 use lib.ListN.{getD}
-use lib.Seq.{sets}
 use Rattle.arith.specs.Choice.{pick}
 use Rattle.arith.specs.Need.{need}
-use Rattle.arith.specs.Digits.{digits}
 use Rattle.arith.proofs.Tests.{passed, failed, tested}
 use Rattle.arith.proofs.Needs.{need-faster}
 use Rattle.plan.specs.Levels.{baseSpeeds, speedOf}
@@ -23,11 +21,11 @@ use Rattle.schedule.specs.PlainSchedule.{Timing, Pending}
 use Rattle.orders.specs.declared.Choice.{Choice}
 use Rattle.reclaiming.specs.declared.Reply.{Reply}
 use Rattle.reclaiming.specs.declared.Reply.the-variants as reply
-use Rattle.reclaiming.specs.StateBlock.{State, workOf, remainingOf, encode, decode}
+use Rattle.reclaiming.specs.StateBlock.{State, workOf, remainingOf, encode, decode, taskField, levelField, stateCount}
 use Rattle.reclaiming.specs.Orders.{nextArrival, allowance, lowestLevel, holdOf, withOrder, orderFor, chooseOrder, orderWith}
 use Rattle.arith.specs.Ranges.{leastTo}
 use Rattle.reclaiming.specs.Questions.{runningTime}
-use Rattle.state.specs.Code.{Holds, entryIn, timingIn}
+use Rattle.state.specs.Code.{Holds, entryIn, headStored, timingIn}
 use Rattle.urgency.specs.Code.{Keyed, noKey, deadlineIn}
 use Rattle.orders.specs.Code.{choiceOf, runOf, holdBy, orderOf, Runnable, Enough}
 use Rattle.reclaiming.proofs.PassedStates.{choose-clock, choose-entries}
@@ -150,34 +148,34 @@ module _ {b l : List ℕ} {count best i work allowed level : ℕ} (k : Picked b 
       e ∙ ap choiceOf (sym order-is)
 
 -- the order that stands: to stay idle
-pub standing-idle : (b : List ℕ) → getD b 4 0 ≡ 255 → _≡_ {A = Choice} (record { task = 255; level = getD b 5 0; time = 0 }) (choiceOf (decode b))
+pub standing-idle : (b : List ℕ) → decode b .task ≡ 255 → _≡_ {A = Choice} (record { task = 255; level = decode b .level; time = 0 }) (choiceOf (decode b))
 standing-idle b e =
-    let t : 0 ≡ pick (eqb (getD b 4 0) 255) 0 (runningTime baseSpeeds (decode b)) =
-    ap (λ (z : Bool). pick {A = ℕ} z 0 (runningTime baseSpeeds (decode b))) (sym (eq-eqb (getD b 4 0) 255 e)) in
-    λ x. record { task = sym e x; level = getD b 5 0; time = t x }
+    let t : 0 ≡ pick (eqb (decode b .task) 255) 0 (runningTime baseSpeeds (decode b)) =
+    ap (λ (z : Bool). pick {A = ℕ} z 0 (runningTime baseSpeeds (decode b))) (sym (eq-eqb (decode b .task) 255 e)) in
+    λ x. record { task = sym e x; level = decode b .level; time = t x }
 
 -- or to run a task
 pub record Runs (b : List ℕ) : Type 0 where
   pub holds : Holds b
   pub runnable : Runnable (decode b)
-  pub some : getD b 4 0 ≡ 255 → ⊥
+  pub some : decode b .task ≡ 255 → ⊥
 
 module _ {b : List ℕ} (k : Runs b) where
-  standing-below : getD b 4 0 < getD b 6 0
+  standing-below : decode b .task < stateCount b
   standing-below = omega (arith, k .runnable .task (k .some), count-in b)
 
-  pub standing-task : getD b 4 0 < 16
+  pub standing-task : decode b .task < 16
   standing-task = omega (arith, standing-below, k .holds .few)
 
-  pub standing-level : getD b 5 0 < 8
+  pub standing-level : decode b .level < 8
   standing-level = k .runnable .level (k .some)
 
-  pub standing-run : {work : ℕ} → work ≡ entryIn b (getD b 4 0) .work → runOf (getD b 4 0) (getD b 5 0) work ≡ choiceOf (decode b)
+  pub standing-run : {work : ℕ} → work ≡ entryIn b (decode b .task) .work → runOf (decode b .task) (decode b .level) work ≡ choiceOf (decode b)
   standing-run {work} w =
-      let t : need (speedOf baseSpeeds (getD b 5 0)) work ≡ pick (eqb (getD b 4 0) 255) 0 (runningTime baseSpeeds (decode b)) =
-      ap (need (speedOf baseSpeeds (getD b 5 0))) (w ∙ sym (work-is b (getD b 4 0) standing-below))
-      ∙ ap (λ (z : Bool). pick {A = ℕ} z 0 (runningTime baseSpeeds (decode b))) (sym (ne-eqb (getD b 4 0) 255 (k .some))) in
-      λ x. record { task = getD b 4 0; level = getD b 5 0; time = t x }
+      let t : need (speedOf baseSpeeds (decode b .level)) work ≡ pick (eqb (decode b .task) 255) 0 (runningTime baseSpeeds (decode b)) =
+      ap (need (speedOf baseSpeeds (decode b .level))) (w ∙ sym (work-is b (decode b .task) standing-below))
+      ∙ ap (λ (z : Bool). pick {A = ℕ} z 0 (runningTime baseSpeeds (decode b))) (sym (ne-eqb (decode b .task) 255 (k .some))) in
+      λ x. record { task = decode b .task; level = decode b .level; time = t x }
 
 -- the hold of a state's order, from the ticks to the next arrival
 pub hold-is : (τ : Timing) (s : State) (next : ℕ) → next ≡ nextArrival τ (s .clock) → holdBy (choiceOf s) next ≡ holdOf baseSpeeds τ s
@@ -189,9 +187,9 @@ hold-is τ s next n =
 -- a block of some tasks with its keys, its count and its clock
 pub record Timed (b l : List ℕ) (count clock : ℕ) : Type 0 where
   pub holds : Holds b
-  pub some : 1 ≤ getD b 6 0
+  pub some : 1 ≤ stateCount b
   pub keyed : Keyed (timingIn b) (decode b .clock) l
-  pub same : count ≡ getD b 6 0
+  pub same : count ≡ stateCount b
   pub clock-is : clock ≡ decode b .clock
 
 module _ {b l : List ℕ} {count clock : ℕ} (k : Timed b l count clock) where
@@ -235,11 +233,11 @@ module _ {b : List ℕ} {next : ℕ} {c : Choice} (k : Chosen b next c) where
     entries = sym (choose-entries baseSpeeds (timingIn b) (decode b)) i;
   }
 
-  pub choose-stored : {m : List ℕ} → m ≡ sets (sets b 4 (digits 256 1 (c .task))) 5 (digits 256 1 (c .level)) → m ≡ encode N
+  pub choose-stored : {m : List ℕ} → m ≡ headStored (headStored b taskField (c .task)) levelField (c .level) → m ≡ encode N
   choose-stored e =
       e
-      ∙ ap (λ (x : List ℕ). sets (sets x 4 (digits 256 1 (c .task))) 5 (digits 256 1 (c .level))) (sym (k .back))
-      ∙ store-order (decode b) (c .task) (c .level) (k .small .0) (k .small .1)
+      ∙ ap (λ (x : List ℕ). headStored (headStored x taskField (c .task)) levelField (c .level)) (sym (k .back))
+      ∙ store-order (decode b) (c .task) (c .level)
       ∙ ap encode (ap (λ (x : Choice). withOrder (decode b) (x .task) (x .level)) (k .choice) ∙ order-only)
 
   next-is : next ≡ nextArrival (timingIn b) (N .clock)

@@ -1,5 +1,11 @@
 // Choosing an order: the task, the level and the hold.
 use reclaiming::Reply;
+use state::LEVEL_AT;
+use state::LEVEL_WIDTH;
+use state::TASK_AT;
+use state::TASK_WIDTH;
+use state::WORK_AT;
+use state::WORK_WIDTH;
 use state::clock_at;
 use state::count_at;
 use state::work_at;
@@ -10,14 +16,12 @@ use urgency::next_arrival;
 use urgency::task_in;
 ghost use mathlib.Core.Path.{_≡_};
 ghost use Prim.Native.Nat.{_<_, _≤_};
-ghost use lib.ListN.{length, getD};
-ghost use lib.Seq.{sets};
-ghost use Rattle.arith.specs.Digits.{digits};
+ghost use lib.ListN.{length};
 ghost use Rattle.arith.specs.Need.{need};
 ghost use Rattle.plan.specs.Levels.{baseSpeeds, speedOf};
-ghost use Rattle.reclaiming.specs.StateBlock.{encode, decode};
+ghost use Rattle.reclaiming.specs.StateBlock.{taskField, levelField, stateLength, stateCount, encode, decode};
 ghost use Rattle.reclaiming.specs.Orders.{nextArrival, lowestLevel, holdOf, chooseOrder, orderWith};
-ghost use Rattle.state.specs.Code.{Holds, timingIn};
+ghost use Rattle.state.specs.Code.{Holds, headStored, timingIn};
 ghost use Rattle.urgency.specs.Code.{Keyed};
 ghost use Rattle.orders.specs.Code.{choiceOf, runOf, holdBy, orderOf, Runnable, Enough};
 
@@ -63,12 +67,12 @@ fn running_order(i: usize, level: usize, work: u32) -> Choice
 
 // The order that is chosen in a state, where a level is known at which every job can be done in time.
 pub fn chosen(block: &[u8], keys: &[u64; 16], count: usize, highest: usize) -> Choice
-    requires { ⌜ Holds (now block) × (count ≡ getD (now block) 6 0) × Enough (decode (now block)) highest ⌝ }
+    requires { ⌜ Holds (now block) × (count ≡ stateCount (now block)) × Enough (decode (now block)) highest ⌝ }
     requires { ⌜ Keyed (timingIn (now block)) (decode (now block) .clock) (now keys) ⌝ }
     ensures { λ r. ⌜ r ≡ choiceOf (chooseOrder baseSpeeds (timingIn (now (block .entry))) (decode (now (block .entry)))) ⌝ }
     ensures { λ r. ⌜ (r .task < 256) × (r .level < 256) ⌝ }
 {
-    let best = most_urgent(block, keys, count, 13, 3);
+    let best = most_urgent(block, keys, count, WORK_AT, WORK_WIDTH);
     if best == NO_KEY {
         return Choice {
             task: 255,
@@ -87,8 +91,8 @@ pub fn standing(block: &[u8]) -> Choice
     requires { ⌜ Holds (now block) × Runnable (decode (now block)) ⌝ }
     ensures { λ r. ⌜ r ≡ choiceOf (decode (now (block .entry))) ⌝ }
 {
-    let task = block[4] as usize;
-    let level = block[5] as usize;
+    let task = block[TASK_AT] as usize;
+    let level = block[LEVEL_AT] as usize;
     if task == 255 {
         return Choice {
             task: 255,
@@ -101,11 +105,11 @@ pub fn standing(block: &[u8]) -> Choice
 
 // Stores an order.
 pub fn put_order(block: &mut [u8], c: Choice)
-    requires { ⌜ length (now block) ≡ 200 ⌝ }
-    ensures { λ _. ⌜ now (block .exit) ≡ sets (sets (now (block .entry)) 4 (digits 256 1 (c .task))) 5 (digits 256 1 (c .level)) ⌝ }
+    requires { ⌜ length (now block) ≡ stateLength ⌝ }
+    ensures { λ _. ⌜ now (block .exit) ≡ headStored (headStored (now (block .entry)) taskField (c .task)) levelField (c .level) ⌝ }
 {
-    numeric::put_number(block, 4, 1, c.task);
-    numeric::put_number(block, 5, 1, c.level);
+    numeric::put_number(block, TASK_AT, TASK_WIDTH, c.task);
+    numeric::put_number(block, LEVEL_AT, LEVEL_WIDTH, c.level);
 }
 
 // The hold of an order, where the next arrival is so many ticks away.
@@ -150,7 +154,7 @@ pub fn choose_until(block: &mut [u8], keys: &[u64; 16], highest: usize, next: u3
 
 // The same where the next arrival is still to be found.
 pub fn choose(block: &mut [u8], keys: &[u64; 16], highest: usize) -> Reply
-    requires { ⌜ Holds (now block) × (1 ≤ getD (now block) 6 0) × (encode (decode (now block)) ≡ now block) × Enough (decode (now block)) highest ⌝ }
+    requires { ⌜ Holds (now block) × (1 ≤ stateCount (now block)) × (encode (decode (now block)) ≡ now block) × Enough (decode (now block)) highest ⌝ }
     requires { ⌜ Keyed (timingIn (now block)) (decode (now block) .clock) (now keys) ⌝ }
     ensures { λ r. ⌜ r ≡ orderWith (chooseOrder baseSpeeds (timingIn (now (block .entry))) (decode (now (block .entry)))) (holdOf baseSpeeds (timingIn (now (block .entry))) (chooseOrder baseSpeeds (timingIn (now (block .entry))) (decode (now (block .entry))))) ⌝ }
     ensures { λ _. ⌜ now (block .exit) ≡ encode (chooseOrder baseSpeeds (timingIn (now (block .entry))) (decode (now (block .entry)))) ⌝ }

@@ -17,7 +17,7 @@ use Rattle.arith.proofs.DigitLaws.{number-below}
 use Rattle.reclaiming.specs.declared.Entry.{Entry}
 use Rattle.plan.specs.declared.Rest.{Rest}
 use Rattle.reclaiming.specs.Fields.{valueIn, fieldsBytes, fieldAt, widthOf, offsetOf, readField}
-use Rattle.reclaiming.specs.StateBlock.{State, noEntry, workOf, remainingOf, restIn, restOf, taskOf, entryWith, headFields, clockField, taskField, levelField, tailFields, places}
+use Rattle.reclaiming.specs.StateBlock.{State, noEntry, workOf, remainingOf, restIn, restOf, taskOf, entryWith, headFields, clockField, taskField, levelField, countField, tailFields, places}
 use Rattle.reclaiming.specs.StateBlock.{entryFields, periodField, worstField, workField, remainingField, pairField, headLength, entryLength, stateLength}
 use Rattle.reclaiming.specs.StateBlock.{entryBytes, entriesBytes, unusedBytes, encode, entryFrom, entriesFrom, stateCount, decode}
 use Rattle.reclaiming.specs.Orders.{withOrder}
@@ -50,9 +50,18 @@ entry-at bytes i h =
     entriesFrom-at (stateCount bytes) (drop headLength bytes) i h
     ∙ ap (λ (x : List ℕ). entryFrom x) (drop-drop (entryLength * i) headLength bytes)
 
--- a field of one byte is that byte
+-- a field of one byte is that byte; so the task, the level and the count are
 pub byte-field : (bytes : List ℕ) (at : ℕ) → number 256 1 (drop at bytes) ≡ getD bytes at 0
 byte-field bytes at = omega (arith, getD-drop at bytes 0 0, ap (λ (k : ℕ). getD bytes k 0) (add-zero at))
+
+pub task-byte : (bytes : List ℕ) → getD bytes (offsetOf headFields taskField) 0 ≡ decode bytes .task
+task-byte bytes = sym (byte-field bytes (offsetOf headFields taskField))
+
+pub level-byte : (bytes : List ℕ) → getD bytes (offsetOf headFields levelField) 0 ≡ decode bytes .level
+level-byte bytes = sym (byte-field bytes (offsetOf headFields levelField))
+
+pub count-byte : (bytes : List ℕ) → getD bytes (offsetOf headFields countField) 0 ≡ stateCount bytes
+count-byte bytes = sym (byte-field bytes (offsetOf headFields countField))
 
 -- where field k of entry i stands, counted from the front of the entry
 field-place : (k i : ℕ) → fieldPlace k + entryLength * i ≡ entryAt i + offsetOf entryFields k

@@ -1,8 +1,16 @@
 -- `standing` meets its contract: the order is to stay idle, or runs one of the tasks.
 -- Assumes nothing.
-use mathlib.Core.Path.{_∙_}
+use Prim.Native.Nat.{ℕ}
+use mathlib.Core.Path.{sym, ap, ap₂, _∙_}
+use mathlib.Core.List.{List}
 use native.Mathlib.Omega.{arith}
 use borrow.Author.Needs.{needs}
+use Rattle.reclaiming.specs.Fields.{offsetOf}
+use Rattle.reclaiming.specs.StateBlock.{headFields, taskField, levelField}
+use Rattle.state.specs.Code.{entryIn}
+use Rattle.state.proofs.BlockLaws.{task-byte, level-byte}
+use Rattle.orders.specs.declared.Choice.{Choice}
+use Rattle.orders.specs.Code.{runOf}
 use Rattle.orders.proofs.OrderLaws.{Runs, standing-idle, standing-task, standing-level, standing-run}
 use Rattle.orders.proofs.standing.Statement.{statement}
 use Rattle.orders.proofs.standing.Tie as tie
@@ -11,34 +19,44 @@ abbrev start : tie.Else1 → tie.Start
 start c = c .before .before .before .before
 
 runs : (c : tie.Else1) → Runs (start c .args .block .now)
-runs c = record { holds = start c .pre .0; runnable = start c .pre .1; some = c .if1 .left }
+runs c = record { holds = start c .pre .0; runnable = start c .pre .1; some = λ e. c .if1 .left (task-byte (start c .args .block .now) ∙ e) }
 
 shared-slice-read-task : tie.Need-shared-slice-read-task
 shared-slice-read-task c = search needs
 
 cast-task : tie.Need-cast-task
-cast-task c = omega (arith, c .shared-slice-known2 .given 4)
+cast-task c = omega (arith, c .shared-slice-known2 .given (offsetOf headFields taskField))
 
 shared-slice-read-level : tie.Need-shared-slice-read-level
 shared-slice-read-level c = search needs
 
 cast-level : tie.Need-cast-level
-cast-level c = omega (arith, c .shared-slice-known3 .given 5)
+cast-level c = omega (arith, c .shared-slice-known3 .given (offsetOf headFields levelField))
 
 cast-t8 : tie.Need-cast-t8
-cast-t8 c = omega (arith, c .before .shared-slice-known3 .given 5)
+cast-t8 c = omega (arith, c .before .shared-slice-known3 .given (offsetOf headFields levelField))
 
 returns : tie.Need-returns
-returns c = standing-idle (c .before .before .before .before .args .block .now) (c .if1 .taken)
+returns c =
+    let b : List ℕ = c .before .before .before .before .args .block .now in
+    let idle : ℕ → Choice = λ n. record { task = 255; level = n; time = 0 } in
+    ap idle (level-byte b) ∙ standing-idle b (sym (task-byte b) ∙ c .if1 .taken)
 
 work-at-requires : tie.Need-work-at-requires
-work-at-requires c κs = (omega (arith, standing-task (runs c), standing-level (runs c)), runs c .holds .size)
+work-at-requires c κs = (omega (arith, standing-task (runs c), task-byte (start c .args .block .now)), runs c .holds .size)
 
 running-order-requires : tie.Need-running-order-requires
-running-order-requires c κs = (standing-task (runs (c .before)), standing-level (runs (c .before)))
+running-order-requires c κs = (
+  omega (arith, standing-task (runs (c .before)), task-byte (start (c .before) .args .block .now)),
+  omega (arith, standing-level (runs (c .before)), level-byte (start (c .before) .args .block .now)),
+)
 
 returns-2 : tie.Need-returns-2
-returns-2 c = c .running-order .ensures ∙ standing-run (runs (c .before .before)) (c .before .work-at .ensures .0)
+returns-2 c =
+    let b : List ℕ = start (c .before .before) .args .block .now in
+    c .running-order .ensures
+    ∙ ap₂ (λ (x y : ℕ). runOf x y (c .before .work-at .result)) (task-byte b) (level-byte b)
+    ∙ standing-run (runs (c .before .before)) (c .before .work-at .ensures .0 ∙ ap (λ (x : ℕ). entryIn b x .work) (task-byte b))
 
 pub standing-spec : {M : Type 1} → statement M
 standing-spec =

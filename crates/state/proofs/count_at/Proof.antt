@@ -1,13 +1,12 @@
 -- `count_at` meets its contract.
 -- Assumes nothing.
 use Prim.Native.Nat.{ℕ, _<_}
-use mathlib.Core.Path.{sym}
 use native.Mathlib.Omega.{arith}
 use borrow.Author.Needs.{needs}
 use lib.ListN.{getD}
 use Rattle.reclaiming.specs.Fields.{offsetOf}
 use Rattle.reclaiming.specs.StateBlock.{headFields, levelField, countField, zeroField}
-use Rattle.state.proofs.BlockLaws.{byte-field}
+use Rattle.state.proofs.BlockLaws.{count-byte}
 use Rattle.state.proofs.count_at.Statement.{statement}
 use Rattle.state.proofs.count_at.Tie as tie
 
@@ -26,7 +25,7 @@ cast-result c =
     )
 
 returns : tie.Need-returns
-returns c = sym (byte-field (c .before .args .block .now) (offsetOf headFields countField))
+returns c = count-byte (c .before .args .block .now)
 
 pub count-at-spec : {M : Type 1} → statement M
 count-at-spec = tie.close (tie.spec shared-slice-read-result cast-result returns)
