@@ -1,12 +1,12 @@
 -- Whether a plan is admitted: what each loop has made so far, and what each way out says of the questions 6, 7 and 8.
 -- Assumes nothing.
 use Prim.Native.Nat.{ℕ, _+_, _-_, _*_, _/_, _<_, _≤_, min}
-use mathlib.Core.Path.{_≡_, sym, subst, ap, ap₂, _∙_}
+use mathlib.Core.Path.{_≡_, refl, sym, subst, ap, ap₂, _∙_}
 use mathlib.Core.Bool.{Bool, true, false}
-use mathlib.Core.List.{List, _∷_}
+use mathlib.Core.List.{List, [], _∷_}
 use native.Mathlib.Omega.{arith}
 use native.Mathlib.Numerals.{add-one}
-use borrow.Author.Tests.{le-leb, lt-leb, le-ltb, lt-ltb}
+use borrow.Author.Tests.{le-leb, lt-leb, le-ltb}
 use native.Mathlib.Nat.{mul-le-mul, div-le-self}
 use lib.Dec.{leb}
 use lib.ListN.{length, getD, drop}
@@ -24,13 +24,14 @@ use Rattle.plan.specs.Answers.{answered}
 use Rattle.plan.specs.Times.{whole, taskTime}
 use Rattle.plan.specs.Levels.{Rising, hyperperiod, demandWithin, speedOf, nominal, admits}
 use Rattle.plan.specs.Blocks.{noTask, tasksOf}
-use Rattle.plan.specs.Questions.{inRange, taskQuestions}
+use Rattle.plan.specs.Questions.{inRange, rangeQuestion, levelQuestion, taskQuestions}
 use Rattle.arith.proofs.ArrayLaws.{value-at}
 use Rattle.arith.proofs.Loops.{rest-cons, rest-end, every-taken, every-again, every-not, every-end}
+use Rattle.arith.proofs.QuestionLaws.{ask-no, ask-yes}
 use Rattle.arith.proofs.Searches.{first-found, first-next, first-none, first-weaker}
 use Rattle.arith.proofs.Sums.{sumTo-eq, sumOf-taken}
 use Rattle.arith.proofs.Tests.{both-false}
-use Rattle.plan.proofs.Facts.{InRange, in-range, length-tasksOf}
+use Rattle.plan.proofs.Facts.{InRange, in-range, span-asked, level-asked, length-tasksOf}
 use Rattle.plan.proofs.LevelLaws.{admits-covers, hyperperiod-drop, range-positive}
 use Rattle.plan.proofs.TimeLaws.{time-most}
 use Rattle.levels.specs.Code.{loaded, Table}
@@ -264,30 +265,29 @@ module _ (speeds : List ℕ) (ts : List Task) where
   told : {n : ℕ} → firstNo (taskQuestions speeds ts) ≡ n → answered n speeds ts ≡ verdictOf speeds ts
   told e = sym (ap (λ (n : ℕ). answered n speeds ts) e)
 
-  pub refused-6 : every inRange ts ≡ false → verdict.Refused 6 ≡ verdictOf speeds ts
-  refused-6 a = told {n = 6} (simp a)
+  pub refused-6 : rangeQuestion ts .reply ≡ false → verdict.Refused 6 ≡ verdictOf speeds ts
+  refused-6 six = told {n = 6} (ask-no 6 _ six)
 
-  pub refused-7 : every inRange ts ≡ true → 1000000 < hyperperiod ts → verdict.Refused 7 ≡ verdictOf speeds ts
-  refused-7 a b = told {n = 7} (simp (a, lt-leb (hyperperiod ts) 1000000 b))
+  pub refused-7 : rangeQuestion ts .reply ≡ true → 1000000 < hyperperiod ts → verdict.Refused 7 ≡ verdictOf speeds ts
+  refused-7 six over = told {n = 7} (ask-yes 6 six (ask-no 7 _ (lt-leb (hyperperiod ts) 1000000 over)))
 
 -- 6 and 7 are answered yes, and the level is known
 pub record Levelled (speeds : List ℕ) (ts : List Task) (span level : ℕ) : Type 0 where
-  pub ranges : every inRange ts ≡ true
+  pub ranges : rangeQuestion ts .reply ≡ true
   pub span-is : span ≡ hyperperiod ts
   pub small : span ≤ 1000000
   pub level-is : level ≡ nominal speeds ts
 
 module _ {speeds : List ℕ} {ts : List Task} {span level : ℕ} (k : Levelled speeds ts span level) where
-  seven : leb (hyperperiod ts) 1000000 ≡ true
-  seven = ap (λ (x : ℕ). leb x 1000000) (sym (k .span-is)) ∙ le-leb span 1000000 (k .small)
+  levelled : (n : ℕ) → firstNo (levelQuestion speeds ts ∷ []) ≡ n → answered n speeds ts ≡ verdictOf speeds ts
+  levelled n e =
+      told speeds ts {n = n}
+      (ask-yes 6 (k .ranges) (ask-yes 7 (span-asked ts (subst (λ (x : ℕ). x ≤ 1000000) (k .span-is) (k .small))) e))
 
   pub refused-8 : length speeds ≤ level → verdict.Refused 8 ≡ verdictOf speeds ts
-  refused-8 h =
-      told speeds ts {n = 8}
-      (simp (k .ranges, seven, le-ltb (nominal speeds ts) (length speeds) (subst (λ (n : ℕ). length speeds ≤ n) (k .level-is) h)))
+  refused-8 h = levelled 8 (ask-no 8 _ (le-ltb (nominal speeds ts) (length speeds) (subst (λ (n : ℕ). length speeds ≤ n) (k .level-is) h)))
 
   pub admitted-at : level < length speeds → verdict.Admitted level span ≡ verdictOf speeds ts
   admitted-at h =
       ap₂ (λ (l x : ℕ). verdict.Admitted l x) (k .level-is) (k .span-is)
-      ∙ told speeds ts {n = 0}
-      (simp (k .ranges, seven, lt-ltb (nominal speeds ts) (length speeds) (subst (λ (n : ℕ). n < length speeds) (k .level-is) h)))
+      ∙ levelled 0 (ask-yes 8 (level-asked speeds ts (subst (λ (n : ℕ). n < length speeds) (k .level-is) h)) refl)

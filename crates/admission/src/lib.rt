@@ -14,7 +14,7 @@ ghost use Rattle.arith.specs.Sum.{sumTo};
 ghost use Rattle.plan.specs.Levels.{hyperperiod, nominal};
 ghost use Rattle.plan.specs.Times.{taskTime};
 ghost use Rattle.levels.specs.Code.{loaded, Table};
-ghost use Rattle.plan.specs.Questions.{inRange, taskQuestions};
+ghost use Rattle.plan.specs.Questions.{inRange, rangeQuestion, taskQuestions};
 ghost use Rattle.arith.specs.Asking.{firstNo};
 ghost use Rattle.plan.specs.Blocks.{noTask, tasksOf};
 ghost use Rattle.plan.specs.Answers.{answered};
@@ -42,10 +42,10 @@ fn task_in_range(t: Task) -> bool
     t.worst <= 1048575
 }
 
-// Whether each period and worst case is in its range.
-fn in_range(p: Plan) -> bool
+// Question 6: whether each period and worst case is in its range.
+pub fn in_range(p: Plan) -> bool
     requires { ⌜ p .count ≤ 16 ⌝ }
-    ensures { λ r. ⌜ r ≡ every inRange (tasksOf p) ⌝ }
+    ensures { λ r. ⌜ r ≡ rangeQuestion (tasksOf p) .reply ⌝ }
 {
     let count = p.count;
     let mut i: usize = 0;
@@ -59,8 +59,8 @@ fn in_range(p: Plan) -> bool
     true
 }
 
-// The hyperperiod, or 1,000,001 where it is above 1,000,000.
-fn hyperperiod_of(p: Plan) -> u32
+// What question 7 asks about: the hyperperiod, or 1,000,001 where it is above 1,000,000.
+pub fn hyperperiod_of(p: Plan) -> u32
     requires { ⌜ (p .count ≤ 16) × (every inRange (tasksOf p) ≡ true) ⌝ }
     ensures { λ r. ⌜ r ≡ min (hyperperiod (tasksOf p)) 1000001 ⌝ }
 {
@@ -129,9 +129,9 @@ fn slowest_for(speeds: &[u32; 8], levels: usize, work: u64, span: u32) -> usize
     lowest
 }
 
-// The lowest level that admits a plan of this hyperperiod, or the count of the levels. A level too slow for the plain work is
-// passed over at once.
-fn nominal_of(speeds: &[u32; 8], levels: usize, p: Plan, span: u32) -> usize
+// What question 8 asks about: the lowest level that admits a plan of this hyperperiod, or the count of the levels. A level too slow
+// for the plain work is passed over at once.
+pub fn nominal_of(speeds: &[u32; 8], levels: usize, p: Plan, span: u32) -> usize
     requires { ⌜ Table (now speeds) levels ⌝ }
     requires { ⌜ (p .count ≤ 16) × (every inRange (tasksOf p) ≡ true) ⌝ }
     requires { ⌜ (span ≡ hyperperiod (tasksOf p)) × (span ≤ 1000000) ⌝ }
@@ -150,7 +150,7 @@ fn nominal_of(speeds: &[u32; 8], levels: usize, p: Plan, span: u32) -> usize
     level
 }
 
-// The questions 6, 7 and 8.
+// The questions 6, 7 and 8, in this order.
 pub fn verdict_of(speeds: &[u32; 8], levels: usize, p: Plan) -> Verdict
     requires { ⌜ (p .count ≤ 16) × Table (now speeds) levels ⌝ }
     ensures { λ r. ⌜ r ≡ answered

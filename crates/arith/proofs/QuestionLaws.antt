@@ -6,7 +6,7 @@ use mathlib.Core.Bool.{Bool, true, false}
 use mathlib.Core.List.{List, [], _∷_, _++_}
 use native.Mathlib.Omega.{arith}
 use borrow.Author.Tests.{leb-true, le-leb, lt-leb}
-use lib.Dec.{leb}
+use lib.Dec.{leb, eqb}
 use Rattle.arith.specs.Choice.{pick, every}
 use Rattle.arith.specs.Asking.{within, Question, firstNo}
 use Rattle.arith.proofs.Tests.{both-left, both-right, both-true, both-false}
@@ -91,6 +91,22 @@ all-yes (q ∷ qs) p h =
 pub yes-all : (qs : List Question) → Yes qs → firstNo qs ≡ 0
 yes-all [] a = refl
 yes-all (q ∷ qs) a = ask-yes (q .number) (a .0) (yes-all qs (a .1))
+
+-- the reply to the question of a number, wherever it stands: yes, where there is no first no
+abbrev pub replyTo : ℕ → List Question → Bool
+replyTo n [] = true
+replyTo n (q ∷ qs) = pick (eqb (q .number) n) (q .reply) (replyTo n qs)
+
+pub replied : (qs : List Question) → every numbered qs ≡ true → firstNo qs ≡ 0 → (n : ℕ) → replyTo n qs ≡ true
+replied qs p h n = find qs (all-yes qs p h)
+  where
+    step : (b c d : Bool) → c ≡ true → d ≡ true → pick b c d ≡ true
+    step true c d y z = y
+    step false c d y z = z
+
+    find : (qs : List Question) → Yes qs → replyTo n qs ≡ true
+    find [] a = refl
+    find (q ∷ qs) a = step (eqb (q .number) n) (q .reply) (replyTo n qs) (a .0) (find qs (a .1))
 
 -- where each question's number is at most some bound, so is the first no
 module _ (most : ℕ) where

@@ -13,13 +13,13 @@ use Rattle.arith.specs.Bits.{unpacked}
 use Rattle.arith.specs.Asking.{firstNo, within}
 use Rattle.arith.proofs.Tests.{both-left, both-right}
 use Rattle.arith.proofs.ListLaws.{every-at}
-use Rattle.arith.proofs.QuestionLaws.{within-high, within-low, within-true, Yes, all-yes, yes-all}
+use Rattle.arith.proofs.QuestionLaws.{within-high, within-low, within-true, Yes, yes-all, replyTo, replied}
 use lib.Seq.{length-take-le}
 use Rattle.plan.specs.declared.Task.{Task}
 use Rattle.plan.specs.declared.Plan.{Plan}
 use Rattle.plan.specs.Levels.{hyperperiod, nominal}
 use Rattle.plan.specs.Blocks.{editionIn, countIn, tasksIn, blockLength, closingBits, noTask, tasksOf}
-use Rattle.plan.specs.Questions.{inRange, taskQuestions, judging, reading}
+use Rattle.plan.specs.Questions.{inRange, rangeQuestion, spanQuestion, levelQuestion, taskQuestions, judging, reading}
 use Rattle.plan.proofs.BlockBits.{length-tasksFrom}
 
 -- a task in range
@@ -43,6 +43,21 @@ in-range t h =
 pub range-at : (ts : List Task) (i : ℕ) → every inRange ts ≡ true → i < length ts → InRange (getD ts i noTask)
 range-at ts i h l = in-range (getD ts i noTask) (every-at inRange ts i noTask h l)
 
+-- what each question asks: its yes as a fact, and back
+module _ (ts : List Task) where
+  pub span-told : spanQuestion ts .reply ≡ true → hyperperiod ts ≤ 1000000
+  span-told h = leb-true (hyperperiod ts) 1000000 h
+
+  pub span-asked : hyperperiod ts ≤ 1000000 → spanQuestion ts .reply ≡ true
+  span-asked h = le-leb (hyperperiod ts) 1000000 h
+
+module _ (speeds : List ℕ) (ts : List Task) where
+  pub level-told : levelQuestion speeds ts .reply ≡ true → nominal speeds ts < length speeds
+  level-told h = leb-true (suc (nominal speeds ts)) (length speeds) h
+
+  pub level-asked : nominal speeds ts < length speeds → levelQuestion speeds ts .reply ≡ true
+  level-asked h = le-leb (suc (nominal speeds ts)) (length speeds) h
+
 -- tasks of which 6, 7 and 8 are answered yes
 pub record FineTasks (speeds : List ℕ) (ts : List Task) : Type 0 where
   pub ranges : every inRange ts ≡ true
@@ -50,21 +65,22 @@ pub record FineTasks (speeds : List ℕ) (ts : List Task) : Type 0 where
   pub admitted : nominal speeds ts < length speeds
 
 -- from the answers to the facts, and back
-tasks-fine : (speeds : List ℕ) (ts : List Task) → Yes (taskQuestions speeds ts) → FineTasks speeds ts
-tasks-fine speeds ts a = record {
-  ranges = a .0;
-  span-most = leb-true (hyperperiod ts) 1000000 (a .1 .0);
-  admitted = leb-true (suc (nominal speeds ts)) (length speeds) (a .1 .1 .0);
-}
+tasks-fine :
+    (speeds : List ℕ) (ts : List Task) →
+    rangeQuestion ts .reply ≡ true →
+    spanQuestion ts .reply ≡ true →
+    levelQuestion speeds ts .reply ≡ true →
+    FineTasks speeds ts
+tasks-fine speeds ts six seven eight =
+    record { ranges = six; span-most = span-told ts seven; admitted = level-told speeds ts eight }
 
 fine-yes : (speeds : List ℕ) (ts : List Task) → FineTasks speeds ts → Yes (taskQuestions speeds ts)
-fine-yes speeds ts f = (
-  f .ranges,
-  (le-leb (hyperperiod ts) 1000000 (f .span-most), (le-leb (suc (nominal speeds ts)) (length speeds) (f .admitted), tt)),
-)
+fine-yes speeds ts f = (f .ranges, (span-asked ts (f .span-most), (level-asked speeds ts (f .admitted), tt)))
 
 pub fine-tasks : (speeds : List ℕ) (ts : List Task) → firstNo (taskQuestions speeds ts) ≡ 0 → FineTasks speeds ts
-fine-tasks speeds ts h = tasks-fine speeds ts (all-yes (taskQuestions speeds ts) refl h)
+fine-tasks speeds ts h =
+    let told : (n : ℕ) → replyTo n (taskQuestions speeds ts) ≡ true = replied (taskQuestions speeds ts) refl h in
+    tasks-fine speeds ts (told 6) (told 7) (told 8)
 
 pub tasks-yes : (speeds : List ℕ) (ts : List Task) → FineTasks speeds ts → firstNo (taskQuestions speeds ts) ≡ 0
 tasks-yes speeds ts f = yes-all (taskQuestions speeds ts) (fine-yes speeds ts f)
@@ -80,11 +96,11 @@ pub fine-list :
     firstNo (judging speeds count ts) ≡ 0 →
     FineList speeds count ts
 fine-list speeds count ts h =
-    let a : Yes (judging speeds count ts) = all-yes (judging speeds count ts) refl h in
+    let told : (n : ℕ) → replyTo n (judging speeds count ts) ≡ true = replied (judging speeds count ts) refl h in
     record {
-      count-low = within-low 1 16 count (a .0);
-      count-high = within-high 1 16 count (a .0);
-      tasks = tasks-fine speeds ts (a .1);
+      count-low = within-low 1 16 count (told 3);
+      count-high = within-high 1 16 count (told 3);
+      tasks = tasks-fine speeds ts (told 6) (told 7) (told 8);
     }
 
 pub list-yes :
@@ -106,15 +122,15 @@ pub record FineBlock (speeds block : List ℕ) : Type 0 where
 
 pub fine-block : (speeds block : List ℕ) → firstNo (reading speeds block) ≡ 0 → FineBlock speeds block
 fine-block speeds block h =
-    let a : Yes (reading speeds block) = all-yes (reading speeds block) refl h in
+    let told : (n : ℕ) → replyTo n (reading speeds block) ≡ true = replied (reading speeds block) refl h in
     record {
-      long = leb-true 2 (length block) (a .0);
-      edition = eqb-true (editionIn block) 1 (a .1 .0);
-      count-low = within-low 1 16 (countIn block) (a .1 .1 .0);
-      count-high = within-high 1 16 (countIn block) (a .1 .1 .0);
-      size = eqb-true (length block) (blockLength (countIn block)) (a .1 .1 .1 .0);
-      closing = a .1 .1 .1 .1 .0;
-      tasks = tasks-fine speeds (tasksIn block) (a .1 .1 .1 .1 .1);
+      long = leb-true 2 (length block) (told 1);
+      edition = eqb-true (editionIn block) 1 (told 2);
+      count-low = within-low 1 16 (countIn block) (told 3);
+      count-high = within-high 1 16 (countIn block) (told 3);
+      size = eqb-true (length block) (blockLength (countIn block)) (told 4);
+      closing = told 5;
+      tasks = tasks-fine speeds (tasksIn block) (told 6) (told 7) (told 8);
     }
 
 pub block-yes : (speeds block : List ℕ) → FineBlock speeds block → firstNo (reading speeds block) ≡ 0

@@ -19,13 +19,21 @@ inRange t = both (within 1 65535 (t .period)) (within 1 1048575 (t .worst))
 abbrev pub countQuestion : ℕ → Question
 countQuestion count = ask 3 (within 1 16 count)
 
--- "Is each period and worst case in its range? 6  Is the hyperperiod at most 1,000,000? 7  Does some level admit the plan? 8"
+-- "Is each period and worst case in its range? 6"
+abbrev pub rangeQuestion : List Task → Question
+rangeQuestion ts = ask 6 (every inRange ts)
+
+-- "Is the hyperperiod at most 1,000,000? 7"
+abbrev pub spanQuestion : List Task → Question
+spanQuestion ts = ask 7 (leb (hyperperiod ts) 1000000)
+
+-- "Does some level admit the plan? 8"
+abbrev pub levelQuestion : List ℕ → List Task → Question
+levelQuestion speeds ts = ask 8 (ltb (nominal speeds ts) (length speeds))
+
+-- those put to the tasks of a plan
 abbrev pub taskQuestions : List ℕ → List Task → List Question
-taskQuestions speeds ts =
-    ask 6 (every inRange ts)
-    ∷ ask 7 (leb (hyperperiod ts) 1000000)
-    ∷ ask 8 (ltb (nominal speeds ts) (length speeds))
-    ∷ []
+taskQuestions speeds ts = rangeQuestion ts ∷ spanQuestion ts ∷ levelQuestion speeds ts ∷ []
 
 -- 01: "Writing a plan, and judging a list, put 3, 6, 7, 8."
 abbrev pub judging : List ℕ → ℕ → List Task → List Question
