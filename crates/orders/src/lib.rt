@@ -1,4 +1,5 @@
 // Choosing an order: the task, the level and the hold.
+use plan::Rest;
 use reclaiming::Reply;
 use state::LEVEL_AT;
 use state::LEVEL_WIDTH;
@@ -8,7 +9,7 @@ use state::WORK_AT;
 use state::WORK_WIDTH;
 use state::clock_at;
 use state::count_at;
-use state::work_at;
+use state::rest_at;
 use urgency::NO_KEY;
 use urgency::allowance_of;
 use urgency::most_urgent;
@@ -17,33 +18,40 @@ use urgency::task_in;
 ghost use mathlib.Core.Path.{_≡_};
 ghost use Prim.Native.Nat.{_<_, _≤_};
 ghost use lib.ListN.{length};
-ghost use Rattle.arith.specs.Need.{need};
-ghost use Rattle.plan.specs.Levels.{baseSpeeds, speedOf};
+ghost use Rattle.plan.specs.Times.{timeOf};
+ghost use Rattle.plan.specs.Levels.{speedOf};
+ghost use Rattle.levels.specs.Code.{loaded, Table};
 ghost use Rattle.reclaiming.specs.StateBlock.{taskField, levelField, stateLength, stateCount, encode, decode};
-ghost use Rattle.reclaiming.specs.Orders.{nextArrival, lowestLevel, holdOf, chooseOrder, orderWith};
+ghost use Rattle.reclaiming.specs.Orders.{nextArrival, lowestLevel};
 ghost use Rattle.state.specs.Code.{Holds, headStored, timingIn};
 ghost use Rattle.urgency.specs.Code.{Keyed};
-ghost use Rattle.orders.specs.Code.{choiceOf, runOf, holdBy, orderOf, Runnable, Enough};
+ghost use Rattle.orders.specs.Code.{choiceOf, runOf, chosenIn, chosenReply, holdBy, orderOf, Runnable, Enough};
 
-// An order without its hold: the task (255 for idle), the level, and the time that the work left needs there.
+// An order without its hold: the task (255 for idle), the level, and the time that is left of its job there.
 pub struct Choice {
     pub task: u32,
     pub level: u32,
     pub time: u32,
 }
 
-// The lowest level at which the work needs no more than is allowed: at which the ticks that are allowed do the work. The highest does it,
-// and a faster level does no less, so the levels up to it are halved.
-pub fn level_for(work: u32, allowed: u32, highest: usize) -> usize
-    requires { ⌜ (allowed ≤ 1048560) × (highest < 8) × (need (speedOf baseSpeeds highest) work ≤ allowed) ⌝ }
-    ensures { λ r. ⌜ (r ≡ lowestLevel baseSpeeds work allowed) × (r ≤ highest) ⌝ }
+// The lowest level at which what is left needs no more than is allowed: at which the ticks that are allowed are enough. At the highest
+// they are, and a faster level needs no more, so the levels up to it are halved.
+pub fn level_for(
+    speeds: &[u32; 8],
+    levels: usize,
+    rest: Rest,
+    allowed: u32,
+    highest: usize,
+) -> usize
+    requires { ⌜ Table (now speeds) levels × (allowed ≤ 1048560) × (highest < levels) ⌝ }
+    requires { ⌜ timeOf (speedOf (loaded (now speeds) levels) highest) rest ≤ allowed ⌝ }
+    ensures { λ r. ⌜ (r ≡ lowestLevel (loaded (now (speeds .entry)) levels) rest allowed) × (r ≤ highest) ⌝ }
 {
     let mut low: usize = 0;
     let mut high: usize = highest;
     while low < high {
         let middle = (low + high) / 2;
-        let speed = admission::speed_of(middle);
-        if work <= speed * allowed {
+        if times::is_enough(speeds[middle], rest, allowed) {
             high = middle;
         } else {
             low = middle + 1;
@@ -52,24 +60,32 @@ pub fn level_for(work: u32, allowed: u32, highest: usize) -> usize
     low
 }
 
-// A run order of task i, with the time that the work needs.
-fn running_order(i: usize, level: usize, work: u32) -> Choice
-    requires { ⌜ (i < 16) × (level < 8) ⌝ }
-    ensures { λ r. ⌜ r ≡ runOf i level work ⌝ }
+// A run order of task i, with the time that is left of its job.
+fn running_order(speeds: &[u32; 8], levels: usize, i: usize, level: usize, rest: Rest) -> Choice
+    requires { ⌜ Table (now speeds) levels × (i < 16) × (level < levels) × (rest .work < 16777216) ⌝ }
+    ensures { λ r. ⌜ r ≡ runOf (loaded (now (speeds .entry)) levels) i level rest ⌝ }
 {
-    let speed = admission::speed_of(level);
+    let time = times::time_of(speeds[level], rest);
     Choice {
         task: i as u32,
         level: level as u32,
-        time: numeric::time_needed(speed, work),
+        time,
     }
 }
 
 // The order that is chosen in a state, where a level is known at which every job can be done in time.
-pub fn chosen(block: &[u8], keys: &[u64; 16], count: usize, highest: usize) -> Choice
-    requires { ⌜ Holds (now block) × (count ≡ stateCount (now block)) × Enough (decode (now block)) highest ⌝ }
-    requires { ⌜ Keyed (timingIn (now block)) (decode (now block) .clock) (now keys) ⌝ }
-    ensures { λ r. ⌜ r ≡ choiceOf (chooseOrder baseSpeeds (timingIn (now (block .entry))) (decode (now (block .entry)))) ⌝ }
+pub fn chosen(
+    speeds: &[u32; 8],
+    levels: usize,
+    block: &[u8],
+    keys: &[u64; 16],
+    count: usize,
+    highest: usize,
+) -> Choice
+    requires { ⌜ Table (now speeds) levels × Holds (now block) × (count ≡ stateCount (now block)) ⌝ }
+    requires { ⌜ Enough (loaded (now speeds) levels) (decode (now block)) highest ⌝ }
+    requires { ⌜ Keyed (timingIn (loaded (now speeds) levels) (now block)) (decode (now block) .clock) (now keys) ⌝ }
+    ensures { λ r. ⌜ r ≡ choiceOf (loaded (now (speeds .entry)) levels) (chosenIn (loaded (now (speeds .entry)) levels) (now (block .entry))) ⌝ }
     ensures { λ r. ⌜ (r .task < 256) × (r .level < 256) ⌝ }
 {
     let best = most_urgent(block, keys, count, WORK_AT, WORK_WIDTH);
@@ -81,15 +97,16 @@ pub fn chosen(block: &[u8], keys: &[u64; 16], count: usize, highest: usize) -> C
         };
     }
     let i = task_in(best);
-    let work = work_at(block, i);
-    let level = level_for(work, allowance_of(block, keys, count, best), highest);
-    running_order(i, level, work)
+    let rest = rest_at(block, i);
+    let allowed = allowance_of(block, keys, count, best);
+    let level = level_for(speeds, levels, rest, allowed, highest);
+    running_order(speeds, levels, i, level, rest)
 }
 
 // The order that stands in a state.
-pub fn standing(block: &[u8]) -> Choice
-    requires { ⌜ Holds (now block) × Runnable (decode (now block)) ⌝ }
-    ensures { λ r. ⌜ r ≡ choiceOf (decode (now (block .entry))) ⌝ }
+pub fn standing(speeds: &[u32; 8], levels: usize, block: &[u8]) -> Choice
+    requires { ⌜ Table (now speeds) levels × Holds (now block) × Runnable levels (decode (now block)) ⌝ }
+    ensures { λ r. ⌜ r ≡ choiceOf (loaded (now (speeds .entry)) levels) (decode (now (block .entry))) ⌝ }
 {
     let task = block[TASK_AT] as usize;
     let level = block[LEVEL_AT] as usize;
@@ -100,7 +117,7 @@ pub fn standing(block: &[u8]) -> Choice
             time: 0,
         };
     }
-    running_order(task, level, work_at(block, task))
+    running_order(speeds, levels, task, level, rest_at(block, task))
 }
 
 // Stores an order.
@@ -140,25 +157,40 @@ pub fn order_of(c: Choice, hold: u32) -> Reply
 }
 
 // Chooses an order where the next arrival is so many ticks away, stores it, and answers it with its hold.
-pub fn choose_until(block: &mut [u8], keys: &[u64; 16], highest: usize, next: u32) -> Reply
-    requires { ⌜ Holds (now block) × (encode (decode (now block)) ≡ now block) × Enough (decode (now block)) highest ⌝ }
-    requires { ⌜ Keyed (timingIn (now block)) (decode (now block) .clock) (now keys) ⌝ }
-    requires { ⌜ next ≡ nextArrival (timingIn (now block)) (decode (now block) .clock) ⌝ }
-    ensures { λ r. ⌜ r ≡ orderWith (chooseOrder baseSpeeds (timingIn (now (block .entry))) (decode (now (block .entry)))) (holdOf baseSpeeds (timingIn (now (block .entry))) (chooseOrder baseSpeeds (timingIn (now (block .entry))) (decode (now (block .entry))))) ⌝ }
-    ensures { λ _. ⌜ now (block .exit) ≡ encode (chooseOrder baseSpeeds (timingIn (now (block .entry))) (decode (now (block .entry)))) ⌝ }
+pub fn choose_until(
+    speeds: &[u32; 8],
+    levels: usize,
+    block: &mut [u8],
+    keys: &[u64; 16],
+    highest: usize,
+    next: u32,
+) -> Reply
+    requires { ⌜ Table (now speeds) levels × Holds (now block) × (encode (decode (now block)) ≡ now block) ⌝ }
+    requires { ⌜ Enough (loaded (now speeds) levels) (decode (now block)) highest ⌝ }
+    requires { ⌜ Keyed (timingIn (loaded (now speeds) levels) (now block)) (decode (now block) .clock) (now keys) ⌝ }
+    requires { ⌜ next ≡ nextArrival (timingIn (loaded (now speeds) levels) (now block)) (decode (now block) .clock) ⌝ }
+    ensures { λ r. ⌜ r ≡ chosenReply (loaded (now (speeds .entry)) levels) (now (block .entry)) ⌝ }
+    ensures { λ _. ⌜ now (block .exit) ≡ encode (chosenIn (loaded (now (speeds .entry)) levels) (now (block .entry))) ⌝ }
 {
-    let c = chosen(block, keys, count_at(block), highest);
+    let c = chosen(speeds, levels, block, keys, count_at(block), highest);
     put_order(block, c);
     order_of(c, hold_of(c, next))
 }
 
 // The same where the next arrival is still to be found.
-pub fn choose(block: &mut [u8], keys: &[u64; 16], highest: usize) -> Reply
-    requires { ⌜ Holds (now block) × (1 ≤ stateCount (now block)) × (encode (decode (now block)) ≡ now block) × Enough (decode (now block)) highest ⌝ }
-    requires { ⌜ Keyed (timingIn (now block)) (decode (now block) .clock) (now keys) ⌝ }
-    ensures { λ r. ⌜ r ≡ orderWith (chooseOrder baseSpeeds (timingIn (now (block .entry))) (decode (now (block .entry)))) (holdOf baseSpeeds (timingIn (now (block .entry))) (chooseOrder baseSpeeds (timingIn (now (block .entry))) (decode (now (block .entry))))) ⌝ }
-    ensures { λ _. ⌜ now (block .exit) ≡ encode (chooseOrder baseSpeeds (timingIn (now (block .entry))) (decode (now (block .entry)))) ⌝ }
+pub fn choose(
+    speeds: &[u32; 8],
+    levels: usize,
+    block: &mut [u8],
+    keys: &[u64; 16],
+    highest: usize,
+) -> Reply
+    requires { ⌜ Table (now speeds) levels × Holds (now block) × (1 ≤ stateCount (now block)) × (encode (decode (now block)) ≡ now block) ⌝ }
+    requires { ⌜ Enough (loaded (now speeds) levels) (decode (now block)) highest ⌝ }
+    requires { ⌜ Keyed (timingIn (loaded (now speeds) levels) (now block)) (decode (now block) .clock) (now keys) ⌝ }
+    ensures { λ r. ⌜ r ≡ chosenReply (loaded (now (speeds .entry)) levels) (now (block .entry)) ⌝ }
+    ensures { λ _. ⌜ now (block .exit) ≡ encode (chosenIn (loaded (now (speeds .entry)) levels) (now (block .entry))) ⌝ }
 {
     let next = next_arrival(keys, count_at(block), clock_at(block));
-    choose_until(block, keys, highest, next)
+    choose_until(speeds, levels, block, keys, highest, next)
 }

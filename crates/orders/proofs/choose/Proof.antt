@@ -1,6 +1,7 @@
 -- `choose` meets its contract: the next arrival, and the order up to it.
 -- Assumes nothing.
 use borrow.Author.Needs.{needs}
+use Rattle.levels.specs.Code.{loaded}
 use Rattle.orders.proofs.OrderLaws.{Timed, choose-next, choose-when}
 use Rattle.orders.proofs.choose.Statement.{statement}
 use Rattle.orders.proofs.choose.Tie as tie
@@ -11,11 +12,11 @@ counted c = c .before .before
 abbrev start : tie.After-clock-at → tie.Start
 start c = counted c .before .before .before
 
-timed : (c : tie.After-clock-at) → Timed (start c .args .block .now) (start c .args .keys .now) (counted c .count-at .result) (c .clock-at .result)
+timed : (c : tie.After-clock-at) → Timed (loaded (start c .args .speeds .now) (start c .args .levels)) (start c .args .block .now) (start c .args .keys .now) (counted c .count-at .result) (c .clock-at .result)
 timed c = record {
-  holds = start c .pre .0 .0;
-  some = start c .pre .0 .1;
-  keyed = start c .pre .1;
+  holds = start c .pre .0 .1;
+  some = start c .pre .0 .2;
+  keyed = start c .pre .1 .1;
   same = counted c .count-at .ensures;
   clock-is = c .clock-at .ensures;
 }
@@ -32,8 +33,8 @@ next-arrival-requires c κs = choose-next (timed c)
 choose-until-requires : tie.Need-choose-until-requires
 choose-until-requires c κs =
     let t : tie.After-clock-at = c .before .before in (
-      (timed t .holds, start t .pre .0 .2, start t .pre .0 .3),
-      (timed t .keyed, choose-when (timed t) (c .before .next-arrival .result) (c .before .next-arrival .ensures)),
+      (start t .pre .0 .0, timed t .holds, start t .pre .0 .3),
+      (start t .pre .1 .0, (timed t .keyed, choose-when (timed t) (c .before .next-arrival .result) (c .before .next-arrival .ensures))),
     )
 
 same-length : tie.Need-same-length

@@ -1,6 +1,7 @@
 -- `choose_until` meets its contract: the order that is chosen, stored, and its hold.
 -- Assumes nothing.
 use borrow.Author.Needs.{needs}
+use Rattle.levels.specs.Code.{loaded}
 use Rattle.orders.proofs.OrderLaws.{Chosen, choose-stored, choose-reply}
 use Rattle.orders.proofs.choose_until.Statement.{statement}
 use Rattle.orders.proofs.choose_until.Tie as tie
@@ -8,10 +9,10 @@ use Rattle.orders.proofs.choose_until.Tie as tie
 abbrev start : tie.After-chosen → tie.Start
 start c = c .before .before .before .before
 
-known : (c : tie.After-chosen) → Chosen (start c .args .block .now) (start c .args .next) (c .chosen .result)
+known : (c : tie.After-chosen) → Chosen (loaded (start c .args .speeds .now) (start c .args .levels)) (start c .args .block .now) (start c .args .next) (c .chosen .result)
 known c = record {
-  back = start c .pre .0 .1;
-  arrival = start c .pre .1 .1;
+  back = start c .pre .0 .2;
+  arrival = start c .pre .1 .1 .1;
   choice = c .chosen .ensures .0;
   small = c .chosen .ensures .1;
 }
@@ -22,7 +23,7 @@ count-at-requires c κs = search needs
 chosen-requires : tie.Need-chosen-requires
 chosen-requires c κs =
     let s : tie.Start = c .before .before .before in
-    ((s .pre .0 .0, c .count-at .ensures, s .pre .0 .2), s .pre .1 .0)
+    ((s .pre .0 .0, s .pre .0 .1, c .count-at .ensures), (s .pre .1 .0, s .pre .1 .1 .0))
 
 put-order-requires : tie.Need-put-order-requires
 put-order-requires c κs = search needs

@@ -3,8 +3,10 @@
 use mathlib.Core.Path.{_∙_}
 use mathlib.Core.List.{List}
 use native.Mathlib.Omega.{arith}
-use Prim.Native.Nat.{ℕ}
+use Prim.Native.Nat.{ℕ, _<_}
 use borrow.Author.Needs.{needs}
+use Rattle.levels.specs.Code.{loaded}
+use Rattle.levels.proofs.Tables.{levels-are}
 use Rattle.urgency.proofs.HeadLaws.{Looked, Read, told-task}
 use Rattle.orders.proofs.OrderLaws.{Picked, read-enough, chosen-none, chosen-small, chosen-some}
 use Rattle.orders.proofs.chosen.Statement.{statement}
@@ -25,11 +27,15 @@ asked c = c .before .before .before .before
 abbrev start : tie.After-allowance-of → tie.Start
 start c = begun (asked c)
 
-looked : (c : tie.After-most-urgent) → Looked (block (begun c)) (keys (begun c)) (begun c .args .count) (c .most-urgent .result)
+-- the table's speeds
+abbrev table : tie.Start → List ℕ
+table c = loaded (c .args .speeds .now) (c .args .levels)
+
+looked : (c : tie.After-most-urgent) → Looked (table (begun c)) (block (begun c)) (keys (begun c)) (begun c .args .count) (c .most-urgent .result)
 looked c = record {
-  holds = begun c .pre .0 .0;
-  keyed = begun c .pre .1;
-  same = begun c .pre .0 .1;
+  holds = begun c .pre .0 .1;
+  keyed = begun c .pre .1 .1;
+  same = begun c .pre .0 .2;
   found = c .most-urgent .ensures;
 }
 
@@ -41,43 +47,49 @@ returns c = (chosen-none (looked (c .before)) (omega (arith, c .if1 .taken)), (o
 
 read :
     (c : tie.After-allowance-of) →
-    Read (block (start c)) (keys (start c)) (start c .args .count) (asked c .most-urgent .result)
-    (c .before .before .task-in .result) (c .before .work-at .result) (c .allowance-of .result)
+    Read (table (start c)) (block (start c)) (keys (start c)) (start c .args .count) (asked c .most-urgent .result)
+    (c .before .before .task-in .result) (c .before .rest-at .result) (c .allowance-of .result)
 read c = record {
   told = record {
     looked = looked (asked c);
     some = c .before .before .before .if1 .left;
     task = c .before .before .task-in .ensures .0;
   };
-  work-in = c .before .work-at .ensures .0;
+  rest-in = c .before .rest-at .ensures .0;
   allowed-in = c .allowance-of .ensures .0;
 }
+
+-- the highest level is one of the table's
+below : (c : tie.After-allowance-of) → start c .args .highest < start c .args .levels
+below c = omega (arith, start c .pre .1 .0 .level, levels-are (start c .pre .0 .0))
 
 picked :
     (c : tie.After-level-for) →
     let a : tie.After-allowance-of = c .before in
-    Picked (block (start a)) (keys (start a)) (start a .args .count) (asked a .most-urgent .result)
-    (a .before .before .task-in .result) (a .before .work-at .result) (a .allowance-of .result) (c .level-for .result)
+    Picked (table (start a)) (block (start a)) (keys (start a)) (start a .args .count) (asked a .most-urgent .result)
+    (a .before .before .task-in .result) (a .before .rest-at .result) (a .allowance-of .result) (c .level-for .result)
 picked c = record {
   read = read (c .before);
   level-is = c .level-for .ensures .0;
-  low = omega (arith, c .level-for .ensures .1, start (c .before) .pre .0 .2 .level);
+  low = omega (arith, below (c .before), c .level-for .ensures .1, start (c .before) .pre .0 .0 .few);
 }
 
 task-in-requires : tie.Need-task-in-requires
 task-in-requires c κs = search needs
 
-work-at-requires : tie.Need-work-at-requires
-work-at-requires c κs = search needs
+rest-at-requires : tie.Need-rest-at-requires
+rest-at-requires c κs = search needs
 
 allowance-of-requires : tie.Need-allowance-of-requires
 allowance-of-requires c κs = search needs
 
 level-for-requires : tie.Need-level-for-requires
-level-for-requires c κs = (c .allowance-of .ensures .1, start c .pre .0 .2 .level, read-enough (read c) (start c .pre .0 .2))
+level-for-requires c κs = ((start c .pre .0 .0, c .allowance-of .ensures .1, below c), read-enough (read c) (start c .pre .1 .0))
 
 running-order-requires : tie.Need-running-order-requires
-running-order-requires c κs = (told-task (picked c .read .told), picked c .low)
+running-order-requires c κs =
+    let a : tie.After-allowance-of = c .before in
+    (start a .pre .0 .0, told-task (picked c .read .told), omega (arith, below a, c .level-for .ensures .1), omega (arith, a .before .rest-at .ensures .1))
 
 returns-2 : tie.Need-returns-2
 returns-2 c = (
@@ -92,7 +104,7 @@ chosen-spec =
     most-urgent-requires
     returns
     task-in-requires
-    work-at-requires
+    rest-at-requires
     allowance-of-requires
     level-for-requires
     running-order-requires

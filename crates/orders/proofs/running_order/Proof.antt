@@ -1,32 +1,39 @@
 -- `running_order` meets its contract.
 -- Assumes nothing.
-use mathlib.Core.Path.{_≡_, ap, _∙_}
 use Prim.Native.Nat.{ℕ}
+use mathlib.Core.Path.{_≡_, ap, _∙_}
 use borrow.Author.Needs.{needs}
-use Rattle.arith.specs.Need.{need}
-use Rattle.plan.specs.Levels.{baseSpeeds, speedOf}
-use Rattle.admission.proofs.LevelSpeeds.{speed-positive}
+use native.Mathlib.Omega.{arith}
+use Rattle.plan.specs.Times.{timeOf}
+use Rattle.plan.specs.Levels.{speedOf}
+use Rattle.levels.specs.Code.{loaded}
+use Rattle.levels.proofs.Tables.{speed-is, speed-positive, speed-most}
 use Rattle.orders.proofs.running_order.Statement.{statement}
 use Rattle.orders.proofs.running_order.Tie as tie
 
-speed-of-requires : tie.Need-speed-of-requires
-speed-of-requires c κs = search needs
-
-cast-t5 : tie.Need-cast-t5
-cast-t5 c = search needs
-
-cast-t6 : tie.Need-cast-t6
-cast-t6 c = search needs
-
-time-needed-requires : tie.Need-time-needed-requires
-time-needed-requires c κs = speed-positive (c .before .args .level) (c .speed-of .result) (c .before .pre .1) (c .speed-of .ensures)
-
 returns : tie.Need-returns
 returns c =
-    let time : c .time-needed .result ≡ need (speedOf baseSpeeds (c .before .before .args .level)) (c .before .before .args .work) =
-    c .time-needed .ensures ∙ ap (λ (x : ℕ). need x (c .before .before .args .work)) (c .before .speed-of .ensures) in
-    λ i. record { task = c .before .before .args .i; level = c .before .before .args .level; time = time i }
+    let s = c .before .before in
+    let time : c .time-of .result ≡ timeOf (speedOf (loaded (s .args .speeds .now) (s .args .levels)) (s .args .level)) (s .args .rest) =
+    c .time-of .ensures ∙ ap (λ (x : ℕ). timeOf x (s .args .rest)) (speed-is (s .pre .0) (s .args .level) (s .pre .2)) in
+    λ i. record { task = s .args .i; level = s .args .level; time = time i }
+
+time-of-requires : tie.Need-time-of-requires
+time-of-requires c κs =
+    let s = c .before in
+    (speed-positive (s .pre .0) (s .args .level) (s .pre .2), speed-most (s .pre .0) (s .args .level) (s .pre .2), s .pre .3)
+
+mul-time-of : tie.Need-mul-time-of
+mul-time-of c = omega (arith, c .pre .0 .few)
+
+element-copy-out-time-of : tie.Need-element-copy-out-time-of
+element-copy-out-time-of c = omega (arith, c .pre .0 .few)
+
+cast-t10 : tie.Need-cast-t10
+cast-t10 c = search needs
+
+cast-t11 : tie.Need-cast-t11
+cast-t11 c = omega (arith, c .before .before .pre .0 .few)
 
 pub running-order-spec : {M : Type 1} → statement M
-running-order-spec =
-    tie.close (tie.spec speed-of-requires cast-t5 cast-t6 time-needed-requires returns)
+running-order-spec = tie.close (tie.spec mul-time-of element-copy-out-time-of time-of-requires cast-t10 cast-t11 returns)

@@ -5,8 +5,9 @@ use mathlib.Core.Path.{sym, ap, ap₂, _∙_}
 use mathlib.Core.List.{List}
 use native.Mathlib.Omega.{arith}
 use borrow.Author.Needs.{needs}
+use Rattle.levels.specs.Code.{loaded}
 use Rattle.reclaiming.specs.Fields.{offsetOf}
-use Rattle.reclaiming.specs.StateBlock.{headFields, taskField, levelField}
+use Rattle.reclaiming.specs.StateBlock.{restIn, headFields, taskField, levelField}
 use Rattle.state.specs.Code.{entryIn}
 use Rattle.state.proofs.BlockLaws.{task-byte, level-byte}
 use Rattle.orders.specs.declared.Choice.{Choice}
@@ -18,8 +19,12 @@ use Rattle.orders.proofs.standing.Tie as tie
 abbrev start : tie.Else1 → tie.Start
 start c = c .before .before .before .before
 
-runs : (c : tie.Else1) → Runs (start c .args .block .now)
-runs c = record { holds = start c .pre .0; runnable = start c .pre .1; some = λ e. c .if1 .left (task-byte (start c .args .block .now) ∙ e) }
+-- the table's speeds
+abbrev table : tie.Start → List ℕ
+table c = loaded (c .args .speeds .now) (c .args .levels)
+
+runs : (c : tie.Else1) → Runs (start c .args .levels) (start c .args .block .now)
+runs c = record { holds = start c .pre .1; runnable = start c .pre .2; some = λ e. c .if1 .left (task-byte (start c .args .block .now) ∙ e) }
 
 shared-slice-read-task : tie.Need-shared-slice-read-task
 shared-slice-read-task c = search needs
@@ -33,30 +38,33 @@ shared-slice-read-level c = search needs
 cast-level : tie.Need-cast-level
 cast-level c = omega (arith, c .shared-slice-known3 .given (offsetOf headFields levelField))
 
-cast-t8 : tie.Need-cast-t8
-cast-t8 c = omega (arith, c .before .shared-slice-known3 .given (offsetOf headFields levelField))
+cast-t10 : tie.Need-cast-t10
+cast-t10 c = omega (arith, c .before .shared-slice-known3 .given (offsetOf headFields levelField))
 
 returns : tie.Need-returns
 returns c =
-    let b : List ℕ = c .before .before .before .before .args .block .now in
+    let s : tie.Start = c .before .before .before .before in
+    let b : List ℕ = s .args .block .now in
     let idle : ℕ → Choice = λ n. record { task = 255; level = n; time = 0 } in
-    ap idle (level-byte b) ∙ standing-idle b (sym (task-byte b) ∙ c .if1 .taken)
+    ap idle (level-byte b) ∙ standing-idle (table s) b (sym (task-byte b) ∙ c .if1 .taken)
 
-work-at-requires : tie.Need-work-at-requires
-work-at-requires c κs = (omega (arith, standing-task (runs c), task-byte (start c .args .block .now)), runs c .holds .size)
+rest-at-requires : tie.Need-rest-at-requires
+rest-at-requires c κs = (omega (arith, standing-task (runs c), task-byte (start c .args .block .now)), runs c .holds .size)
 
 running-order-requires : tie.Need-running-order-requires
 running-order-requires c κs = (
+  start (c .before) .pre .0,
   omega (arith, standing-task (runs (c .before)), task-byte (start (c .before) .args .block .now)),
   omega (arith, standing-level (runs (c .before)), level-byte (start (c .before) .args .block .now)),
+  omega (arith, c .rest-at .ensures .1),
 )
 
 returns-2 : tie.Need-returns-2
 returns-2 c =
     let b : List ℕ = start (c .before .before) .args .block .now in
     c .running-order .ensures
-    ∙ ap₂ (λ (x y : ℕ). runOf x y (c .before .work-at .result)) (task-byte b) (level-byte b)
-    ∙ standing-run (runs (c .before .before)) (c .before .work-at .ensures .0 ∙ ap (λ (x : ℕ). entryIn b x .work) (task-byte b))
+    ∙ ap₂ (λ (x y : ℕ). runOf (table (start (c .before .before))) x y (c .before .rest-at .result)) (task-byte b) (level-byte b)
+    ∙ standing-run (runs (c .before .before)) (table (start (c .before .before))) (c .before .rest-at .ensures .0 ∙ ap (λ (x : ℕ). restIn (entryIn b x)) (task-byte b))
 
 pub standing-spec : {M : Type 1} → statement M
 standing-spec =
@@ -66,8 +74,8 @@ standing-spec =
     cast-task
     shared-slice-read-level
     cast-level
-    cast-t8
+    cast-t10
     returns
-    work-at-requires
+    rest-at-requires
     running-order-requires
     returns-2)
