@@ -16,7 +16,7 @@ use Rattle.plan.proofs.Facts.{FineList, InRange, tasks-yes}
 use Rattle.state.specs.Code.{Holds}
 use Rattle.plan.proofs.LevelLaws.{baseRising}
 use Rattle.schedule.specs.PlainSchedule.{Timing}
-use Rattle.reclaiming.specs.StateBlock.{State, noEntry, taskOf, workOf, remainingOf, planIn, timing, encode, decode, laidOut}
+use Rattle.reclaiming.specs.StateBlock.{State, noEntry, taskOf, workOf, remainingOf, planIn, timing, encode, decode, laidOut, stateLength, stateCount}
 use Rattle.reclaiming.specs.Orders.{nextArrival}
 use Rattle.reclaiming.specs.Questions.{largestClock, sound, stateSound}
 use Rattle.orders.specs.Code.{Runnable}
@@ -102,13 +102,13 @@ module _ (bytes : List ℕ) (ok : sound baseSpeeds bytes ≡ true) where
   pub sound-state : stateSound baseSpeeds (decode bytes) ≡ true
   sound-state = both-right (laidOut bytes) (stateSound baseSpeeds (decode bytes)) ok
 
-  pub sound-size : length bytes ≡ 200
+  pub sound-size : length bytes ≡ stateLength
   sound-size = laid-length bytes laid
 
   pub sound-back : encode (decode bytes) ≡ bytes
   sound-back = laid-back bytes laid
 
-  pub count-some : 1 ≤ getD bytes 6 0
+  pub count-some : 1 ≤ stateCount bytes
   count-some = omega (arith, entries-some (decode bytes) sound-state, count-in bytes)
 
   pub sound-holds : Holds bytes

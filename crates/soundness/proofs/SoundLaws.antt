@@ -29,7 +29,7 @@ use Rattle.arith.proofs.Tests.{both-false}
 use Rattle.arith.proofs.Loops.{every-again, every-not, every-end}
 use Rattle.reclaiming.specs.declared.Entry.{Entry}
 use Rattle.soundness.specs.declared.Tested.{Tested}
-use Rattle.reclaiming.specs.StateBlock.{State, noEntry, workOf, taskOf, planIn, timing, encode, decode, sameBytes, laidOut}
+use Rattle.reclaiming.specs.StateBlock.{State, noEntry, workOf, taskOf, planIn, timing, encode, decode, sameBytes, laidOut, places, stateLength, stateCount}
 use Rattle.reclaiming.specs.Orders.{allowance, openJobs}
 use Rattle.reclaiming.specs.Questions.{largestClock, entrySound, orderSound, stateSound, sound}
 use Rattle.state.specs.Code.{Holds, entryIn, timingIn}
@@ -45,7 +45,7 @@ use Rattle.state.proofs.BlockLaws.{count-in, entry-at}
 -- the plan in a block, of which the tasks below i are copied
 pub record Copying (b : List ℕ) (count : ℕ) (p : Plan) (i : ℕ) : Type 0 where
   pub holds : Holds b
-  pub same : count ≡ getD b 6 0
+  pub same : count ≡ stateCount b
   pub filled : Filled (planIn (decode b)) count p i
 
 module _ {b : List ℕ} {count : ℕ} {p : Plan} {i : ℕ} (now : Copying b count p i) where
@@ -59,7 +59,7 @@ module _ {b : List ℕ} {count : ℕ} {p : Plan} {i : ℕ} (now : Copying b coun
       worst ≡ entryIn b i .worst →
       Copying b count (record { count = p .count; tasks = set (p .tasks) i (record { period = period; worst = worst }) }) (i + 1)
   copy-more h {period} {worst} e f =
-      let few : getD b 6 0 ≤ 16 = now .holds .few in
+      let few : stateCount b ≤ places = now .holds .few in
       let t : _≡_ {A = Task} (record { period = period; worst = worst }) (getD (planIn (decode b)) i noTask) =
       (λ k. record { period = e k; worst = f k }) ∙ sym (task-is b i (omega (arith, now .same))) in
       record {
@@ -132,7 +132,7 @@ module _ {b : List ℕ} {i speed work worst remaining : ℕ} (k : Measured b i s
 -- every entry of a block, tested from the front: those from i on decide
 pub record Testing (b : List ℕ) (count speed i : ℕ) : Type 0 where
   pub holds : Holds b
-  pub same : count ≡ getD b 6 0
+  pub same : count ≡ stateCount b
   pub below : i ≤ count
   pub decide : every (entrySound speed) (drop i (take count (decode b .entries))) ≡ every (entrySound speed) (take count (decode b .entries))
 
@@ -273,7 +273,7 @@ tested-not b e n = e ∙ ap (λ (t : Bool). testedBy t b) (sym n)
 
 -- a block whose plan is admitted
 module _ (b : List ℕ) (yes-all : firstNo (taskQuestions baseSpeeds (planIn (decode b))) ≡ 0) where
-  periods-in : (i : ℕ) → i < getD b 6 0 → (1 ≤ entryIn b i .period) × (entryIn b i .period ≤ 65535)
+  periods-in : (i : ℕ) → i < stateCount b → (1 ≤ entryIn b i .period) × (entryIn b i .period ≤ 65535)
   periods-in i h =
       let r : InRange (taskOf (entryIn b i)) =
       subst InRange (task-is b i h)
@@ -283,29 +283,29 @@ module _ (b : List ℕ) (yes-all : firstNo (taskQuestions baseSpeeds (planIn (de
   pub nominal-below : (level : ℕ) → level ≡ nominal baseSpeeds (planIn (decode b)) → level < 8
   nominal-below level n = subst (λ (x : ℕ). x < 8) (sym n) (fine-tasks baseSpeeds (planIn (decode b)) yes-all .admitted)
 
-  judging-yes : getD b 6 0 ≤ 16 → 1 ≤ getD b 6 0 → firstNo (judging baseSpeeds (length (decode b .entries)) (planIn (decode b))) ≡ 0
+  judging-yes : stateCount b ≤ places → 1 ≤ stateCount b → firstNo (judging baseSpeeds (length (decode b .entries)) (planIn (decode b))) ≡ 0
   judging-yes few some =
       count-good baseSpeeds (planIn (decode b)) (length (decode b .entries)) (omega (arith, count-in b)) (omega (arith, count-in b))
       ∙ yes-all
 
   -- the keys that are found are those of its latest jobs
-  keyed-in : getD b 6 0 ≤ 16 → decode b .clock ≤ largestClock → Keyed (timingIn b) (decode b .clock) (keysIn b (getD b 6 0) (decode b .clock))
+  keyed-in : stateCount b ≤ places → decode b .clock ≤ largestClock → Keyed (timingIn b) (decode b .clock) (keysIn b (stateCount b) (decode b .clock))
   keyed-in few le = record {
     few = subst (λ (n : ℕ). n ≤ 16) (sym (timing-count b)) few;
     low = λ i h. subst (λ (n : ℕ). 1 ≤ n) (sym (period-is b i (below i h))) (periods-in i (below i h) .0);
     high = λ i h. subst (λ (n : ℕ). n ≤ 65535) (sym (period-is b i (below i h))) (periods-in i (below i h) .1);
     in-range = le;
-    each = λ i h. value-at 16 0 (getD b 6 0) (λ k. latestKey (decode b .clock) (entryIn b k .period) k) i (below i h)
+    each = λ i h. value-at 16 0 (stateCount b) (λ k. latestKey (decode b .clock) (entryIn b k .period) k) i (below i h)
         ∙ ap (λ (p : ℕ). latestKey (decode b .clock) p i) (sym (period-is b i (below i h)));
   }
     where
-      below : (i : ℕ) → i < timingIn b .count → i < getD b 6 0
+      below : (i : ℕ) → i < timingIn b .count → i < stateCount b
       below i h = subst (λ (n : ℕ). i < n) (timing-count b) h
 
 -- a block of some tasks whose plan is admitted at a level, with its clock and the level's speed
 pub record Admitted (b : List ℕ) (count clock level speed : ℕ) : Type 0 where
   pub holds : Holds b
-  pub same : count ≡ getD b 6 0
+  pub same : count ≡ stateCount b
   pub some : 1 ≤ count
   pub clock-is : clock ≡ decode b .clock
   pub in-range : clock ≤ largestClock
@@ -325,7 +325,7 @@ module _ {b : List ℕ} {count clock level speed : ℕ} (k : Admitted b count cl
 
   -- its keys
   module _ {keys : List ℕ} (e : keys ≡ keysIn b count clock) where
-    keys-are : keys ≡ keysIn b (getD b 6 0) (decode b .clock)
+    keys-are : keys ≡ keysIn b (stateCount b) (decode b .clock)
     keys-are = e ∙ ap₂ (keysIn b) (k .same) (k .clock-is)
 
     pub admitted-keyed : Keyed (timingIn b) (decode b .clock) keys
@@ -400,7 +400,7 @@ admitted-number (suc n) level span v speeds ts a r = let z : _≡_ {A = ℕ} 0 1
 -- a block of some tasks with its plan and the plan's verdict
 pub record Judged (b : List ℕ) (count : ℕ) (p : Plan) (v : Verdict) : Type 0 where
   pub holds : Holds b
-  pub same : count ≡ getD b 6 0
+  pub same : count ≡ stateCount b
   pub some : 1 ≤ count
   pub plan : p ≡ planOf (planIn (decode b))
   pub verdict : v ≡ answered (firstNo (taskQuestions baseSpeeds (tasksOf p))) baseSpeeds (tasksOf p)
@@ -417,7 +417,7 @@ module _ {b : List ℕ} {count : ℕ} {p : Plan} {v : Verdict} (k : Judged b cou
 
   pub plan-refused : {n : ℕ} → v ≡ verdict.Refused n → {r : Tested} → r ≡ testedBy false [] → r ≡ testedBy (stateSound baseSpeeds (decode b)) b
   plan-refused {n} e f =
-      let counted : length (decode b .entries) ≡ getD b 6 0 = count-in b in
+      let counted : length (decode b .entries) ≡ stateCount b = count-in b in
       let some-no : 0 < firstNo (taskQuestions baseSpeeds us) = refused-number (firstNo (taskQuestions baseSpeeds us)) n v baseSpeeds us verdict-is e in
       let good : firstNo (judging baseSpeeds (length (decode b .entries)) us) ≡ firstNo (taskQuestions baseSpeeds us) =
       count-good baseSpeeds us (length (decode b .entries)) (omega (arith, k .same, k .some)) (omega (arith, k .holds .few)) in
@@ -445,19 +445,19 @@ module _ (bytes : List ℕ) {r : Tested} where
   pub layout-not : laidOut bytes ≡ false → r ≡ testedBy false [] → Right bytes r
   layout-not n f = tested-not bytes f (ap (λ (t : Bool). both t (stateSound baseSpeeds (decode bytes))) n)
 
-  pub length-not : (length bytes ≡ 200 → ⊥) → r ≡ testedBy false [] → Right bytes r
+  pub length-not : (length bytes ≡ stateLength → ⊥) → r ≡ testedBy false [] → Right bytes r
   length-not n =
-      layout-not (ap (λ (t : Bool). both t (sameBytes (encode (decode bytes)) bytes)) (ne-eqb (length bytes) 200 n))
+      layout-not (ap (λ (t : Bool). both t (sameBytes (encode (decode bytes)) bytes)) (ne-eqb (length bytes) stateLength n))
 
   count-not : firstNo (judging baseSpeeds (length (decode bytes .entries)) (planIn (decode bytes))) ≡ 3 → r ≡ testedBy false [] → Right bytes r
   count-not e f =
       tested-not bytes f (both-not (laidOut bytes) (stateSound baseSpeeds (decode bytes)) (plan-not (decode bytes) (omega arith)))
 
-  pub count-none : getD bytes 6 0 < 1 → r ≡ testedBy false [] → Right bytes r
+  pub count-none : stateCount bytes < 1 → r ≡ testedBy false [] → Right bytes r
   count-none h =
       count-not (count-low baseSpeeds (planIn (decode bytes)) (length (decode bytes .entries)) (omega (arith, count-in bytes)))
 
-  pub count-above : 16 < getD bytes 6 0 → r ≡ testedBy false [] → Right bytes r
+  pub count-above : places < stateCount bytes → r ≡ testedBy false [] → Right bytes r
   count-above h =
       count-not (count-high baseSpeeds (planIn (decode bytes)) (length (decode bytes .entries)) (omega (arith, count-in bytes)))
 

@@ -4,9 +4,9 @@ use Prim.Native.Nat.{ℕ}
 use mathlib.Core.Path.{_≡_}
 use mathlib.Core.Bool.{Bool, true, false}
 use mathlib.Core.List.{List}
-use lib.ListN.{getD, replicate}
+use lib.ListN.{replicate}
 use Rattle.plan.specs.Levels.{baseSpeeds, nominal}
-use Rattle.reclaiming.specs.StateBlock.{decode, planIn}
+use Rattle.reclaiming.specs.StateBlock.{stateCount, decode, planIn}
 use Rattle.reclaiming.specs.Questions.{sound}
 use Rattle.state.specs.Code.{Holds, timingIn}
 use Rattle.urgency.specs.Code.{Keyed, keysIn}
@@ -25,5 +25,5 @@ testedBy false bytes = record { sound = false; nominal = 0; keys = replicate 16 
 testedBy true bytes = record {
   sound = true;
   nominal = nominal baseSpeeds (planIn (decode bytes));
-  keys = keysIn bytes (getD bytes 6 0) (decode bytes .clock);
+  keys = keysIn bytes (stateCount bytes) (decode bytes .clock);
 }

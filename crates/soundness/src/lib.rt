@@ -3,6 +3,13 @@ use clock::Clock;
 use plan::Plan;
 use plan::Task;
 use plan::Verdict;
+use state::COUNT_AT;
+use state::LEVEL_AT;
+use state::PLACES;
+use state::STATE_LENGTH;
+use state::TASK_AT;
+use state::WORK_AT;
+use state::WORK_WIDTH;
 use state::clock_at;
 use state::laid_out;
 use state::period_at;
@@ -18,13 +25,13 @@ ghost use mathlib.Core.Path.{_≡_};
 ghost use mathlib.Core.Bool.{false};
 ghost use mathlib.Core.List.{[]};
 ghost use Prim.Native.Nat.{_<_, _≤_};
-ghost use lib.ListN.{length, getD};
+ghost use lib.ListN.{length};
 ghost use Rattle.arith.specs.Choice.{every};
 ghost use Rattle.plan.specs.Levels.{baseSpeeds, nominal};
 ghost use Rattle.plan.specs.Questions.{taskQuestions};
 ghost use Rattle.arith.specs.Asking.{firstNo};
 ghost use Rattle.plan.specs.Blocks.{planOf};
-ghost use Rattle.reclaiming.specs.StateBlock.{planIn, decode};
+ghost use Rattle.reclaiming.specs.StateBlock.{planIn, places, stateLength, stateCount, decode};
 ghost use Rattle.reclaiming.specs.Orders.{openJobs};
 ghost use Rattle.reclaiming.specs.Questions.{largestClock, entrySound, orderSound, stateSound, sound};
 ghost use Rattle.state.specs.Code.{Holds, entryIn, timingIn};
@@ -40,7 +47,7 @@ pub struct Tested {
 
 // The plan in a block.
 fn plan_of(block: &[u8], count: usize) -> Plan
-    requires { ⌜ Holds (now block) × (count ≡ getD (now block) 6 0) ⌝ }
+    requires { ⌜ Holds (now block) × (count ≡ stateCount (now block)) ⌝ }
     ensures { λ r. ⌜ r ≡ planOf (planIn (decode (now (block .entry)))) ⌝ }
 {
     let mut p = judging::empty_plan();
@@ -59,7 +66,7 @@ fn plan_of(block: &[u8], count: usize) -> Plan
 // Whether the work and the remaining ticks of task i's entry are sound, at the nominal speed. What remains at most the time needed, and
 // what is needed at most the time that remains, are told by the work that the remaining ticks do.
 fn entry_sound(block: &[u8], i: usize, speed: u32) -> bool
-    requires { ⌜ (i < 16) × (length (now block) ≡ 200) × (0 < speed) × (speed ≤ 100) ⌝ }
+    requires { ⌜ (i < places) × (length (now block) ≡ stateLength) × (0 < speed) × (speed ≤ 100) ⌝ }
     ensures { λ r. ⌜ r ≡ entrySound speed (entryIn (now (block .entry)) i) ⌝ }
 {
     let work = work_at(block, i);
@@ -76,7 +83,7 @@ fn entry_sound(block: &[u8], i: usize, speed: u32) -> bool
 
 // Whether every task's entry is sound, at the nominal speed.
 fn entries_sound(block: &[u8], count: usize, speed: u32) -> bool
-    requires { ⌜ Holds (now block) × (count ≡ getD (now block) 6 0) × (0 < speed) × (speed ≤ 100) ⌝ }
+    requires { ⌜ Holds (now block) × (count ≡ stateCount (now block)) × (0 < speed) × (speed ≤ 100) ⌝ }
     ensures { λ r. ⌜ r ≡ every (entrySound speed) (decode (now (block .entry)) .entries) ⌝ }
 {
     let mut i: usize = 0;
@@ -92,13 +99,13 @@ fn entries_sound(block: &[u8], count: usize, speed: u32) -> bool
 // Whether the order that stands is sound: idle exactly if no job is open, else the most urgent open job at a level no higher than
 // nominal that meets its allowance.
 fn order_sound(block: &[u8], keys: &[u64; 16], count: usize, highest: usize) -> bool
-    requires { ⌜ Holds (now block) × (count ≡ getD (now block) 6 0) × (highest < 8) ⌝ }
+    requires { ⌜ Holds (now block) × (count ≡ stateCount (now block)) × (highest < 8) ⌝ }
     requires { ⌜ Keyed (timingIn (now block)) (decode (now block) .clock) (now keys) ⌝ }
     ensures { λ r. ⌜ r ≡ orderSound baseSpeeds (timingIn (now (block .entry))) highest (decode (now (block .entry))) (openJobs (timingIn (now (block .entry))) (decode (now (block .entry)))) ⌝ }
 {
-    let task = block[4] as usize;
-    let level = block[5] as usize;
-    let best = most_urgent(block, keys, count, 13, 3);
+    let task = block[TASK_AT] as usize;
+    let level = block[LEVEL_AT] as usize;
+    let best = most_urgent(block, keys, count, WORK_AT, WORK_WIDTH);
     if best == NO_KEY {
         if task != 255 {
             return false;
@@ -129,7 +136,7 @@ fn not_sound() -> Tested
 
 // A block that is laid out, whose clock is in range and whose plan is admitted at a nominal level.
 fn test_admitted(block: &[u8], count: usize, clock: u32, level: usize) -> Tested
-    requires { ⌜ Holds (now block) × (count ≡ getD (now block) 6 0) × (1 ≤ count) ⌝ }
+    requires { ⌜ Holds (now block) × (count ≡ stateCount (now block)) × (1 ≤ count) ⌝ }
     requires { ⌜ (clock ≡ decode (now block) .clock) × (clock ≤ largestClock) ⌝ }
     requires { ⌜ (firstNo (taskQuestions baseSpeeds (planIn (decode (now block)))) ≡ 0) × (level ≡ nominal baseSpeeds (planIn (decode (now block)))) ⌝ }
     ensures { λ r. ⌜ r ≡ testedBy (stateSound baseSpeeds (decode (now (block .entry)))) (now (block .entry)) ⌝ }
@@ -151,7 +158,7 @@ fn test_admitted(block: &[u8], count: usize, clock: u32, level: usize) -> Tested
 
 // A block that is laid out, of at least one task.
 fn test_state(block: &[u8], count: usize) -> Tested
-    requires { ⌜ Holds (now block) × (count ≡ getD (now block) 6 0) × (1 ≤ count) ⌝ }
+    requires { ⌜ Holds (now block) × (count ≡ stateCount (now block)) × (1 ≤ count) ⌝ }
     ensures { λ r. ⌜ r ≡ testedBy (stateSound baseSpeeds (decode (now (block .entry)))) (now (block .entry)) ⌝ }
 {
     let clock = Clock::new(clock_at(block));
@@ -173,14 +180,14 @@ fn test_state(block: &[u8], count: usize) -> Tested
 pub fn test_block(block: &[u8]) -> Tested
     ensures { λ r. ⌜ r ≡ testedBy (sound baseSpeeds (now (block .entry))) (now (block .entry)) ⌝ }
 {
-    if block.len() != 200 {
+    if block.len() != STATE_LENGTH {
         return not_sound();
     }
-    let count = block[6] as usize;
+    let count = block[COUNT_AT] as usize;
     if count < 1 {
         return not_sound();
     }
-    if count > 16 {
+    if count > PLACES {
         return not_sound();
     }
     if !laid_out(block) {

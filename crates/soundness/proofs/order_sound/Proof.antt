@@ -1,10 +1,16 @@
 -- `order_sound` meets its contract, by each way out.
 -- Assumes nothing.
 use Prim.Native.Nat.{ℕ}
+use mathlib.Core.Path.{ap, _∙_}
 use mathlib.Core.List.{List}
 use native.Mathlib.Omega.{arith}
 use borrow.Author.Needs.{needs}
-use lib.ListN.{getD}
+use lib.Dec.{eqb}
+use Rattle.plan.specs.Levels.{baseSpeeds, speedOf}
+use Rattle.reclaiming.specs.Fields.{offsetOf}
+use Rattle.reclaiming.specs.StateBlock.{headFields, taskField, levelField, decode}
+use Rattle.state.specs.Code.{entryIn}
+use Rattle.state.proofs.BlockLaws.{task-byte, level-byte}
 use Rattle.admission.proofs.LevelSpeeds.{tried-fits}
 use Rattle.urgency.proofs.HeadLaws.{Looked, Told, told-task}
 use Rattle.soundness.proofs.SoundLaws.{Weighed, not-idle, idle-level, other-task, level-high, level-tried, level-meets}
@@ -44,10 +50,10 @@ told c = record { looked = looked (asked c); some = λ e. omega (arith, c .befor
 
 runs :
     (c : tie.Else3) →
-    Told (block (begun c)) (keys (begun c)) (begun c .args .count) (asked (c .before) .most-urgent .result) (getD (block (begun c)) 4 0)
+    Told (block (begun c)) (keys (begun c)) (begun c .args .count) (asked (c .before) .most-urgent .result) (decode (block (begun c)) .task)
 runs c =
     let k = told (c .before) in
-    record { looked = k .looked; some = k .some; task = omega (arith, c .if3 .left, k .task) }
+    record { looked = k .looked; some = k .some; task = omega (arith, c .if3 .left, k .task, task-byte (block (begun c))) }
 
 abbrev fast : tie.After-allowance-of → tie.Else4
 fast c = c .before .before .before
@@ -57,24 +63,30 @@ weighed :
     let o : tie.Else3 = fast c .before in
     Weighed (block (begun o)) (keys (begun o)) (begun o .args .count) (asked (o .before) .most-urgent .result) (begun o .args .highest)
     (c .before .before .work-at .result) (c .before .speed-of .result) (c .allowance-of .result)
-weighed c = record {
-  read = record { told = runs (fast c .before); work-in = c .before .before .work-at .ensures .0; allowed-in = c .allowance-of .ensures .0 };
-  top = begun (fast c .before) .pre .0 .2;
-  low = omega (arith, fast c .if4 .left);
-  speed-is = c .before .speed-of .ensures;
-}
+weighed c =
+    let b : List ℕ = block (begun (fast c .before)) in
+    record {
+      read = record {
+        told = runs (fast c .before);
+        work-in = c .before .before .work-at .ensures .0 ∙ ap (λ (n : ℕ). entryIn b n .work) (task-byte b);
+        allowed-in = c .allowance-of .ensures .0;
+      };
+      top = begun (fast c .before) .pre .0 .2;
+      low = omega (arith, fast c .if4 .left, level-byte b);
+      speed-is = c .before .speed-of .ensures ∙ ap (speedOf baseSpeeds) (level-byte b);
+    }
 
 shared-slice-read-task : tie.Need-shared-slice-read-task
 shared-slice-read-task c = omega (arith, c .before .before .pre .0 .0 .size)
 
 cast-task : tie.Need-cast-task
-cast-task c = omega (arith, c .shared-slice-known2 .given 4)
+cast-task c = omega (arith, c .shared-slice-known2 .given (offsetOf headFields taskField))
 
 shared-slice-read-level : tie.Need-shared-slice-read-level
 shared-slice-read-level c = omega (arith, c .before .before .before .pre .0 .0 .size)
 
 cast-level : tie.Need-cast-level
-cast-level c = omega (arith, c .shared-slice-known3 .given 5)
+cast-level c = omega (arith, c .shared-slice-known3 .given (offsetOf headFields levelField))
 
 most-urgent-requires : tie.Need-most-urgent-requires
 most-urgent-requires c κs =
@@ -84,26 +96,31 @@ most-urgent-requires c κs =
 returns : tie.Need-returns
 returns c =
     let a : tie.After-most-urgent = c .before .before in
-    not-idle (looked a) (start a .args .highest) (omega (arith, c .before .if1 .taken)) (λ e. omega (arith, c .if2 .taken, e))
+    not-idle (looked a) (start a .args .highest) (omega (arith, c .before .if1 .taken)) (λ e. omega (arith, c .if2 .taken, e, task-byte (block (start a))))
 
 returns-2 : tie.Need-returns-2
 returns-2 c =
     let a : tie.After-most-urgent = c .before .before in
-    idle-level (looked a) (start a .args .highest) (omega (arith, c .before .if1 .taken)) (omega (arith, c .if2 .left))
+    ap (λ (n : ℕ). eqb n 0) (level-byte (block (start a)))
+    ∙ idle-level (looked a) (start a .args .highest) (omega (arith, c .before .if1 .taken)) (omega (arith, c .if2 .left, task-byte (block (start a))))
 
 task-in-requires : tie.Need-task-in-requires
 task-in-requires c κs = search needs
 
 returns-3 : tie.Need-returns-3
-returns-3 c = other-task (told (c .before)) (start (asked (c .before)) .args .highest) (c .if3 .taken)
+returns-3 c =
+    let s : tie.Start = start (asked (c .before)) in
+    other-task (told (c .before)) (s .args .highest) (λ e. c .if3 .taken (task-byte (block s) ∙ e))
 
 returns-4 : tie.Need-returns-4
-returns-4 c = level-high (runs (c .before)) (begun (c .before) .args .highest) (c .if4 .taken)
+returns-4 c =
+    let s : tie.Start = begun (c .before) in
+    level-high (runs (c .before)) (s .args .highest) (omega (arith, c .if4 .taken, level-byte (block s)))
 
 work-at-requires : tie.Need-work-at-requires
 work-at-requires c κs =
     let k = runs (c .before) in
-    (told-task k, k .looked .holds .size)
+    (omega (arith, told-task k, task-byte (block (begun (c .before)))), k .looked .holds .size)
 
 speed-of-requires : tie.Need-speed-of-requires
 speed-of-requires c κs = omega (arith, c .before .if4 .left, begun (c .before .before) .pre .0 .2)

@@ -1,10 +1,15 @@
 -- `test_block` meets its contract, by each way out.
 -- Assumes nothing.
-use mathlib.Core.Path.{refl, sym, _∙_}
+use Prim.Native.Nat.{ℕ}
+use mathlib.Core.Path.{sym, _∙_}
+use mathlib.Core.List.{List}
 use native.Mathlib.Omega.{arith}
 use borrow.Author.Needs.{needs}
 use borrow.Author.Tests.{not-true, not-false}
+use Rattle.reclaiming.specs.Fields.{offsetOf}
+use Rattle.reclaiming.specs.StateBlock.{headFields, countField}
 use Rattle.state.specs.Code.{Holds}
+use Rattle.state.proofs.BlockLaws.{count-byte}
 use Rattle.soundness.proofs.SoundLaws.{length-not, count-none, count-above, layout-not, state-tested}
 use Rattle.soundness.proofs.test_block.Statement.{statement}
 use Rattle.soundness.proofs.test_block.Tie as tie
@@ -20,7 +25,7 @@ abbrev begun : tie.After-laid-out → tie.Start
 begun c = start (sized (c .before))
 
 holds : (c : tie.Else3) → Holds (start (sized c) .args .block .now)
-holds c = record { size = sized c .if1 .left; few = c .if3 .left }
+holds c = record { size = sized c .if1 .left; few = omega (arith, c .if3 .left, count-byte (start (sized c) .args .block .now)) }
 
 not-sound-requires : tie.Need-not-sound-requires
 not-sound-requires c κs = search needs
@@ -32,22 +37,26 @@ shared-slice-read-count : tie.Need-shared-slice-read-count
 shared-slice-read-count c = search needs
 
 cast-count : tie.Need-cast-count
-cast-count c = omega (arith, c .shared-slice-known2 .given 6)
+cast-count c = omega (arith, c .shared-slice-known2 .given (offsetOf headFields countField))
 
 not-sound-requires-2 : tie.Need-not-sound-requires-2
 not-sound-requires-2 c κs = search needs
 
 returns-2 : tie.Need-returns-2
-returns-2 c = count-none (start (c .before .before .before) .args .block .now) (omega (arith, c .before .if2 .taken)) (c .not-sound2 .ensures)
+returns-2 c =
+    let b : List ℕ = start (c .before .before .before) .args .block .now in
+    count-none b (omega (arith, c .before .if2 .taken, count-byte b)) (c .not-sound2 .ensures)
 
 not-sound-requires-3 : tie.Need-not-sound-requires-3
 not-sound-requires-3 c κs = search needs
 
 returns-3 : tie.Need-returns-3
-returns-3 c = count-above (start (c .before .before .before .before) .args .block .now) (c .before .if3 .taken) (c .not-sound3 .ensures)
+returns-3 c =
+    let b : List ℕ = start (c .before .before .before .before) .args .block .now in
+    count-above b (omega (arith, c .before .if3 .taken, count-byte b)) (c .not-sound3 .ensures)
 
 laid-out-requires : tie.Need-laid-out-requires
-laid-out-requires c κs = search needs
+laid-out-requires c κs = (holds c .size, holds c .few)
 
 not-sound-requires-4 : tie.Need-not-sound-requires-4
 not-sound-requires-4 c κs = search needs
@@ -58,7 +67,7 @@ returns-4 c =
     (sym (c .before .before .laid-out .ensures) ∙ not-true _ (c .before .if4 .taken)) (c .not-sound4 .ensures)
 
 test-state-requires : tie.Need-test-state-requires
-test-state-requires c κs = (holds (c .before .before), refl, omega (arith, c .before .before .before .if2 .left))
+test-state-requires c κs = (holds (c .before .before), count-byte (begun (c .before) .args .block .now), omega (arith, c .before .before .before .if2 .left))
 
 returns-5 : tie.Need-returns-5
 returns-5 c =
