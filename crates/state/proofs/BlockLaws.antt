@@ -10,7 +10,7 @@ use native.Mathlib.Decide.{ℕ-discrete}
 use native.Mathlib.Omega.{arith}
 use borrow.Author.Tests.{eq-eqb, ne-eqb}
 use lib.ListN.{length, getD, take, drop, set, replicate, length-append, length-set, replicate-append-replicate}
-use lib.Seq.{ext-getD, sets, drop-drop, getD-drop, length-take-le, take-all, take-suc, getD-set-same, getD-set-other, paste, paste-suc}
+use lib.Seq.{ext-getD, sets, length-sets, drop-drop, getD-drop, length-take-le, take-all, take-suc, getD-set-same, getD-set-other, paste, paste-suc}
 use Rattle.arith.specs.Digits.{number, digits}
 use Rattle.arith.specs.Choice.{pick}
 use Rattle.arith.proofs.DigitLaws.{number-below}
@@ -289,6 +289,10 @@ jobs-eq s f g p q a b =
 -- a state with another entry in the place of one
 abbrev withEntry : State → ℕ → Entry → State
 withEntry s i e = record { clock = s .clock; task = s .task; level = s .level; entries = set (s .entries) i e }
+
+-- a store leaves the length
+pub length-entryStored : (bytes : List ℕ) (k i x : ℕ) → length (entryStored bytes k i x) ≡ length bytes
+length-entryStored bytes k i x = length-sets bytes (fieldPlace k + entryLength * i) (digits 256 (widthOf entryFields k) x)
 
 -- a number stored in field k of entry i makes that entry another
 module _ (k v : ℕ) (f : Entry) where

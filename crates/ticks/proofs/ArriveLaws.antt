@@ -9,19 +9,18 @@ use native.Mathlib.Omega.{arith}
 use borrow.Author.Tests.{lt-ltb, le-ltb, eq-eqb, ne-eqb}
 use lib.Dec.{ltb}
 use lib.ListN.{length, getD, set}
-use lib.Seq.{sets, length-sets, set-set}
+use lib.Seq.{set-set}
 use Rattle.arith.specs.Choice.{pick}
 use Rattle.arith.specs.Need.{need}
-use Rattle.arith.specs.Digits.{digits}
 use Rattle.plan.specs.Levels.{baseSpeeds, speedOf}
 use Rattle.orders.specs.declared.Choice.{Choice}
-use Rattle.reclaiming.specs.StateBlock.{State, noEntry, workOf, remainingOf, encode}
+use Rattle.reclaiming.specs.StateBlock.{State, noEntry, workOf, remainingOf, encode, workField, remainingField, stateLength}
 use Rattle.reclaiming.specs.Passes.{workedOf}
-use Rattle.state.specs.Code.{entryIn, changed, withJobs}
+use Rattle.state.specs.Code.{entryIn, changed, withJobs, entryStored}
 use Rattle.urgency.specs.Code.{keyOf, deadlineIn, dueAt}
 use Rattle.ticks.specs.Code.{arrivedState, renewedKeys}
 use Rattle.admission.proofs.LevelSpeeds.{work-short}
-use Rattle.state.proofs.BlockLaws.{changed-there, changed-else, encode-worst, encode-work, jobs-count, jobs-worst, jobs-same, jobs-eq, store-work, store-remaining}
+use Rattle.state.proofs.BlockLaws.{changed-there, changed-else, encode-worst, encode-work, jobs-count, jobs-worst, jobs-same, jobs-eq, store-work, store-remaining, length-entryStored}
 use Rattle.arith.proofs.ArrayLaws.{values-more}
 
 -- m is what d ticks of an order leave of a state in b
@@ -51,7 +50,7 @@ worked-idle b c d finished h s e t l few runs =
 
 -- an order runs one of the tasks at one of the levels, for d ticks
 pub record Running (b : List ℕ) (c : Choice) (d : ℕ) (finished : Bool) : Type 0 where
-  pub size : length b ≡ 200
+  pub size : length b ≡ stateLength
   pub short : d ≤ 65535
   pub some : c .task ≡ 255 → ⊥
   pub task : c .task < 16
@@ -67,11 +66,11 @@ module _ {b : List ℕ} {c : Choice} {d : ℕ} {finished : Bool} (k : Running b 
       (x : ℕ) →
       x ≡ leftWork s d finished (c .task) →
       {m : List ℕ} →
-      m ≡ sets b (13 + 12 * c .task) (digits 256 3 x) →
+      m ≡ entryStored b workField (c .task) x →
       m ≡ encode (withJobs s (workedOf baseSpeeds s d finished) (remainingOf s))
   worked-store s e t h x v w =
       w
-      ∙ ap (λ (l : List ℕ). sets l (13 + 12 * c .task) (digits 256 3 x)) (e ∙ ap encode (sym (jobs-same s)))
+      ∙ ap (λ (l : List ℕ). entryStored l workField (c .task) x) (e ∙ ap encode (sym (jobs-same s)))
       ∙ store-work s (workOf s) (remainingOf s) (c .task) x (omega arith)
       ∙ ap encode
       (jobs-eq s (changed (workOf s) (c .task) x) (workedOf baseSpeeds s d finished) (remainingOf s) (remainingOf s)
@@ -88,7 +87,7 @@ module _ {b : List ℕ} {c : Choice} {d : ℕ} {finished : Bool} (k : Running b 
       (λ i l. refl))
 
   -- its job finished
-  pub worked-done : finished ≡ true → {m : List ℕ} → m ≡ sets b (13 + 12 * c .task) (digits 256 3 0) → Works b c d finished m
+  pub worked-done : finished ≡ true → {m : List ℕ} → m ≡ entryStored b workField (c .task) 0 → Works b c d finished m
   worked-done f w s e t l few runs =
       worked-store s e t (runs (λ q. k .some (t ∙ q)) .0) 0
       (ap (λ (y : Bool). pick y 0 (workOf s (c .task) - d * speedOf baseSpeeds (s .level))) (sym f)) w
@@ -104,7 +103,7 @@ module _ {b : List ℕ} {c : Choice} {d : ℕ} {finished : Bool} {speed work : �
   pub working-fits : d * speed ≤ 65535 * 100
   working-fits = work-short (c .level) speed (k .running .level) (k .speed-is) d (k .running .short)
 
-  pub worked-fallen : {x : ℕ} → x ≡ work - d * speed → {m : List ℕ} → m ≡ sets b (13 + 12 * c .task) (digits 256 3 x) → Works b c d finished m
+  pub worked-fallen : {x : ℕ} → x ≡ work - d * speed → {m : List ℕ} → m ≡ entryStored b workField (c .task) x → Works b c d finished m
   worked-fallen {x} z w s e t l few runs =
       let r : (s .task < length (s .entries)) × (workOf s (s .task) ≤ 16777215) = runs (λ y. k .running .some (t ∙ y)) in
       let v : work ≡ workOf s (c .task) =
@@ -120,20 +119,20 @@ module _ {b : List ℕ} {c : Choice} {d : ℕ} {finished : Bool} {speed work : �
 -- the bytes in which task i has a new job at a speed
 abbrev renewedBytes : List ℕ → ℕ → ℕ → List ℕ
 renewedBytes b i speed =
-    sets (sets b (13 + 12 * i) (digits 256 3 (entryIn b i .worst))) (16 + 12 * i) (digits 256 2 (need speed (entryIn b i .worst)))
+    entryStored (entryStored b workField i (entryIn b i .worst)) remainingField i (need speed (entryIn b i .worst))
 
 -- what is read and stored of it: the work, then the plain ticks
 pub record Renewed (b o m : List ℕ) (i speed worst time : ℕ) : Type 0 where
   pub worst-is : worst ≡ entryIn b i .worst
-  pub work-in : o ≡ sets b (13 + 12 * i) (digits 256 3 worst)
+  pub work-in : o ≡ entryStored b workField i worst
   pub time-is : time ≡ need speed worst
-  pub ticks-in : m ≡ sets o (16 + 12 * i) (digits 256 2 time)
+  pub ticks-in : m ≡ entryStored o remainingField i time
 
 pub renew-stored : {b o m : List ℕ} {i speed worst time : ℕ} → Renewed b o m i speed worst time → m ≡ renewedBytes b i speed
 renew-stored {b} {i = i} {speed} k =
     k .ticks-in
-    ∙ ap₂ (λ (l : List ℕ) (x : ℕ). sets l (16 + 12 * i) (digits 256 2 x))
-    (k .work-in ∙ ap (λ (x : ℕ). sets b (13 + 12 * i) (digits 256 3 x)) (k .worst-is))
+    ∙ ap₂ (λ (l : List ℕ) (x : ℕ). entryStored l remainingField i x)
+    (k .work-in ∙ ap (λ (x : ℕ). entryStored b workField i x) (k .worst-is))
     (k .time-is ∙ ap (need speed) (k .worst-is))
 
 -- a function whose values below n are another's
@@ -199,7 +198,7 @@ leftTo keys clock speed s = upTo (newLeft keys clock speed s) (remainingOf s)
 
 -- the bytes on the way to that
 pub record Arriving (keys : List ℕ) (count clock speed : ℕ) (b m : List ℕ) (i : ℕ) : Type 0 where
-  pub size : length m ≡ 200
+  pub size : length m ≡ stateLength
   pub few : count ≤ 16
   pub below : i ≤ count
   pub so-far :
@@ -209,7 +208,7 @@ pub record Arriving (keys : List ℕ) (count clock speed : ℕ) (b m : List ℕ)
       ((i : ℕ) → i < count → getD (s .entries) i noEntry .worst ≤ 16777215) →
       m ≡ encode (withJobs s (workTo keys clock s i) (leftTo keys clock speed s i))
 
-pub arrive-none : {keys : List ℕ} {count clock speed : ℕ} {b : List ℕ} → length b ≡ 200 → count ≤ 16 → Arriving keys count clock speed b b 0
+pub arrive-none : {keys : List ℕ} {count clock speed : ℕ} {b : List ℕ} → length b ≡ stateLength → count ≤ 16 → Arriving keys count clock speed b b 0
 arrive-none {keys} {count} {clock} {speed} h few = record {
   size = h;
   few = few;
@@ -258,8 +257,8 @@ module _ {keys : List ℕ} {count clock speed : ℕ} {b m : List ℕ} {i : ℕ} 
         record {
           size =
               ap length g
-              ∙ length-sets (sets m (13 + 12 * i) (digits 256 3 (entryIn m i .worst))) (16 + 12 * i) (digits 256 2 (need speed (entryIn m i .worst)))
-              ∙ length-sets m (13 + 12 * i) (digits 256 3 (entryIn m i .worst))
+              ∙ length-entryStored (entryStored m workField i (entryIn m i .worst)) remainingField i (need speed (entryIn m i .worst))
+              ∙ length-entryStored m workField i (entryIn m i .worst)
               ∙ now .size;
           few = now .few;
           below = omega arith;
@@ -274,8 +273,8 @@ module _ {keys : List ℕ} {count clock speed : ℕ} {b m : List ℕ} {i : ℕ} 
               ∙ encode-worst (withJobs s work left) i (omega arith) (omega (arith, r i h))
               ∙ v in
               g
-              ∙ ap₂ (λ (l : List ℕ) (x : ℕ). sets (sets l (13 + 12 * i) (digits 256 3 x)) (16 + 12 * i) (digits 256 2 (need speed x))) (now .so-far s e n r) u
-              ∙ ap (λ (l : List ℕ). sets l (16 + 12 * i) (digits 256 2 (need speed worst))) (store-work s work left i worst (omega arith))
+              ∙ ap₂ (λ (l : List ℕ) (x : ℕ). entryStored (entryStored l workField i x) remainingField i (need speed x)) (now .so-far s e n r) u
+              ∙ ap (λ (l : List ℕ). entryStored l remainingField i (need speed worst)) (store-work s work left i worst (omega arith))
               ∙ store-remaining s (changed work i worst) left i (need speed worst) (omega arith)
               ∙ ap encode
               (jobs-eq s (changed work i worst) (workTo keys clock s (i + 1)) (changed left i (need speed worst)) (leftTo keys clock speed s (i + 1))

@@ -1,6 +1,6 @@
 -- Ticks taken from the entries in their bytes: from one entry, and from all, the most urgent first.
 -- Assumes nothing.
-use Prim.Native.Nat.{ℕ, zero, suc, _+_, _-_, _*_, _%_, _<_, _≤_, min}
+use Prim.Native.Nat.{ℕ, zero, suc, _+_, _-_, _%_, _<_, _≤_, min}
 use mathlib.Core.Path.{_≡_, refl, sym, ap, ap₂, subst, _∙_}
 use mathlib.Core.List.{List}
 use native.Mathlib.Nat.{not-suc-le-zero}
@@ -10,16 +10,14 @@ use borrow.Author.Tests.{lt-ltb, le-ltb}
 use mathlib.Core.Bool.{Bool}
 use lib.Dec.{ltb}
 use lib.ListN.{length, getD}
-use lib.Seq.{sets, length-sets}
 use Rattle.arith.specs.Choice.{pick}
 use Rattle.arith.specs.Sum.{sumTo}
-use Rattle.arith.specs.Digits.{digits}
 use Rattle.arith.proofs.Tests.{eq-yes, eq-not, testEq}
 use Rattle.arith.proofs.Sums.{sumTo-eq}
-use Rattle.reclaiming.specs.StateBlock.{State, workOf, remainingOf, encode}
-use Rattle.state.specs.Code.{entryIn, fieldIn, changed, withJobs}
+use Rattle.reclaiming.specs.StateBlock.{State, workOf, remainingOf, encode, remainingField, stateLength}
+use Rattle.state.specs.Code.{entryIn, changed, withJobs, entryStored, numberIn}
 use Rattle.urgency.specs.Code.{noKey, leastKey, drainedBy}
-use Rattle.state.proofs.BlockLaws.{changed-there, changed-else, field-remaining, encode-remaining, jobs-count, jobs-remaining, jobs-same, jobs-eq, store-remaining}
+use Rattle.state.proofs.BlockLaws.{changed-there, changed-else, field-remaining, encode-remaining, jobs-count, jobs-remaining, jobs-same, jobs-eq, store-remaining, length-entryStored}
 
 -- the ticks that entry i has left, as they are read, and the ticks that are asked of it
 pub record Asked (b : List ℕ) (i ticks left : ℕ) : Type 0 where
@@ -28,17 +26,17 @@ pub record Asked (b : List ℕ) (i ticks left : ℕ) : Type 0 where
 -- what is taken of it, and the bytes with what it keeps
 abbrev Took : List ℕ → ℕ → ℕ → List ℕ → ℕ → Type 0
 Took b i ticks m r =
-    (r ≡ min ticks (entryIn b i .remaining)) × (m ≡ sets b (16 + 12 * i) (digits 256 2 (entryIn b i .remaining - ticks)))
+    (r ≡ min ticks (entryIn b i .remaining)) × (m ≡ entryStored b remainingField i (entryIn b i .remaining - ticks))
 
 -- it has more than is asked for, or it has not
 module _ {b : List ℕ} {i ticks left : ℕ} (k : Asked b i ticks left) where
-  pub took-some : ticks < left → {m : List ℕ} → m ≡ sets b (16 + 12 * i) (digits 256 2 (left - ticks)) → Took b i ticks m ticks
-  took-some h e = (omega arith, e ∙ ap (λ (x : ℕ). sets b (16 + 12 * i) (digits 256 2 (x - ticks))) (k .is))
+  pub took-some : ticks < left → {m : List ℕ} → m ≡ entryStored b remainingField i (left - ticks) → Took b i ticks m ticks
+  took-some h e = (omega arith, e ∙ ap (λ (x : ℕ). entryStored b remainingField i (x - ticks)) (k .is))
 
-  pub took-all : left ≤ ticks → {m : List ℕ} → m ≡ sets b (16 + 12 * i) (digits 256 2 0) → Took b i ticks m left
+  pub took-all : left ≤ ticks → {m : List ℕ} → m ≡ entryStored b remainingField i 0 → Took b i ticks m left
   took-all h e =
       let z : 0 ≡ entryIn b i .remaining - ticks = omega arith in
-      (omega arith, e ∙ ap (λ (x : ℕ). sets b (16 + 12 * i) (digits 256 2 x)) z)
+      (omega arith, e ∙ ap (λ (x : ℕ). entryStored b remainingField i x) z)
 
 -- a sum in which one term is smaller
 sumTo-less :
@@ -127,7 +125,7 @@ Telling keys count = (i : ℕ) → i < count → (getD keys i 0 % 16 ≡ i) × (
 
 -- the bytes on the way, whatever state they began with
 pub record Draining (keys : List ℕ) (count d : ℕ) (b m : List ℕ) (t : ℕ) : Type 0 where
-  pub size : length m ≡ 200
+  pub size : length m ≡ stateLength
   pub tell : Telling keys count
   pub so-far :
       (s : State) →
@@ -136,7 +134,7 @@ pub record Draining (keys : List ℕ) (count d : ℕ) (b m : List ℕ) (t : ℕ)
       ((i : ℕ) → i < count → remainingOf s i ≤ 65535) →
       Drained s keys count d m t
 
-pub drain-none : {keys : List ℕ} {count : ℕ} (d : ℕ) {b : List ℕ} → length b ≡ 200 → Telling keys count → Draining keys count d b b d
+pub drain-none : {keys : List ℕ} {count : ℕ} (d : ℕ) {b : List ℕ} → length b ≡ stateLength → Telling keys count → Draining keys count d b b d
 drain-none d h tell = record {
   size = h;
   tell = tell;
@@ -264,27 +262,27 @@ module _ {keys : List ℕ} {count d : ℕ} {b m : List ℕ} {t : ℕ} (now : Dra
   pub drain-all : t ≤ 0 → Drains keys count d b m
   drain-all h s e n r = drain-end s e n r (λ i k. omega arith)
 
-  pub drain-out : {first : ℕ} → first ≡ leastKey keys (fieldIn m 16 2) count → first ≡ noKey → Drains keys count d b m
+  pub drain-out : {first : ℕ} → first ≡ leastKey keys (numberIn m remainingField) count → first ≡ noKey → Drains keys count d b m
   drain-out {first} a h s e n r =
       drain-end s e n r
       (λ i k.
-      let none : fieldIn m 16 2 i ≡ 0 = least-before keys (fieldIn m 16 2) count i k (omega (arith, now .tell i k .1)) in
+      let none : numberIn m remainingField i ≡ 0 = least-before keys (numberIn m remainingField) count i k (omega (arith, now .tell i k .1)) in
       let left : on s e n r .left i ≡ 0 = sym (left-is s e n r i k) ∙ sym (field-remaining m i) ∙ none in
       omega arith)
 
 -- x ticks are taken of the most urgent task that has some left, task f
 pub record Turn (keys : List ℕ) (count d : ℕ) (b m : List ℕ) (t first f x : ℕ) : Type 0 where
   pub now : Draining keys count d b m t
-  pub least : first ≡ leastKey keys (fieldIn m 16 2) count
+  pub least : first ≡ leastKey keys (numberIn m remainingField) count
   pub some : first ≡ noKey → ⊥
   pub task : f ≡ first % 16
   pub taken : x ≡ min t (entryIn m f .remaining)
 
 module _ {keys : List ℕ} {count d : ℕ} {b m : List ℕ} {t first f x : ℕ} (k : Turn keys count d b m t first f x) where
-  found : Found keys (fieldIn m 16 2) count first
+  found : Found keys (numberIn m remainingField) count first
   found =
-      subst (Found keys (fieldIn m 16 2) count) (sym (k .least))
-      (least-found keys (fieldIn m 16 2) count (omega (arith, k .least, k .some, least-most keys (fieldIn m 16 2) count)))
+      subst (Found keys (numberIn m remainingField) count) (sym (k .least))
+      (least-found keys (numberIn m remainingField) count (omega (arith, k .least, k .some, least-most keys (numberIn m remainingField) count)))
 
   task-is : found .place ≡ f
   task-is = sym (k .now .tell (found .place) (found .below) .0) ∙ ap (λ (n : ℕ). n % 16) (found .is) ∙ sym (k .task)
@@ -293,7 +291,7 @@ module _ {keys : List ℕ} {count d : ℕ} {b m : List ℕ} {t first f x : ℕ} 
   first-below = omega (arith, task-is, found .below)
 
   first-some : 0 < entryIn m f .remaining
-  first-some = subst (λ (n : ℕ). 0 < n) (field-remaining m f) (subst (λ (n : ℕ). 0 < fieldIn m 16 2 n) task-is (found .some))
+  first-some = subst (λ (n : ℕ). 0 < n) (field-remaining m f) (subst (λ (n : ℕ). 0 < numberIn m remainingField n) task-is (found .some))
 
   first-key : getD keys f 0 ≡ first
   first-key = subst (λ (n : ℕ). getD keys n 0 ≡ first) task-is (found .is)
@@ -318,24 +316,24 @@ module _ {keys : List ℕ} {count d : ℕ} {b m : List ℕ} {t first f x : ℕ} 
       ahead-empty = λ i h l.
           sym (read-is i h)
           ∙ sym (field-remaining m i)
-          ∙ least-before keys (fieldIn m 16 2) count i h (omega (arith, first-key, k .least));
+          ∙ least-before keys (numberIn m remainingField) count i h (omega (arith, first-key, k .least));
       taken = k .taken ∙ ap (min t) (read-is f first-below);
     }
 
-    turn-on : {o : List ℕ} → o ≡ sets m (16 + 12 * f) (digits 256 2 (entryIn m f .remaining - t)) → Drained s keys count d o (t - x)
+    turn-on : {o : List ℕ} → o ≡ entryStored m remainingField f (entryIn m f .remaining - t) → Drained s keys count d o (t - x)
     turn-on g = record {
       left = rest left f t;
       bytes =
           g
-          ∙ ap₂ (λ (l : List ℕ) (y : ℕ). sets l (16 + 12 * f) (digits 256 2 (y - t))) (k .now .so-far s e n r .bytes) (read-is f first-below)
+          ∙ ap₂ (λ (l : List ℕ) (y : ℕ). entryStored l remainingField f (y - t)) (k .now .so-far s e n r .bytes) (read-is f first-below)
           ∙ store-remaining s (workOf s) left f (left f - t) (omega (arith, first-below));
       less = λ i h. omega (arith, rest-less first-turn i, k .now .so-far s e n r .less i h);
       same = λ i h. drained-step first-turn i h ∙ k .now .so-far s e n r .same i h;
     }
 
-  pub turn-again : {o : List ℕ} → o ≡ sets m (16 + 12 * f) (digits 256 2 (entryIn m f .remaining - t)) → Draining keys count d b o (t - x)
+  pub turn-again : {o : List ℕ} → o ≡ entryStored m remainingField f (entryIn m f .remaining - t) → Draining keys count d b o (t - x)
   turn-again g = record {
-    size = ap length g ∙ length-sets m (16 + 12 * f) (digits 256 2 (entryIn m f .remaining - t)) ∙ k .now .size;
+    size = ap length g ∙ length-entryStored m remainingField f (entryIn m f .remaining - t) ∙ k .now .size;
     tell = k .now .tell;
     so-far = λ s e n r. turn-on s e n r g;
   }

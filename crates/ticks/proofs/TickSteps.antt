@@ -8,21 +8,19 @@ use native.Mathlib.Omega.{arith}
 use borrow.Author.Tests.{eq-eqb}
 use lib.Dec.{eqb}
 use lib.ListN.{length, getD}
-use lib.Seq.{sets}
 use Rattle.arith.specs.Choice.{pick}
 use Rattle.arith.specs.Need.{need}
-use Rattle.arith.specs.Digits.{digits}
 use Rattle.plan.specs.Levels.{baseSpeeds, speedOf}
 use Rattle.plan.specs.Blocks.{noTask}
 use Rattle.schedule.specs.PlainSchedule.{Timing}
 use Rattle.reclaiming.specs.declared.Entry.{Entry}
 use Rattle.orders.specs.declared.Choice.{Choice}
-use Rattle.reclaiming.specs.StateBlock.{State, noEntry, taskOf, workOf, remainingOf, planIn, timing, encode, decode}
+use Rattle.reclaiming.specs.StateBlock.{State, noEntry, taskOf, workOf, remainingOf, planIn, timing, encode, decode, clockField, stateCount}
 use Rattle.reclaiming.specs.Orders.{nextArrival}
 use Rattle.reclaiming.specs.Passes.{newEntry, drainedOf, workedOf, arrivesAt, agedEntry, entryAfter, movedState}
 use Rattle.arith.specs.Ranges.{listTo}
 use Rattle.reclaiming.specs.Questions.{stateSound}
-use Rattle.state.specs.Code.{timingIn, withJobs, withClock}
+use Rattle.state.specs.Code.{timingIn, withJobs, withClock, headStored}
 use Rattle.urgency.specs.Code.{noKey, Keyed, dueAt, drainedBy}
 use Rattle.orders.specs.Code.{choiceOf, Runnable}
 use Rattle.ticks.specs.Code.{Stepping, arrivedState}
@@ -149,7 +147,7 @@ module _ (s : State) (keys : List ℕ) (keyed : Keyed (timing baseSpeeds (planIn
 pub record Moving (bytes keys : List ℕ) (highest d : ℕ) (c : Choice) (count : ℕ) : Type 0 where
   pub step : Stepping bytes keys highest d
   pub order : c ≡ choiceOf (decode bytes)
-  pub same : count ≡ getD bytes 6 0
+  pub same : count ≡ stateCount bytes
 
 module _ {bytes keys : List ℕ} {highest d : ℕ} {c : Choice} {count : ℕ} (k : Moving bytes keys highest d c count) where
   ok : stateSound baseSpeeds (decode bytes) ≡ true
@@ -220,7 +218,7 @@ pub record Stepped (bytes keys : List ℕ) (highest d : ℕ) (c : Choice) (count
   pub prepared : Prepared bytes keys highest d c count clock speed
   pub drains : Drains keys count d bytes b1
   pub works : Works b1 c d finished b2
-  pub clocks : b3 ≡ sets b2 0 (digits 256 4 clock)
+  pub clocks : b3 ≡ headStored b2 clockField clock
   pub arrives : Arrives keys count clock speed b3 b4
 
 module _ {bytes keys : List ℕ} {highest d : ℕ} {c : Choice} {count clock speed : ℕ} {finished : Bool} {b1 b2 b3 b4 : List ℕ}
@@ -257,7 +255,7 @@ module _ {bytes keys : List ℕ} {highest d : ℕ} {c : Choice} {count clock spe
   after-clock : b3 ≡ encode (timed start keys count d finished)
   after-clock =
       k .clocks
-      ∙ ap₂ (λ (l : List ℕ) (x : ℕ). sets l 0 (digits 256 4 x)) after-work (k .prepared .clock-is)
+      ∙ ap₂ (λ (l : List ℕ) (x : ℕ). headStored l clockField x) after-work (k .prepared .clock-is)
       ∙ store-clock (worked start keys count d finished) (start .clock + d)
 
   pub moved-on : b4 ≡ encode (movedState baseSpeeds (timingIn bytes) (decode bytes) d finished)

@@ -1,6 +1,10 @@
 // What d ticks make of a state, in its bytes.
 use clock::Clock;
 use orders::Choice;
+use state::CLOCK_AT;
+use state::CLOCK_WIDTH;
+use state::REMAINING_AT;
+use state::REMAINING_WIDTH;
 use state::clock_at;
 use state::count_at;
 use state::period_at;
@@ -16,26 +20,24 @@ use urgency::most_urgent;
 use urgency::task_in;
 ghost use mathlib.Core.Path.{_≡_};
 ghost use mathlib.Core.Bool.{false};
-ghost use Prim.Native.Nat.{ℕ, _+_, _-_, _*_, _%_, _<_, _≤_, min};
+ghost use Prim.Native.Nat.{ℕ, _-_, _%_, _<_, _≤_, min};
 ghost use lib.ListN.{length, getD};
-ghost use lib.Seq.{sets};
 ghost use Rattle.arith.specs.Need.{need};
-ghost use Rattle.arith.specs.Digits.{digits};
 ghost use Rattle.plan.specs.Levels.{baseSpeeds};
-ghost use Rattle.reclaiming.specs.StateBlock.{State, noEntry, workOf, remainingOf, encode, decode};
+ghost use Rattle.reclaiming.specs.StateBlock.{State, noEntry, workOf, remainingOf, places, workField, remainingField, stateLength, encode, decode};
 ghost use Rattle.reclaiming.specs.Orders.{nextArrival};
 ghost use Rattle.reclaiming.specs.Passes.{workedOf, movedState};
 ghost use Rattle.reclaiming.specs.Questions.{largestClock};
-ghost use Rattle.state.specs.Code.{entryIn, timingIn, withJobs};
+ghost use Rattle.state.specs.Code.{entryIn, entryStored, timingIn, withJobs};
 ghost use Rattle.urgency.specs.Code.{noKey, dueAt, drainedBy};
 ghost use Rattle.orders.specs.Code.{choiceOf};
 ghost use Rattle.ticks.specs.Code.{Stepping, arrivedState, renewedKeys};
 
 // Takes ticks from task i's remaining ones, as many as there are; answers how many it took.
 fn take_from(block: &mut [u8], i: usize, ticks: u32) -> u32
-    requires { ⌜ (i < 16) × (length (now block) ≡ 200) ⌝ }
+    requires { ⌜ (i < places) × (length (now block) ≡ stateLength) ⌝ }
     ensures { λ r. ⌜ r ≡ min ticks (entryIn (now (block .entry)) i .remaining) ⌝ }
-    ensures { λ _. ⌜ now (block .exit) ≡ sets (now (block .entry)) (16 + 12 * i) (digits 256 2 (entryIn (now (block .entry)) i .remaining - ticks)) ⌝ }
+    ensures { λ _. ⌜ now (block .exit) ≡ entryStored (now (block .entry)) remainingField i (entryIn (now (block .entry)) i .remaining - ticks) ⌝ }
 {
     let left = remaining_at(block, i);
     if ticks < left {
@@ -48,13 +50,13 @@ fn take_from(block: &mut [u8], i: usize, ticks: u32) -> u32
 
 // Takes d ticks from the queue, most urgent entry first.
 fn drain(block: &mut [u8], keys: &[u64; 16], count: usize, d: u32)
-    requires { ⌜ (count ≤ 16) × (length (now block) ≡ 200) ⌝ }
+    requires { ⌜ (count ≤ places) × (length (now block) ≡ stateLength) ⌝ }
     requires { ⌜ ((i : ℕ) → i < count → (getD (now keys) i 0 % 16 ≡ i) × (getD (now keys) i 0 < noKey)) ⌝ }
     ensures { λ _. ⌜ ((s : State) → now (block .entry) ≡ encode s → length (s .entries) ≡ count → ((i : ℕ) → i < count → remainingOf s i ≤ 65535) → now (block .exit) ≡ encode (withJobs s (workOf s) (drainedBy (now (keys .entry)) (remainingOf s) count d))) ⌝ }
 {
     let mut ticks = d;
     while 0 < ticks {
-        let first = most_urgent(block, keys, count, 16, 2);
+        let first = most_urgent(block, keys, count, REMAINING_AT, REMAINING_WIDTH);
         if first == NO_KEY {
             return;
         }
@@ -74,7 +76,7 @@ fn less(a: u32, b: u32) -> u32
 
 // The running job's work falls by d ticks at its level, or is 0 if it finished.
 fn work_off(block: &mut [u8], c: Choice, d: u32, finished: bool)
-    requires { ⌜ (length (now block) ≡ 200) × (d ≤ 65535) × ((c .task ≡ 255 → ⊥) → (c .task < 16) × (c .level < 8)) ⌝ }
+    requires { ⌜ (length (now block) ≡ stateLength) × (d ≤ 65535) × ((c .task ≡ 255 → ⊥) → (c .task < places) × (c .level < 8)) ⌝ }
     ensures { λ _. ⌜ ((s : State) → now (block .entry) ≡ encode s → c .task ≡ s .task → c .level ≡ s .level → length (s .entries) ≤ 16 → ((s .task ≡ 255 → ⊥) → (s .task < length (s .entries)) × (workOf s (s .task) ≤ 16777215)) → now (block .exit) ≡ encode (withJobs s (workedOf baseSpeeds s d finished) (remainingOf s))) ⌝ }
 {
     if c.task == 255 {
@@ -92,8 +94,8 @@ fn work_off(block: &mut [u8], c: Choice, d: u32, finished: bool)
 
 // Gives task i a new job with full worst case and allotment.
 fn renew(block: &mut [u8], i: usize, speed: u32)
-    requires { ⌜ (i < 16) × (length (now block) ≡ 200) × (0 < speed) ⌝ }
-    ensures { λ _. ⌜ now (block .exit) ≡ sets (sets (now (block .entry)) (13 + 12 * i) (digits 256 3 (entryIn (now (block .entry)) i .worst))) (16 + 12 * i) (digits 256 2 (need speed (entryIn (now (block .entry)) i .worst))) ⌝ }
+    requires { ⌜ (i < places) × (length (now block) ≡ stateLength) × (0 < speed) ⌝ }
+    ensures { λ _. ⌜ now (block .exit) ≡ entryStored (entryStored (now (block .entry)) workField i (entryIn (now (block .entry)) i .worst)) remainingField i (need speed (entryIn (now (block .entry)) i .worst)) ⌝ }
 {
     let worst = worst_at(block, i);
     put_work(block, i, worst);
@@ -102,7 +104,7 @@ fn renew(block: &mut [u8], i: usize, speed: u32)
 
 // Gives each task whose deadline is the clock a new job.
 fn arrive(block: &mut [u8], keys: &[u64; 16], count: usize, clock: u32, speed: u32)
-    requires { ⌜ (count ≤ 16) × (length (now block) ≡ 200) × (0 < speed) ⌝ }
+    requires { ⌜ (count ≤ places) × (length (now block) ≡ stateLength) × (0 < speed) ⌝ }
     requires { ⌜ ((i : ℕ) → i < count → getD (now keys) i 0 < noKey) ⌝ }
     ensures { λ _. ⌜ ((s : State) → now (block .entry) ≡ encode s → length (s .entries) ≡ count → ((i : ℕ) → i < count → getD (s .entries) i noEntry .worst ≤ 16777215) → now (block .exit) ≡ encode (arrivedState (now (keys .entry)) clock speed s)) ⌝ }
 {
@@ -117,7 +119,7 @@ fn arrive(block: &mut [u8], keys: &[u64; 16], count: usize, clock: u32, speed: u
 
 // The same where it is known whether some deadline is the clock.
 fn arrive_if(block: &mut [u8], keys: &[u64; 16], count: usize, clock: u32, speed: u32, some: bool)
-    requires { ⌜ (count ≤ 16) × (length (now block) ≡ 200) × (0 < speed) ⌝ }
+    requires { ⌜ (count ≤ places) × (length (now block) ≡ stateLength) × (0 < speed) ⌝ }
     requires { ⌜ ((i : ℕ) → i < count → getD (now keys) i 0 < noKey) × (some ≡ false → (i : ℕ) → i < count → dueAt (now keys) clock i ≡ false) ⌝ }
     ensures { λ _. ⌜ ((s : State) → now (block .entry) ≡ encode s → length (s .entries) ≡ count → ((i : ℕ) → i < count → getD (s .entries) i noEntry .worst ≤ 16777215) → now (block .exit) ≡ encode (arrivedState (now (keys .entry)) clock speed s)) ⌝ }
 {
@@ -128,7 +130,7 @@ fn arrive_if(block: &mut [u8], keys: &[u64; 16], count: usize, clock: u32, speed
 
 // The keys at a clock where each task whose deadline is there has a new job.
 pub fn renewed(block: &[u8], keys: &[u64; 16], count: usize, clock: u32) -> [u64; 16]
-    requires { ⌜ (count ≤ 16) × (length (now block) ≡ 200) × (clock ≤ largestClock) ⌝ }
+    requires { ⌜ (count ≤ places) × (length (now block) ≡ stateLength) × (clock ≤ largestClock) ⌝ }
     requires { ⌜ ((i : ℕ) → i < count → getD (now keys) i 0 < noKey) ⌝ }
     ensures { λ r. ⌜ r ≡ renewedKeys (now (block .entry)) (now (keys .entry)) count clock ⌝ }
 {
@@ -165,6 +167,6 @@ pub fn move_on(
     let speed = admission::speed_of(highest);
     drain(block, keys, count, d);
     work_off(block, c, d, finished);
-    numeric::put_number(block, 0, 4, clock.ticks);
+    numeric::put_number(block, CLOCK_AT, CLOCK_WIDTH, clock.ticks);
     arrive_if(block, keys, count, clock.ticks, speed, d == next);
 }
