@@ -25,7 +25,7 @@ use Rattle.orders.specs.declared.Choice.{Choice}
 use Rattle.soundness.specs.declared.Tested.{Tested}
 use Rattle.reclaiming.specs.declared.Reply.{Reply}
 use Rattle.reclaiming.specs.declared.Reply.the-variants as reply
-use Rattle.reclaiming.specs.StateBlock.{State, noEntry, workOf, remainingOf, planIn, timing, encode, decode}
+use Rattle.reclaiming.specs.StateBlock.{State, noEntry, workOf, remainingOf, planIn, timing, encode, decode, stateCount}
 use Rattle.reclaiming.specs.Orders.{nextArrival, holdOf, chooseOrder, orderWith}
 use Rattle.arith.specs.Ranges.{someTo}
 use Rattle.reclaiming.specs.Passes.{arrivesAt, movedState, choosesAnew, passedState}
@@ -215,8 +215,8 @@ module _ {bytes keys : List ℕ} {highest next d : ℕ} {finished : Bool} {c : C
   same-timing : timingIn m ≡ T
   same-timing = ap (λ (x : State). timing baseSpeeds (planIn x)) back ∙ ap (timing baseSpeeds) (moved-facts allowed .plan)
 
-  same-count : getD m 6 0 ≡ length (start .entries)
-  same-count = ap (λ (l : List ℕ). getD l 6 0) (k .moved) ∙ moved-count allowed
+  same-count : stateCount m ≡ length (start .entries)
+  same-count = sym (count-in m) ∙ ap (λ (x : State). length (x .entries)) back ∙ moved-count allowed
 
   clock-then : decode m .clock ≡ start .clock + d
   clock-then = ap (λ (x : State). x .clock) back
@@ -227,13 +227,13 @@ module _ {bytes keys : List ℕ} {highest next d : ℕ} {finished : Bool} {c : C
     few = omega (arith, same-count, entries-few start (allowed .ok));
   }
 
-  pub after-some : 1 ≤ getD m 6 0
+  pub after-some : 1 ≤ stateCount m
   after-some = omega (arith, same-count, count-in bytes, count-some bytes (k .passing .good .sound))
 
   pub after-clock : (clock : ℕ) → clock ≡ decode m .clock → clock ≤ largestClock
   after-clock clock t = omega (arith, clock-then, lets allowed .clock)
 
-  pub after-below : (count : ℕ) → count ≡ getD m 6 0 → (i : ℕ) → i < count → getD keys i 0 < noKey
+  pub after-below : (count : ℕ) → count ≡ stateCount m → (i : ℕ) → i < count → getD keys i 0 < noKey
   after-below count n i h =
       key-below T (start .clock) keys (k .passing .good .keyed) i (omega (arith, same-count, length-planIn start))
 
@@ -249,7 +249,7 @@ module _ {bytes keys : List ℕ} {highest next d : ℕ} {finished : Bool} {c : C
       subst (λ (x : Timing). Keyed x (decode m .clock) r) (sym same-timing)
       (subst (λ (x : ℕ). Keyed T x r) (sym clock-then) new)
 
-  period-then : (i : ℕ) → i < getD m 6 0 → entryIn m i .period ≡ T .period i
+  period-then : (i : ℕ) → i < stateCount m → entryIn m i .period ≡ T .period i
   period-then i h =
       ap (λ (x : Entry). x .period) (sym (entry-at m i h))
       ∙ ap (λ (x : State). getD (x .entries) i noEntry .period) back
@@ -258,7 +258,7 @@ module _ {bytes keys : List ℕ} {highest next d : ℕ} {finished : Bool} {c : C
 
   pub after-keyed :
       (count clock : ℕ) →
-      count ≡ getD m 6 0 →
+      count ≡ stateCount m →
       clock ≡ decode m .clock →
       (r : List ℕ) →
       r ≡ renewedKeys m keys count clock →
@@ -267,7 +267,7 @@ module _ {bytes keys : List ℕ} {highest next d : ℕ} {finished : Bool} {c : C
       keyed-then r
       (keyed-after T (start .clock) keys (k .passing .good .keyed) d (lets allowed .some) (lets allowed .within) r (lets allowed .clock)
       (λ i h.
-      let w : i < getD m 6 0 = omega (arith, same-count, length-planIn start) in
+      let w : i < stateCount m = omega (arith, same-count, length-planIn start) in
       ap (λ (l : List ℕ). getD l i 0) e
       ∙ value-at 16 0 count (λ j. pick (dueAt keys clock j) (keyOf (clock + entryIn m j .period) (entryIn m j .period) j) (getD keys j 0)) i (omega (arith, n))
       ∙ ap₂ (λ (x y : ℕ). pick (dueAt keys x i) (keyOf (x + y) y i) (getD keys i 0)) (t ∙ clock-then) (period-then i w)))

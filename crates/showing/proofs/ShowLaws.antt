@@ -21,7 +21,7 @@ use Rattle.schedule.proofs.QueueLaws.{queueOf-cong}
 use Rattle.urgency.specs.declared.ReadyList.{ReadyList}
 use Rattle.soundness.specs.declared.Tested.{Tested}
 use Rattle.reclaiming.specs.declared.Entry.{Entry}
-use Rattle.reclaiming.specs.StateBlock.{remainingOf, decode}
+use Rattle.reclaiming.specs.StateBlock.{remainingOf, decode, stateCount}
 use Rattle.reclaiming.specs.Calls.{queueBytes, shownBytes, showNumber}
 use Rattle.urgency.specs.Code.{tasksBytes}
 use Rattle.state.specs.Code.{timingIn}
@@ -120,7 +120,7 @@ show-unsound bytes buffer t e h =
 -- a sound block with its count and its ready tasks
 pub record Showing (bytes keys : List ℕ) (highest n : ℕ) (q : ReadyList) : Type 0 where
   pub good : Good bytes keys highest
-  pub counted : n ≡ getD bytes 6 0
+  pub counted : n ≡ stateCount bytes
   pub listed : Listed keys (remainingIn bytes) n q
 
 module _ {bytes keys : List ℕ} {highest n : ℕ} {q : ReadyList} (k : Showing bytes keys highest n q) (buffer : List ℕ) where

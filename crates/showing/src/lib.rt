@@ -10,14 +10,15 @@ ghost use mathlib.Core.List.{_++_};
 ghost use Prim.Native.Nat.{ℕ, _*_, _<_, _≤_};
 ghost use lib.ListN.{length, getD, take, drop};
 ghost use Rattle.plan.specs.Levels.{baseSpeeds};
+ghost use Rattle.reclaiming.specs.StateBlock.{places, stateLength};
 ghost use Rattle.reclaiming.specs.Calls.{showReply, showBuffer};
 ghost use Rattle.state.specs.Code.{entryIn};
 ghost use Rattle.urgency.specs.Code.{tasksBytes};
 
 // Stores three bytes for each task of a list: its number, then its remaining ticks.
 fn put_queue(buffer: &mut [u8], state: &[u8], q: ReadyList)
-    requires { ⌜ (length (now state) ≡ 200) × (q .len ≤ 16) × (3 * q .len ≤ length (now buffer)) ⌝ }
-    requires { ⌜ ((k : ℕ) → k < q .len → getD (q .tasks) k 0 < 16) ⌝ }
+    requires { ⌜ (length (now state) ≡ stateLength) × (q .len ≤ places) × (3 * q .len ≤ length (now buffer)) ⌝ }
+    requires { ⌜ ((k : ℕ) → k < q .len → getD (q .tasks) k 0 < places) ⌝ }
     ensures { λ _. ⌜ now (buffer .exit) ≡ tasksBytes (λ i. entryIn (now (state .entry)) i .remaining) (take (q .len) (q .tasks)) ++ drop (3 * q .len) (now (buffer .entry)) ⌝ }
 {
     let len = q.len;
