@@ -1,13 +1,13 @@
 -- Starting: the image in which every task has a new job, made entry by entry, and the order chosen in it.
 -- Assumes nothing.
-use Prim.Native.Nat.{ℕ, zero, suc, _+_, _-_, _*_, _<_, _≤_}
+use Prim.Native.Nat.{ℕ, zero, suc, _+_, _<_, _≤_}
 use mathlib.Core.Path.{_≡_, refl, sym, subst, ap, ap₂, _∙_}
 use mathlib.Core.Bool.{Bool}
 use mathlib.Core.List.{List, [], _∷_, _++_, map}
 use native.Mathlib.Omega.{arith}
 use borrow.Author.Tests.{le-leb, lt-leb}
-use lib.ListN.{length, getD, take, drop, replicate, length-append, length-replicate}
-use lib.Seq.{sets, length-take-le, getD-take, take-all}
+use lib.ListN.{length, getD, drop, replicate}
+use lib.Seq.{sets, getD-take}
 use Rattle.arith.specs.Choice.{pick}
 use Rattle.arith.specs.Need.{need}
 use Rattle.plan.specs.declared.Task.{Task}
@@ -29,49 +29,31 @@ use Rattle.schedule.specs.PlainSchedule.{Timing}
 use Rattle.reclaiming.specs.declared.Entry.{Entry}
 use Rattle.reclaiming.specs.declared.Reply.{Reply}
 use Rattle.reclaiming.specs.declared.Reply.the-variants as reply
-use Rattle.reclaiming.specs.StateBlock.{State, noEntry, workOf, remainingOf, taskOf, timingAt, timing, planIn, entryBytes, entriesBytes, encode, decode}
+use Rattle.reclaiming.specs.StateBlock.{State, noEntry, workOf, remainingOf, taskOf, timingAt, timing, planIn, taskField, countField, stateLength, stateCount, encode, decode}
 use Rattle.reclaiming.specs.Orders.{chooseOrder, holdOf, orderWith}
 use Rattle.reclaiming.specs.Passes.{newEntry, startState}
 use Rattle.reclaiming.specs.Calls.{repliedBy, startNumber, startOrder}
-use Rattle.state.specs.Code.{Holds, entryIn, timingIn}
+use Rattle.state.specs.Code.{Holds, entryAt, entryIn, headStored, entryNumbers, timingIn}
 use Rattle.urgency.specs.Code.{latestKey, keysIn, Keyed}
 use Rattle.arith.proofs.ArrayLaws.{value-at}
 use Rattle.orders.specs.Code.{Enough}
 use Rattle.starting.specs.Code.{newState}
 use Rattle.reclaiming.proofs.Fine.{Fine, nominalSpeed}
 use Rattle.reclaiming.proofs.Plans.{task-range}
-use Rattle.reclaiming.proofs.StateCodec.{Storable, StorableEntry, length-encode, length-entriesBytes, decode-encode}
+use Rattle.reclaiming.proofs.StateCodec.{Storable, StorableEntry, length-encode, decode-encode}
 use Rattle.reclaiming.proofs.Soundness.{fine-storable}
 use Rattle.arith.proofs.RangeLaws.{length-listTo, getD-listTo}
 use Rattle.reclaiming.proofs.PassedStates.{choose-entries}
 use Rattle.reclaiming.proofs.PassSound.{start-fine}
-use Rattle.state.proofs.BlockLaws.{storedTo, stored-more, count-in, entry-at}
+use Rattle.state.proofs.BlockLaws.{storedTo, stored-size, stored-more, stored-all, count-in, entry-at}
 use Rattle.admission.proofs.LevelSpeeds.{speed-positive}
-
--- the eight bytes in front of the entries of a new state
-abbrev newFront : ℕ → List ℕ
-newFront count = 0 ∷ 0 ∷ 0 ∷ 0 ∷ 255 ∷ 0 ∷ count ∷ 0 ∷ []
-
--- an image of which the first i entries are stored has 200 bytes
-stored-size :
-    (front : List ℕ) (es : List Entry) (i : ℕ) → length front ≡ 8 → i ≤ 16 → i ≤ length es → length (storedTo front es i) ≡ 200
-stored-size front es i f few h =
-    let zeros : List ℕ = replicate (12 * (16 - i)) 0 in
-    omega (
-      arith,
-      length-append front (entriesBytes (take i es) ++ zeros),
-      length-append (entriesBytes (take i es)) zeros,
-      length-entriesBytes (take i es),
-      length-take-le i es h,
-      length-replicate {A = ℕ} (12 * (16 - i)) 0,
-    )
 
 -- an image on its way: its first i entries are stored
 pub record Making (speed : ℕ) (p : Plan) (image : List ℕ) (i : ℕ) : Type 0 where
   pub plan : Held p
   pub below : i ≤ p .count
-  pub size : length image ≡ 200
-  pub bytes : image ≡ storedTo (newFront (p .count)) (newState speed (tasksOf p) .entries) i
+  pub size : length image ≡ stateLength
+  pub bytes : image ≡ storedTo (newState speed (tasksOf p)) i
 
 module _ (speed : ℕ) {p : Plan} (plan : Held p) where
   abbrev made : List Entry
@@ -80,16 +62,18 @@ module _ (speed : ℕ) {p : Plan} (plan : Held p) where
   made-are : length made ≡ p .count
   made-are = length-listTo (length (tasksOf p)) (newEntry (timingAt speed (tasksOf p)) (tasksOf p)) ∙ count-is plan
 
-  making : (i : ℕ) (image : List ℕ) → i ≤ p .count → image ≡ storedTo (newFront (p .count)) made i → Making speed p image i
+  making : (i : ℕ) (image : List ℕ) → i ≤ p .count → image ≡ storedTo (newState speed (tasksOf p)) i → Making speed p image i
   making i image h e = record {
     plan = plan;
     below = h;
-    size = ap length e ∙ stored-size (newFront (p .count)) made i refl (omega (arith, plan .most)) (omega (arith, made-are));
+    size = ap length e ∙ stored-size (newState speed (tasksOf p)) i (omega (arith, plan .most)) (omega (arith, made-are));
     bytes = e;
   }
 
-  pub making-none : {image : List ℕ} → image ≡ 0 ∷ 0 ∷ 0 ∷ 0 ∷ 255 ∷ 0 ∷ p .count ∷ replicate 193 0 → Making speed p image 0
-  making-none {image} e = making 0 image (omega arith) e
+  pub making-none : {image : List ℕ} → image ≡ headStored (headStored (replicate stateLength 0) taskField 255) countField (p .count) → Making speed p image 0
+  making-none {image} e =
+      making 0 image (omega arith)
+      (e ∙ ap (λ (n : ℕ). headStored (headStored (replicate stateLength 0) taskField 255) countField n) (sym made-are))
 
 -- the entry that the code stores for task i
 abbrev entryMade : Plan → ℕ → ℕ → Entry
@@ -105,7 +89,7 @@ module _ {speed : ℕ} {p : Plan} {image : List ℕ} {i : ℕ} (so-far : Making 
       {ticks : ℕ} {m : List ℕ} →
       i < p .count →
       ticks ≡ need speed (getD (p .tasks) i noTask .worst) →
-      m ≡ sets image (8 + 12 * i) (take 10 (entryBytes (entryMade p i ticks))) →
+      m ≡ sets image (entryAt i) (entryNumbers (entryMade p i ticks)) →
       Making speed p m (i + 1)
   making-more {ticks} {m} h e s =
       let ts : List Task = tasksOf p in
@@ -117,17 +101,12 @@ module _ {speed : ℕ} {p : Plan} {image : List ℕ} {i : ℕ} (so-far : Making 
       λ j. record { period = same j .period; worst = same j .worst; work = same j .worst; remaining = ticks-is j } in
       let at : f i ≡ getD es i noEntry = sym (getD-listTo (length ts) f i noEntry (omega (arith, count-is (so-far .plan)))) in
       making speed (so-far .plan) (i + 1) m (omega arith)
-      (stored-more (newFront (p .count)) es i image m refl (omega (arith, so-far .plan .most)) (omega (arith, made-are speed (so-far .plan))) (so-far .bytes)
-      (s ∙ ap (λ (x : Entry). sets image (8 + 12 * i) (take 10 (entryBytes x))) (new ∙ at)))
+      (stored-more (newState speed ts) i image m (omega (arith, so-far .plan .most)) (omega (arith, made-are speed (so-far .plan))) (so-far .bytes)
+      (s ∙ ap (λ (x : Entry). sets image (entryAt i) (entryNumbers x)) (new ∙ at)))
 
   pub making-all : p .count ≤ i → image ≡ encode (newState speed (tasksOf p))
   making-all h =
-      let es : List Entry = made speed (so-far .plan) in
-      let n : p .count ≡ length es = sym (made-are speed (so-far .plan)) in
-      let e : i ≡ length es = omega (arith, so-far .below) in
-      so-far .bytes
-      ∙ ap₂ (λ (k j : ℕ). storedTo (newFront k) es j) n e
-      ∙ ap (λ (x : List Entry). newFront (length es) ++ (entriesBytes x ++ replicate (12 * (16 - length es)) 0)) (take-all (length es) es (omega arith))
+      so-far .bytes ∙ stored-all (newState speed (tasksOf p)) i (omega (arith, made-are speed (so-far .plan), so-far .below))
 
 -- an accepted plan with its nominal level
 pub record Planned (p : Plan) (level : ℕ) : Type 0 where
@@ -166,9 +145,9 @@ left-refused number (suc n) ts buffer h e = (
   sym (ap (λ (k : ℕ). storedBy k (encode (startState baseSpeeds ts)) buffer) e),
 )
 
-pub left-short : (ts : List Task) (buffer : List ℕ) → length buffer < 200 → LeftBy (roomNumber 200 (length buffer)) ts buffer (reply.Refused 9) buffer
+pub left-short : (ts : List Task) (buffer : List ℕ) → length buffer < stateLength → LeftBy (roomNumber stateLength (length buffer)) ts buffer (reply.Refused 9) buffer
 left-short ts buffer h =
-    left-refused (roomNumber 200 (length buffer)) 9 ts buffer (omega arith) (ap (λ (b : Bool). pick {A = ℕ} b 0 9) (lt-leb 200 (length buffer) h))
+    left-refused (roomNumber stateLength (length buffer)) 9 ts buffer (omega arith) (ap (λ (b : Bool). pick {A = ℕ} b 0 9) (lt-leb stateLength (length buffer) h))
 
 -- the image of a new state of an accepted plan, at its nominal speed
 pub record Newly (ts : List Task) (image : List ℕ) : Type 0 where
@@ -227,10 +206,10 @@ module _ {ts : List Task} {image : List ℕ} (new : Newly ts image) where
   new-back : encode (decode image) ≡ image
   new-back = ap encode new-read ∙ sym (new .bytes)
 
-  new-tasks : getD image 6 0 ≡ length ts
-  new-tasks = ap (λ (l : List ℕ). getD l 6 0) (new .bytes) ∙ new-length
+  new-tasks : stateCount image ≡ length ts
+  new-tasks = sym (count-in image) ∙ ap (λ (s : State). length (s .entries)) new-read ∙ new-length
 
-  pub new-size : length image ≡ 200
+  pub new-size : length image ≡ stateLength
   new-size = ap length (new .bytes) ∙ length-encode N (storable .count)
 
   new-holds : Holds image
@@ -286,7 +265,7 @@ module _ {ts : List Task} {image : List ℕ} (new : Newly ts image) where
     pub new-ready :
         (highest : ℕ) →
         highest ≡ nominal baseSpeeds ts →
-        (Holds image × (1 ≤ getD image 6 0) × (encode (decode image) ≡ image) × Enough (decode image) highest)
+        (Holds image × (1 ≤ stateCount image) × (encode (decode image) ≡ image) × Enough (decode image) highest)
         × Keyed (timingIn image) (decode image .clock) keys
     new-ready highest e = ((new-holds, omega (arith, new-tasks, new .good .count-low), new-back, new-enough highest e), new-keyed)
 
@@ -300,20 +279,20 @@ module _ {ts : List Task} {image : List ℕ} (new : Newly ts image) where
   -- its reply, and its bytes where there is room for them
   pub new-left :
       (buffer : List ℕ) {l m : List ℕ} {r : Reply} →
-      200 ≤ length buffer →
+      stateLength ≤ length buffer →
       r ≡ orderWith chosen (holdOf baseSpeeds (timingIn image) chosen) →
       l ≡ encode chosen →
-      m ≡ l ++ drop 200 buffer →
-      LeftBy (roomNumber 200 (length buffer)) ts buffer r m
+      m ≡ l ++ drop stateLength buffer →
+      LeftBy (roomNumber stateLength (length buffer)) ts buffer r m
   new-left buffer {l} {m} {r} h a b e =
-      let zero-is : 0 ≡ roomNumber 200 (length buffer) = sym (ap (λ (t : Bool). pick {A = ℕ} t 0 9) (le-leb 200 (length buffer) h)) in
+      let zero-is : 0 ≡ roomNumber stateLength (length buffer) = sym (ap (λ (t : Bool). pick {A = ℕ} t 0 9) (le-leb stateLength (length buffer) h)) in
       let order : r ≡ startOrder baseSpeeds S =
       a
       ∙ ap₂ (λ (x : Timing) (s : State). orderWith s (holdOf baseSpeeds x s)) new-timing chosen-is
       ∙ sym (ap (λ (us : List Task). orderWith S (holdOf baseSpeeds (timing baseSpeeds us) S)) (fine .entries .plan)) in
       let stored : m ≡ storedBy 0 (encode S) buffer =
       e
-      ∙ ap (λ (x : List ℕ). x ++ drop 200 buffer) (b ∙ ap encode chosen-is)
+      ∙ ap (λ (x : List ℕ). x ++ drop stateLength buffer) (b ∙ ap encode chosen-is)
       ∙ ap (λ (n : ℕ). encode S ++ drop n buffer) (sym (length-encode S (start-storable .count))) in
       subst (λ (n : ℕ). LeftBy n ts buffer r m) zero-is (order, stored)
 
@@ -327,7 +306,7 @@ start-unread block buffer {j} {n} read told =
     let t : (0 < n) × (firstNo (reading baseSpeeds block) ≡ n) =
     told-refused baseSpeeds (tasksIn block) (j .verdict) (firstNo (reading baseSpeeds block)) n (ap (λ (x : Judged). x .verdict) read) told in
     left-refused (startNumber baseSpeeds block (length buffer)) n (tasksIn block) buffer (t .0)
-    (no-before (reading baseSpeeds block) (roomQuestion 200 (length buffer) ∷ []) n (t .0) (t .1))
+    (no-before (reading baseSpeeds block) (roomQuestion stateLength (length buffer) ∷ []) n (t .0) (t .1))
 
 pub record Admitted (block : List ℕ) (j : Judged) (level span : ℕ) : Type 0 where
   pub read : j ≡ readBlock baseSpeeds block
@@ -360,9 +339,9 @@ module _ {block : List ℕ} {j : Judged} {level span : ℕ} (k : Admitted block 
 
   pub start-left :
       (buffer : List ℕ) {r : Reply} {m : List ℕ} →
-      LeftBy (roomNumber 200 (length buffer)) (tasksOf (j .plan)) buffer r m →
+      LeftBy (roomNumber stateLength (length buffer)) (tasksOf (j .plan)) buffer r m →
       LeftBy (startNumber baseSpeeds block (length buffer)) (tasksIn block) buffer r m
   start-left buffer {r} {m} h =
       subst (λ (n : ℕ). LeftBy n (tasksIn block) buffer r m)
-      (sym (yes-before (reading baseSpeeds block) (roomQuestion 200 (length buffer) ∷ []) refl accepted))
-      (subst (λ (ts : List Task). LeftBy (roomNumber 200 (length buffer)) ts buffer r m) tasks-are h)
+      (sym (yes-before (reading baseSpeeds block) (roomQuestion stateLength (length buffer) ∷ []) refl accepted))
+      (subst (λ (ts : List Task). LeftBy (roomNumber stateLength (length buffer)) ts buffer r m) tasks-are h)

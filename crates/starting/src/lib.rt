@@ -4,11 +4,13 @@ use plan::Plan;
 use plan::Verdict;
 use reclaiming::Entry;
 use reclaiming::Reply;
+use state::COUNT_AT;
+use state::STATE_LENGTH;
+use state::TASK_AT;
 use state::put_entry;
 use state::store;
 use urgency::keys_of;
 ghost use mathlib.Core.Path.{_≡_};
-ghost use mathlib.Core.List.{_∷_};
 ghost use Prim.Native.Nat.{_<_, _≤_};
 ghost use lib.ListN.{length, replicate};
 ghost use Rattle.plan.specs.Levels.{baseSpeeds, nominal};
@@ -16,26 +18,26 @@ ghost use Rattle.plan.specs.Blocks.{tasksOf};
 ghost use Rattle.plan.specs.Questions.{judging};
 ghost use Rattle.arith.specs.Asking.{firstNo};
 ghost use Rattle.plan.specs.Answers.{roomNumber, storedBy};
-ghost use Rattle.reclaiming.specs.StateBlock.{encode};
+ghost use Rattle.reclaiming.specs.StateBlock.{places, taskField, countField, stateLength, encode};
 ghost use Rattle.reclaiming.specs.Passes.{startState};
-ghost use Rattle.reclaiming.specs.Questions.{stateLength};
 ghost use Rattle.reclaiming.specs.Calls.{repliedBy, startOrder, startReply, startBuffer};
+ghost use Rattle.state.specs.Code.{headStored};
 ghost use Rattle.starting.specs.Code.{newState};
 
 // The image of a state at clock 0, with no entries yet.
-fn blank(count: usize) -> [u8; 200]
-    requires { ⌜ count ≤ 16 ⌝ }
-    ensures { λ r. ⌜ r ≡ 0 ∷ 0 ∷ 0 ∷ 0 ∷ 255 ∷ 0 ∷ count ∷ replicate 193 0 ⌝ }
+fn blank(count: usize) -> [u8; STATE_LENGTH]
+    requires { ⌜ count ≤ places ⌝ }
+    ensures { λ r. ⌜ r ≡ headStored (headStored (replicate stateLength 0) taskField 255) countField count ⌝ }
 {
-    let mut image = [0u8; 200];
-    image[4] = 255;
-    image[6] = count as u8;
+    let mut image = [0u8; STATE_LENGTH];
+    image[TASK_AT] = 255;
+    image[COUNT_AT] = count as u8;
     image
 }
 
 // A fresh image, filled at its offsets: every task of a plan has a new job at a speed, and no order is chosen.
-fn fresh(p: Plan, speed: u32) -> [u8; 200]
-    requires { ⌜ (p .count ≤ 16) × (0 < speed) ⌝ }
+fn fresh(p: Plan, speed: u32) -> [u8; STATE_LENGTH]
+    requires { ⌜ (p .count ≤ places) × (0 < speed) ⌝ }
     ensures { λ r. ⌜ r ≡ encode (newState speed (tasksOf p)) ⌝ }
 {
     let count = p.count;
@@ -62,7 +64,7 @@ fn started(p: Plan, highest: usize, state: &mut [u8]) -> Reply
     ensures { λ r. ⌜ r ≡ repliedBy (roomNumber stateLength (length (now (state .entry)))) (startOrder baseSpeeds (startState baseSpeeds (tasksOf p))) ⌝ }
     ensures { λ _. ⌜ now (state .exit) ≡ storedBy (roomNumber stateLength (length (now (state .entry)))) (encode (startState baseSpeeds (tasksOf p))) (now (state .entry)) ⌝ }
 {
-    if state.len() < 200 {
+    if state.len() < STATE_LENGTH {
         return Reply::Refused(9);
     }
     let speed = admission::speed_of(highest);

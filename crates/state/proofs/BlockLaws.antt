@@ -9,8 +9,8 @@ use native.Mathlib.Numerals.{add-one}
 use native.Mathlib.Decide.{ℕ-discrete}
 use native.Mathlib.Omega.{arith}
 use borrow.Author.Tests.{eq-eqb, ne-eqb}
-use lib.ListN.{length, getD, take, drop, set, replicate, length-append, length-set, replicate-append-replicate}
-use lib.Seq.{ext-getD, sets, length-sets, drop-drop, getD-drop, length-take-le, take-all, take-suc, getD-set-same, getD-set-other, paste, paste-suc}
+use lib.ListN.{length, getD, take, drop, set, replicate, length-append, length-set, length-replicate, replicate-append-replicate}
+use lib.Seq.{ext-getD, sets, length-sets, drop-drop, getD-drop, length-take-le, take-all, take-length, take-suc, getD-set-same, getD-set-other, paste, paste-suc}
 use Rattle.arith.specs.Digits.{number, digits}
 use Rattle.arith.specs.Choice.{pick}
 use Rattle.arith.proofs.DigitLaws.{number-below}
@@ -125,39 +125,67 @@ zeros-part a b k tail e =
     ∙ ap (λ (x : List ℕ). x ++ tail) (sym (replicate-append-replicate a b 0))
     ∙ append-assoc (replicate a 0) (replicate b 0) tail
 
--- the zero bytes of the places from i on: those of one place, then the others
-abbrev pub freeFrom : List ℕ → ℕ → List ℕ
-freeFrom tail i = replicate (entryLength * (places - i)) 0 ++ tail
+-- a state's bytes from place i on, while no entry is stored there
+abbrev freeFrom : State → ℕ → List ℕ
+freeFrom s i = replicate (entryLength * (places - i)) 0 ++ fieldsBytes tailFields s
 
-free-next : (tail : List ℕ) (i : ℕ) → i < places → freeFrom tail i ≡ replicate entryLength 0 ++ freeFrom tail (i + 1)
-free-next tail i h = zeros-part entryLength (entryLength * (places - (i + 1))) (entryLength * (places - i)) tail (omega arith)
+free-next : (s : State) (i : ℕ) → i < places → freeFrom s i ≡ replicate entryLength 0 ++ freeFrom s (i + 1)
+free-next s i h =
+    zeros-part entryLength (entryLength * (places - (i + 1))) (entryLength * (places - i)) (fieldsBytes tailFields s) (omega arith)
 
--- an image whose first i entries are stored, between a front and a tail
-abbrev pub storedTo : List ℕ → List Entry → List ℕ → ℕ → List ℕ
-storedTo front es tail i = front ++ (entriesBytes (take i es) ++ freeFrom tail i)
+-- the image of a state whose first i entries are stored
+abbrev pub storedTo : State → ℕ → List ℕ
+storedTo s i = fieldsBytes headFields s ++ (entriesBytes (take i (s .entries)) ++ freeFrom s i)
+
+pub stored-size : (s : State) (i : ℕ) → i ≤ places → i ≤ length (s .entries) → length (storedTo s i) ≡ stateLength
+stored-size s i few h =
+    let p : List ℕ = entriesBytes (take i (s .entries)) in
+    let free : ℕ = entryLength * (places - i) in
+    omega (
+      arith,
+      length-append (fieldsBytes headFields s) (p ++ freeFrom s i),
+      length-fields headFields s,
+      length-append p (freeFrom s i),
+      length-entriesBytes (take i (s .entries)),
+      length-take-le i (s .entries) h,
+      length-append (replicate free 0) (fieldsBytes tailFields s),
+      length-replicate {A = ℕ} free 0,
+      length-fields tailFields s,
+    )
 
 pub stored-more :
-    (front : List ℕ) (es : List Entry) (tail : List ℕ) (i : ℕ) (m n : List ℕ) →
-    length front ≡ headLength →
+    (s : State) (i : ℕ) (m n : List ℕ) →
     i < places →
-    i < length es →
-    m ≡ storedTo front es tail i →
-    n ≡ sets m (entryAt i) (entryNumbers (getD es i noEntry)) →
-    n ≡ storedTo front es tail (i + 1)
-stored-more front es tail i m n f h q a b =
-    let e : Entry = getD es i noEntry in
-    let p : List ℕ = entriesBytes (take i es) in
-    let rest : List ℕ = freeFrom tail (i + 1) in
+    i < length (s .entries) →
+    m ≡ storedTo s i →
+    n ≡ sets m (entryAt i) (entryNumbers (getD (s .entries) i noEntry)) →
+    n ≡ storedTo s (i + 1)
+stored-more s i m n h q a b =
+    let e : Entry = getD (s .entries) i noEntry in
+    let front : List ℕ = fieldsBytes headFields s in
+    let p : List ℕ = entriesBytes (take i (s .entries)) in
+    let rest : List ℕ = freeFrom s (i + 1) in
     let size : length (front ++ p) ≡ entryAt i =
-    omega (arith, length-append front p, length-entriesBytes (take i es), length-take-le i es (omega arith)) in
+    omega (
+      arith,
+      length-append front p,
+      length-fields headFields s,
+      length-entriesBytes (take i (s .entries)),
+      length-take-le i (s .entries) (omega arith),
+    ) in
     b
     ∙ ap (λ (x : List ℕ). sets x (entryAt i) (entryNumbers e))
-    (a ∙ ap (λ (x : List ℕ). front ++ (p ++ x)) (free-next tail i h) ∙ sym (append-assoc front p (replicate entryLength 0 ++ rest)))
+    (a ∙ ap (λ (x : List ℕ). front ++ (p ++ x)) (free-next s i h) ∙ sym (append-assoc front p (replicate entryLength 0 ++ rest)))
     ∙ sets-over (front ++ p) (replicate (offsetOf entryFields pairField) 0) (replicate (widthOf entryFields pairField) 0 ++ rest) (entryNumbers e) (entryAt i) size
     (sym (length-fields (take pairField entryFields) e))
     ∙ append-assoc front p (entryBytes e ++ rest)
     ∙ ap (λ (x : List ℕ). front ++ x) (sym (append-assoc p (entryBytes e) rest))
-    ∙ ap (λ (x : List ℕ). front ++ (x ++ rest)) (sym (entriesBytes-more es i q))
+    ∙ ap (λ (x : List ℕ). front ++ (x ++ rest)) (sym (entriesBytes-more (s .entries) i q))
+
+pub stored-all : (s : State) (i : ℕ) → i ≡ length (s .entries) → storedTo s i ≡ encode s
+stored-all s i e =
+    ap (λ (k : ℕ). storedTo s k) e
+    ∙ ap (λ (x : List Entry). fieldsBytes headFields s ++ (entriesBytes x ++ pastEntries s)) (take-length (s .entries))
 
 -- an image of a state is copied to the front of a buffer: its first i bytes stand there
 pub record CopiedTo (image found buffer : List ℕ) (i : ℕ) : Type 0 where
