@@ -6,36 +6,36 @@ use mathlib.Core.Bool.{true}
 use mathlib.Core.List.{List}
 use native.Mathlib.Omega.{arith}
 use lib.ListN.{length, getD}
-use Rattle.arith.proofs.Tests.{both-left, both-right}
+use Rattle.arith.specs.Choice.{both}
+use Rattle.arith.proofs.Tests.{both-left}
 use Rattle.plan.specs.declared.Task.{Task}
-use Rattle.plan.specs.Levels.{baseSpeeds, nominal}
+use Rattle.plan.specs.Levels.{Rising, nominal}
 use Rattle.plan.specs.Blocks.{noTask}
 use Rattle.arith.specs.Asking.{firstNo}
 use Rattle.plan.specs.Questions.{taskQuestions}
 use Rattle.plan.proofs.Facts.{FineList, InRange, tasks-yes}
 use Rattle.state.specs.Code.{Holds}
-use Rattle.plan.proofs.LevelLaws.{baseRising}
 use Rattle.schedule.specs.PlainSchedule.{Timing}
 use Rattle.reclaiming.specs.StateBlock.{State, noEntry, taskOf, workOf, remainingOf, planIn, timing, encode, decode, laidOut, stateLength, stateCount}
 use Rattle.reclaiming.specs.Orders.{nextArrival}
-use Rattle.reclaiming.specs.Questions.{largestClock, sound, stateSound}
+use Rattle.reclaiming.specs.Questions.{inTime, sound, stateSound}
 use Rattle.orders.specs.Code.{Runnable}
 use Rattle.reclaiming.proofs.Fine.{nominalSpeed, Fine}
 use Rattle.reclaiming.proofs.Plans.{task-range, allotment-short, nominal-positive}
 use Rattle.reclaiming.proofs.StateCodec.{laid-length, laid-back}
-use Rattle.reclaiming.proofs.Soundness.{planIn-at, length-planIn, sound-fine}
+use Rattle.reclaiming.proofs.Soundness.{planIn-at, length-planIn, sound-fine, sound-state}
 use Rattle.arith.proofs.RangeLaws.{least-le}
 use Rattle.reclaiming.proofs.OrderFacts.{Ordered, idles, runs}
 use Rattle.reclaiming.proofs.Worked.{ordered}
 use Rattle.state.proofs.BlockLaws.{count-in}
 
 -- what a sound state has
-module _ (s : State) (ok : stateSound baseSpeeds s ≡ true) where
-  pub sound-plan : FineList baseSpeeds (length (planIn s)) (planIn s)
-  sound-plan = sound-fine baseSpeeds s ok .0
+module _ (speeds : List ℕ) (rising : Rising speeds) (s : State) (ok : stateSound speeds s ≡ true) where
+  pub sound-plan : FineList speeds (length (planIn s)) (planIn s)
+  sound-plan = sound-fine speeds s ok .0
 
-  pub sound-facts : Fine baseSpeeds (planIn s) s
-  sound-facts = sound-fine baseSpeeds s ok .1
+  pub sound-facts : Fine speeds (planIn s) s
+  sound-facts = sound-fine speeds s ok .1
 
   pub entries-few : length (s .entries) ≤ 16
   entries-few = omega (arith, sound-plan .count-high, length-planIn s)
@@ -43,17 +43,17 @@ module _ (s : State) (ok : stateSound baseSpeeds s ≡ true) where
   entries-some : 1 ≤ length (s .entries)
   entries-some = omega (arith, sound-plan .count-low, length-planIn s)
 
-  pub nominal-small : nominal baseSpeeds (planIn s) < 8
+  pub nominal-small : nominal speeds (planIn s) < length speeds
   nominal-small = sound-plan .tasks .admitted
 
-  pub nominal-above : 0 < nominalSpeed baseSpeeds (planIn s)
-  nominal-above = nominal-positive baseSpeeds (planIn s) sound-plan baseRising
+  pub nominal-above : 0 < nominalSpeed speeds (planIn s)
+  nominal-above = nominal-positive speeds (planIn s) sound-plan rising
 
   -- its order is to stay idle, or runs one of the tasks at one of the levels
-  pub runnable : Runnable s
-  runnable = go (ordered baseSpeeds (planIn s) s sound-facts)
+  pub runnable : Runnable (length speeds) s
+  runnable = go (ordered speeds (planIn s) s sound-facts)
     where
-      go : Ordered baseSpeeds (timing baseSpeeds (planIn s)) (nominal baseSpeeds (planIn s)) s → Runnable s
+      go : Ordered speeds (timing speeds (planIn s)) (nominal speeds (planIn s)) s → Runnable (length speeds) s
       go (idles t x z) = record { task = λ ne. absurd (ne t); level = λ ne. absurd (ne t) }
       go (runs r) = record {
         task = λ ne. omega (arith, r .below, length-planIn s);
@@ -67,7 +67,7 @@ module _ (s : State) (ok : stateSound baseSpeeds s ≡ true) where
 
     range-of : InRange (taskOf (getD (s .entries) i noEntry))
     range-of =
-        subst (λ (t : Task). InRange t) (planIn-at s i) (task-range baseSpeeds (planIn s) sound-plan baseRising i within-plan)
+        subst (λ (t : Task). InRange t) (planIn-at s i) (task-range speeds (planIn s) sound-plan rising i within-plan)
 
     pub worst-most : getD (s .entries) i noEntry .worst ≤ 16777215
     worst-most = omega (arith, range-of .worst-high)
@@ -79,28 +79,25 @@ module _ (s : State) (ok : stateSound baseSpeeds s ≡ true) where
 
     pub remaining-most : remainingOf s i ≤ 65535
     remaining-most =
-        omega (arith, sound-facts .entries .remaining i within-plan, allotment-short baseSpeeds (planIn s) sound-plan baseRising i within-plan)
+        omega (arith, sound-facts .entries .remaining i within-plan, allotment-short speeds (planIn s) sound-plan rising i within-plan)
 
-    pub period-some : 0 < timing baseSpeeds (planIn s) .period i
-    period-some = task-range baseSpeeds (planIn s) sound-plan baseRising i within-plan .period-low
+    pub period-some : 0 < timing speeds (planIn s) .period i
+    period-some = task-range speeds (planIn s) sound-plan rising i within-plan .period-low
 
   -- ticks up to the next arrival are at most a period
-  pub ticks-short : (d : ℕ) → d ≤ nextArrival (timing baseSpeeds (planIn s)) (s .clock) → d ≤ 65535
+  pub ticks-short : (d : ℕ) → d ≤ nextArrival (timing speeds (planIn s)) (s .clock) → d ≤ 65535
   ticks-short d h =
-      let τ : Timing = timing baseSpeeds (planIn s) in
+      let τ : Timing = timing speeds (planIn s) in
       omega (
         arith,
         least-le (τ .count) (λ j. τ .period j - s .clock % τ .period j) 0 (sound-plan .count-low),
-        task-range baseSpeeds (planIn s) sound-plan baseRising 0 (sound-plan .count-low) .period-high,
+        task-range speeds (planIn s) sound-plan rising 0 (sound-plan .count-low) .period-high,
       )
 
 -- what a sound block has
-module _ (bytes : List ℕ) (ok : sound baseSpeeds bytes ≡ true) where
+module _ (speeds : List ℕ) (rising : Rising speeds) (bytes : List ℕ) (ok : sound speeds bytes ≡ true) where
   laid : laidOut bytes ≡ true
-  laid = both-left (laidOut bytes) (stateSound baseSpeeds (decode bytes)) ok
-
-  pub sound-state : stateSound baseSpeeds (decode bytes) ≡ true
-  sound-state = both-right (laidOut bytes) (stateSound baseSpeeds (decode bytes)) ok
+  laid = both-left (laidOut bytes) (both (inTime (decode bytes .clock)) (stateSound speeds (decode bytes))) ok
 
   pub sound-size : length bytes ≡ stateLength
   sound-size = laid-length bytes laid
@@ -109,13 +106,11 @@ module _ (bytes : List ℕ) (ok : sound baseSpeeds bytes ≡ true) where
   sound-back = laid-back bytes laid
 
   pub count-some : 1 ≤ stateCount bytes
-  count-some = omega (arith, entries-some (decode bytes) sound-state, count-in bytes)
+  count-some = omega (arith, entries-some speeds rising (decode bytes) (sound-state speeds bytes ok), count-in bytes)
 
   pub sound-holds : Holds bytes
-  sound-holds = record { size = sound-size; few = omega (arith, entries-few (decode bytes) sound-state, count-in bytes) }
+  sound-holds =
+      record { size = sound-size; few = omega (arith, entries-few speeds rising (decode bytes) (sound-state speeds bytes ok), count-in bytes) }
 
-  pub sound-plan-yes : firstNo (taskQuestions baseSpeeds (planIn (decode bytes))) ≡ 0
-  sound-plan-yes = tasks-yes baseSpeeds (planIn (decode bytes)) (sound-plan (decode bytes) sound-state .tasks)
-
-  pub sound-clock : decode bytes .clock ≤ largestClock
-  sound-clock = sound-facts (decode bytes) sound-state .entries .clock
+  pub sound-plan-yes : firstNo (taskQuestions speeds (planIn (decode bytes))) ≡ 0
+  sound-plan-yes = tasks-yes speeds (planIn (decode bytes)) (sound-plan speeds rising (decode bytes) (sound-state speeds bytes ok) .tasks)

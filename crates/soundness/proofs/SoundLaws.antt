@@ -1,24 +1,24 @@
 -- What each step and each way out of testing a state block says of whether it is sound.
 -- Assumes nothing.
-use Prim.Native.Nat.{ℕ, zero, suc, _+_, _*_, _<_, _≤_}
+use Prim.Native.Nat.{ℕ, zero, suc, _+_, _<_, _≤_}
 use mathlib.Core.Path.{_≡_, refl, sym, subst, ap, ap₂, _∙_}
 use mathlib.Core.Bool.{Bool, true, false}
 use mathlib.Core.List.{List, []}
-use native.Mathlib.Nat.{mul-le-mul}
 use native.Mathlib.Omega.{arith}
 use borrow.Author.Tests.{le-leb, lt-leb, eq-eqb, ne-eqb}
-use lib.Dec.{leb, ltb, eqb}
+use lib.Dec.{leb, eqb}
 use lib.ListN.{length, getD, take, drop, set}
 use lib.Seq.{take-all}
 use Rattle.arith.specs.Choice.{both, every}
-use Rattle.arith.specs.Need.{need}
 use Rattle.plan.specs.declared.Task.{Task}
 use Rattle.plan.specs.declared.Plan.{Plan}
 use Rattle.plan.specs.declared.Verdict.{Verdict}
 use Rattle.plan.specs.declared.Verdict.the-variants as verdict
 use Rattle.plan.specs.Answers.{answered}
 use Rattle.plan.specs.Blocks.{noTask, tasksOf, planOf}
-use Rattle.plan.specs.Levels.{baseSpeeds, speedOf, nominal}
+use Rattle.plan.specs.declared.Rest.{Rest}
+use Rattle.plan.specs.Times.{timeOf, whole}
+use Rattle.plan.specs.Levels.{Rising, speedOf, nominal}
 use Rattle.plan.specs.Questions.{taskQuestions, judging}
 use Rattle.arith.specs.Asking.{firstNo}
 use Rattle.plan.proofs.Facts.{InRange, range-at, fine-tasks}
@@ -29,16 +29,17 @@ use Rattle.arith.proofs.Tests.{both-false}
 use Rattle.arith.proofs.Loops.{every-again, every-not, every-end}
 use Rattle.reclaiming.specs.declared.Entry.{Entry}
 use Rattle.soundness.specs.declared.Tested.{Tested}
-use Rattle.reclaiming.specs.StateBlock.{State, noEntry, workOf, taskOf, planIn, timing, encode, decode, sameBytes, laidOut, places, stateLength, stateCount}
-use Rattle.reclaiming.specs.Orders.{allowance, openJobs}
-use Rattle.reclaiming.specs.Questions.{largestClock, entrySound, orderSound, stateSound, sound}
+use Rattle.reclaiming.specs.StateBlock.{State, noEntry, restIn, taskOf, planIn, timing, encode, decode, sameBytes, laidOut, places, stateLength, stateCount}
+use Rattle.reclaiming.specs.Orders.{allowance, openJobs, runningTime}
+use Rattle.reclaiming.specs.Questions.{largestClock, inTime, entrySound, orderSound, stateSound, sound}
 use Rattle.state.specs.Code.{Holds, entryIn, timingIn}
 use Rattle.urgency.specs.Code.{Keyed, latestKey, keysIn, noKey}
-use Rattle.soundness.specs.Code.{Good, testedBy}
-use Rattle.plan.proofs.TimeLaws.{need-test, need-above}
-use Rattle.admission.proofs.LevelSpeeds.{speed-positive, speed-most, Tried, tried-does}
-use Rattle.soundness.proofs.SoundFacts.{sound-holds, sound-plan-yes, sound-clock}
-use Rattle.urgency.proofs.HeadLaws.{task-is, period-is, Looked, none-open, Told, first-open, Read, read-work, read-allowed}
+use Rattle.soundness.specs.Code.{Good, orderIn, timedSound, testedBy}
+use Rattle.levels.specs.Code.{loaded, Table}
+use Rattle.levels.proofs.Tables.{levels-are, speed-is, speed-positive, speed-most}
+use Rattle.soundness.proofs.SoundFacts.{sound-holds, sound-plan-yes}
+use Rattle.reclaiming.proofs.Soundness.{sound-clock}
+use Rattle.urgency.proofs.HeadLaws.{task-is, period-is, Looked, none-open, Told, first-open, Read, read-rest, read-allowed}
 use Rattle.urgency.proofs.OpenJobs.{timing-count}
 use Rattle.state.proofs.BlockLaws.{count-in, entry-at}
 
@@ -54,18 +55,16 @@ module _ {b : List ℕ} {count : ℕ} {p : Plan} {i : ℕ} (now : Copying b coun
 
   pub copy-more :
       i < count →
-      {period worst : ℕ} →
-      period ≡ entryIn b i .period →
-      worst ≡ entryIn b i .worst →
-      Copying b count (record { count = p .count; tasks = set (p .tasks) i (record { period = period; worst = worst }) }) (i + 1)
-  copy-more h {period} {worst} e f =
+      {t : Task} →
+      t ≡ taskOf (entryIn b i) →
+      Copying b count (record { count = p .count; tasks = set (p .tasks) i t }) (i + 1)
+  copy-more h {t} e =
       let few : stateCount b ≤ places = now .holds .few in
-      let t : _≡_ {A = Task} (record { period = period; worst = worst }) (getD (planIn (decode b)) i noTask) =
-      (λ k. record { period = e k; worst = f k }) ∙ sym (task-is b i (omega (arith, now .same))) in
+      let same : t ≡ getD (planIn (decode b)) i noTask = e ∙ sym (task-is b i (omega (arith, now .same))) in
       record {
         holds = now .holds;
         same = now .same;
-        filled = filled-more (now .filled) (omega (arith, all)) (omega (arith, now .same)) h t;
+        filled = filled-more (now .filled) (omega (arith, all)) (omega (arith, now .same)) h same;
       }
 
   pub copy-all : count ≤ i → p ≡ planOf (planIn (decode b))
@@ -75,14 +74,12 @@ module _ {b : List ℕ} {count : ℕ} {p : Plan} {i : ℕ} (now : Copying b coun
 pub plan-few : {b : List ℕ} → Holds b → {p : Plan} → p ≡ planOf (planIn (decode b)) → p .count ≤ 16
 plan-few {b} holds e = subst (λ (q : Plan). q .count ≤ 16) (sym e) (omega (arith, holds .few, timing-count b))
 
--- an entry's work and worst case, as they are read, at a speed
-pub record Compared (b : List ℕ) (i speed work worst : ℕ) : Type 0 where
-  pub above : 0 < speed
-  pub most : speed ≤ 100
-  pub work-in : work ≡ entryIn b i .work
-  pub worst-in : worst ≡ entryIn b i .worst
+-- what is left of an entry's job, and a whole job of its task, as they are read, at a speed
+pub record Compared (b : List ℕ) (i speed : ℕ) (rest full : Rest) : Type 0 where
+  pub rest-in : rest ≡ restIn (entryIn b i)
+  pub whole-in : full ≡ whole (taskOf (entryIn b i))
 
-module _ {b : List ℕ} {i speed work worst : ℕ} (k : Compared b i speed work worst) where
+module _ {b : List ℕ} {i speed : ℕ} {rest full : Rest} (k : Compared b i speed rest full) where
   abbrev entry : Entry
   entry = entryIn b i
 
@@ -91,43 +88,41 @@ module _ {b : List ℕ} {i speed work worst : ℕ} (k : Compared b i speed work 
       (remaining : ℕ) →
       remaining ≡ entry .remaining →
       entrySound speed entry
-      ≡ both (leb work worst) (both (ltb (remaining * speed) (worst + speed)) (leb work (remaining * speed)))
+      ≡ both (leb (rest .work) (full .work)) (both (leb remaining (timeOf speed full)) (leb (timeOf speed rest) remaining))
   entry-tests remaining d =
-      ap₂ both (ap₂ leb (sym (k .work-in)) (sym (k .worst-in)))
+      sym
+      (ap₂ both (ap₂ (λ (x y : Rest). leb (x .work) (y .work)) (k .rest-in) (k .whole-in))
       (ap₂ both
-      (need-above speed (entry .worst) (entry .remaining) (k .above)
-      ∙ ap₂ (λ (r w : ℕ). ltb (r * speed) (w + speed)) (sym d) (sym (k .worst-in)))
-      (need-test speed (entry .work) (entry .remaining) (k .above) ∙ ap₂ (λ (w r : ℕ). leb w (r * speed)) (sym (k .work-in)) (sym d)))
+      (ap₂ (λ (n : ℕ) (y : Rest). leb n (timeOf speed y)) d (k .whole-in))
+      (ap₂ (λ (x : Rest) (n : ℕ). leb (timeOf speed x) n) (k .rest-in) d)))
 
-  pub work-high : worst < work → false ≡ entrySound speed entry
+  pub work-high : full .work < rest .work → false ≡ entrySound speed entry
   work-high h =
       sym
       (entry-tests (entry .remaining) refl
-      ∙ ap (λ (t : Bool). both t (both (ltb (entry .remaining * speed) (worst + speed)) (leb work (entry .remaining * speed)))) (lt-leb work worst h))
+      ∙ ap (λ (t : Bool). both t (both (leb (entry .remaining) (timeOf speed full)) (leb (timeOf speed rest) (entry .remaining))))
+      (lt-leb (rest .work) (full .work) h))
 
--- and its plain ticks left
-pub record Measured (b : List ℕ) (i speed work worst remaining : ℕ) : Type 0 where
-  pub compared : Compared b i speed work worst
-  pub low : work ≤ worst
+-- and its plain ticks left, of which it was found whether they are within the time of a whole job
+pub record Measured (b : List ℕ) (i speed : ℕ) (rest full : Rest) (remaining : ℕ) (found : Bool) : Type 0 where
+  pub compared : Compared b i speed rest full
+  pub low : rest .work ≤ full .work
   pub remaining-in : remaining ≡ entryIn b i .remaining
-  pub short : remaining ≤ 65535
+  pub found-is : found ≡ leb remaining (timeOf speed full)
 
-module _ {b : List ℕ} {i speed work worst remaining : ℕ} (k : Measured b i speed work worst remaining) where
-  -- what they do fits
-  pub most-fits : remaining * speed ≤ 65535 * 100
-  most-fits = mul-le-mul (k .short) (k .compared .most)
-
-  last-test : (t : Bool) → ltb (remaining * speed) (worst + speed) ≡ t → both t (leb work (remaining * speed)) ≡ entrySound speed (entryIn b i)
+module _ {b : List ℕ} {i speed : ℕ} {rest full : Rest} {remaining : ℕ} {found : Bool} (k : Measured b i speed rest full remaining found) where
+  last-test : (t : Bool) → found ≡ t → both t (leb (timeOf speed rest) remaining) ≡ entrySound speed (entryIn b i)
   last-test t e =
       sym
       (entry-tests (k .compared) remaining (k .remaining-in)
-      ∙ ap₂ (λ (u v : Bool). both u (both v (leb work (remaining * speed)))) (le-leb work worst (k .low)) e)
+      ∙ ap₂ (λ (u v : Bool). both u (both v (leb (timeOf speed rest) remaining))) (le-leb (rest .work) (full .work) (k .low))
+      (sym (k .found-is) ∙ e))
 
-  pub remaining-high : worst + speed ≤ remaining * speed → false ≡ entrySound speed (entryIn b i)
-  remaining-high h = last-test false (lt-leb (suc (remaining * speed)) (worst + speed) (omega arith))
+  pub remaining-high : found ≡ false → false ≡ entrySound speed (entryIn b i)
+  remaining-high e = last-test false e
 
-  pub remaining-last : remaining * speed < worst + speed → leb work (remaining * speed) ≡ entrySound speed (entryIn b i)
-  remaining-last h = last-test true (le-leb (suc (remaining * speed)) (worst + speed) h)
+  pub remaining-last : found ≡ true → {last : Bool} → last ≡ leb (timeOf speed rest) remaining → last ≡ entrySound speed (entryIn b i)
+  remaining-last e f = f ∙ last-test true e
 
 -- every entry of a block, tested from the front: those from i on decide
 pub record Testing (b : List ℕ) (count speed i : ℕ) : Type 0 where
@@ -163,133 +158,117 @@ module _ {b : List ℕ} {count speed i : ℕ} (now : Testing b count speed i) wh
       decide = every-again (entrySound speed) (decode b .entries) count noEntry (omega (arith, size)) i h (now .decide) (tested-is ∙ t);
     }
 
--- whether the order that stands in a block is sound
-abbrev orderIn : List ℕ → ℕ → Bool
-orderIn b highest = orderSound baseSpeeds (timingIn b) highest (decode b) (openJobs (timingIn b) (decode b))
-
 -- no job is open
-module _ {b l : List ℕ} {count best : ℕ} (k : Looked b l count best) (highest : ℕ) (none : best ≡ noKey) where
-  idle-sound : orderIn b highest ≡ both (eqb (decode b .task) 255) (eqb (decode b .level) 0)
-  idle-sound = ap (orderSound baseSpeeds (timingIn b) highest (decode b)) (none-open k none)
+module _ {speeds b l : List ℕ} {count best : ℕ} (k : Looked speeds b l count best) (highest : ℕ) (none : best ≡ noKey) where
+  idle-sound : orderIn speeds b highest ≡ both (eqb (decode b .task) 255) (eqb (decode b .level) 0)
+  idle-sound = ap (orderSound speeds (timingIn speeds b) highest (decode b)) (none-open k none)
 
-  pub not-idle : (decode b .task ≡ 255 → ⊥) → false ≡ orderIn b highest
+  pub not-idle : (decode b .task ≡ 255 → ⊥) → false ≡ orderIn speeds b highest
   not-idle n = sym (idle-sound ∙ ap (λ (t : Bool). both t (eqb (decode b .level) 0)) (ne-eqb (decode b .task) 255 n))
 
-  pub idle-level : decode b .task ≡ 255 → eqb (decode b .level) 0 ≡ orderIn b highest
+  pub idle-level : decode b .task ≡ 255 → eqb (decode b .level) 0 ≡ orderIn speeds b highest
   idle-level e = sym (idle-sound ∙ ap (λ (t : Bool). both t (eqb (decode b .level) 0)) (eq-eqb (decode b .task) 255 e))
 
 -- the level that the order names meets the allowance
-abbrev meetsIn : List ℕ → Bool
-meetsIn b =
-    leb (need (speedOf baseSpeeds (decode b .level)) (workOf (decode b) (decode b .task))) (allowance (timingIn b) (decode b) (decode b .task))
+abbrev meetsIn : List ℕ → List ℕ → Bool
+meetsIn speeds b = leb (runningTime speeds (decode b)) (allowance (timingIn speeds b) (decode b) (decode b .task))
 
 -- task i's job is the most urgent open one
-module _ {b l : List ℕ} {count best i : ℕ} (k : Told b l count best i) (highest : ℕ) where
-  run-sound : orderIn b highest ≡ both (eqb (decode b .task) i) (both (leb (decode b .level) highest) (meetsIn b))
+module _ {speeds b l : List ℕ} {count best i : ℕ} (k : Told speeds b l count best i) (highest : ℕ) where
+  run-sound : orderIn speeds b highest ≡ both (eqb (decode b .task) i) (both (leb (decode b .level) highest) (meetsIn speeds b))
   run-sound =
-      ap (orderSound baseSpeeds (timingIn b) highest (decode b)) (first-open k .queue)
-      ∙ ap (λ (n : ℕ). both (eqb (decode b .task) n) (both (leb (decode b .level) highest) (meetsIn b))) (first-open k .task)
+      ap (orderSound speeds (timingIn speeds b) highest (decode b)) (first-open k .queue)
+      ∙ ap (λ (n : ℕ). both (eqb (decode b .task) n) (both (leb (decode b .level) highest) (meetsIn speeds b))) (first-open k .task)
 
-  pub other-task : (decode b .task ≡ i → ⊥) → false ≡ orderIn b highest
+  pub other-task : (decode b .task ≡ i → ⊥) → false ≡ orderIn speeds b highest
   other-task n =
-      sym (run-sound ∙ ap (λ (t : Bool). both t (both (leb (decode b .level) highest) (meetsIn b))) (ne-eqb (decode b .task) i n))
+      sym (run-sound ∙ ap (λ (t : Bool). both t (both (leb (decode b .level) highest) (meetsIn speeds b))) (ne-eqb (decode b .task) i n))
 
 -- it is the order's
-module _ {b l : List ℕ} {count best : ℕ} (k : Told b l count best (decode b .task)) (highest : ℕ) where
-  level-decides : orderIn b highest ≡ both (leb (decode b .level) highest) (meetsIn b)
+module _ {speeds b l : List ℕ} {count best : ℕ} (k : Told speeds b l count best (decode b .task)) (highest : ℕ) where
+  level-decides : orderIn speeds b highest ≡ both (leb (decode b .level) highest) (meetsIn speeds b)
   level-decides =
       run-sound k highest
-      ∙ ap (λ (t : Bool). both t (both (leb (decode b .level) highest) (meetsIn b))) (eq-eqb (decode b .task) (decode b .task) refl)
+      ∙ ap (λ (t : Bool). both t (both (leb (decode b .level) highest) (meetsIn speeds b))) (eq-eqb (decode b .task) (decode b .task) refl)
 
-  pub level-high : highest < decode b .level → false ≡ orderIn b highest
-  level-high h = sym (level-decides ∙ ap (λ (t : Bool). both t (meetsIn b)) (lt-leb (decode b .level) highest h))
+  pub level-high : highest < decode b .level → false ≡ orderIn speeds b highest
+  level-high h = sym (level-decides ∙ ap (λ (t : Bool). both t (meetsIn speeds b)) (lt-leb (decode b .level) highest h))
 
--- at a level no higher than nominal, whose speed is read
-pub record Weighed (b l : List ℕ) (count best highest work speed allowed : ℕ) : Type 0 where
-  pub read : Read b l count best (decode b .task) work allowed
-  pub top : highest < 8
+-- at a level no higher than nominal, whose speed tells whether the allowance is enough
+pub record Weighed (held : List ℕ) (levels : ℕ) (b l : List ℕ) (count best highest : ℕ) (rest : Rest) (allowed : ℕ) (found : Bool) : Type 0 where
+  pub table : Table held levels
+  pub read : Read (loaded held levels) b l count best (decode b .task) rest allowed
+  pub top : highest < levels
   pub low : decode b .level ≤ highest
-  pub speed-is : speed ≡ speedOf baseSpeeds (decode b .level)
+  pub found-is : found ≡ leb (timeOf (getD held (decode b .level) 0) rest) allowed
 
-module _ {b l : List ℕ} {count best highest work speed allowed : ℕ} (k : Weighed b l count best highest work speed allowed) where
-  pub level-tried : Tried work allowed (decode b .level) speed
-  level-tried = record { low = omega (arith, k .low, k .top); speed-is = k .speed-is }
+module _ {held : List ℕ} {levels : ℕ} {b l : List ℕ} {count best highest : ℕ} {rest : Rest} {allowed : ℕ} {found : Bool}
+    (k : Weighed held levels b l count best highest rest allowed found) where
+  abbrev table-speeds : List ℕ
+  table-speeds = loaded held levels
 
-  pub level-meets : leb work (speed * allowed) ≡ orderIn b highest
+  pub level-meets : found ≡ orderIn (loaded held levels) b highest
   level-meets =
-      tried-does level-tried
-      ∙ ap₂ (λ (w a : ℕ). leb (need (speedOf baseSpeeds (decode b .level)) w) a) (read-work (k .read)) (read-allowed (k .read))
-      ∙ sym (level-decides (k .read .told) highest ∙ ap (λ (t : Bool). both t (meetsIn b)) (le-leb (decode b .level) highest (k .low)))
+      k .found-is
+      ∙ ap (λ (x : ℕ). leb (timeOf x rest) allowed) (speed-is (k .table) (decode b .level) (omega (arith, k .low, k .top)))
+      ∙ ap₂ (λ (x : Rest) (a : ℕ). leb (timeOf (speedOf table-speeds (decode b .level)) x) a) (read-rest (k .read)) (read-allowed (k .read))
+      ∙ sym (level-decides (k .read .told) highest ∙ ap (λ (t : Bool). both t (meetsIn table-speeds b)) (le-leb (decode b .level) highest (k .low)))
 
--- a state, by each of the four things that are asked of it
+-- a state, by each of the three things that are asked of it
 both-not : (a b : Bool) → b ≡ false → both a b ≡ false
 both-not a b h = ap (both a) h ∙ both-false a
 
--- the four tests
-abbrev planWell : State → Bool
-planWell s = eqb (firstNo (judging baseSpeeds (length (s .entries)) (planIn s))) 0
+module _ (speeds : List ℕ) (s : State) where
+  -- the three tests
+  abbrev planWell : Bool
+  planWell = eqb (firstNo (judging speeds (length (s .entries)) (planIn s))) 0
 
-abbrev clockWell : State → Bool
-clockWell s = leb (s .clock) largestClock
+  abbrev entriesWell : Bool
+  entriesWell = every (entrySound (speedOf speeds (nominal speeds (planIn s)))) (s .entries)
 
-abbrev entriesWell : State → Bool
-entriesWell s = every (entrySound (speedOf baseSpeeds (nominal baseSpeeds (planIn s)))) (s .entries)
+  abbrev orderWell : Bool
+  orderWell = orderSound speeds (timing speeds (planIn s)) (nominal speeds (planIn s)) s (openJobs (timing speeds (planIn s)) s)
 
-abbrev orderWell : State → Bool
-orderWell s = orderSound baseSpeeds (timing baseSpeeds (planIn s)) (nominal baseSpeeds (planIn s)) s (openJobs (timing baseSpeeds (planIn s)) s)
-
-module _ (s : State) where
-  plan-not : 0 < firstNo (judging baseSpeeds (length (s .entries)) (planIn s)) → stateSound baseSpeeds s ≡ false
+  plan-not : 0 < firstNo (judging speeds (length (s .entries)) (planIn s)) → stateSound speeds s ≡ false
   plan-not h =
-      ap (λ (b : Bool). both b (both (clockWell s) (both (entriesWell s) (orderWell s))))
-      (ne-eqb (firstNo (judging baseSpeeds (length (s .entries)) (planIn s))) 0 (λ e. omega arith))
+      ap (λ (b : Bool). both b (both entriesWell orderWell))
+      (ne-eqb (firstNo (judging speeds (length (s .entries)) (planIn s))) 0 (λ e. omega arith))
 
-  clock-not : leb (s .clock) largestClock ≡ false → stateSound baseSpeeds s ≡ false
-  clock-not h =
-      both-not (planWell s) (both (clockWell s) (both (entriesWell s) (orderWell s)))
-      (ap (λ (b : Bool). both b (both (entriesWell s) (orderWell s))) h)
-
-  entries-not :
-      every (entrySound (speedOf baseSpeeds (nominal baseSpeeds (planIn s)))) (s .entries) ≡ false → stateSound baseSpeeds s ≡ false
-  entries-not h =
-      both-not (planWell s) (both (clockWell s) (both (entriesWell s) (orderWell s)))
-      (both-not (clockWell s) (both (entriesWell s) (orderWell s)) (ap (λ (b : Bool). both b (orderWell s)) h))
+  entries-not : every (entrySound (speedOf speeds (nominal speeds (planIn s)))) (s .entries) ≡ false → stateSound speeds s ≡ false
+  entries-not h = both-not planWell (both entriesWell orderWell) (ap (λ (b : Bool). both b orderWell) h)
 
   order-decides :
-      firstNo (judging baseSpeeds (length (s .entries)) (planIn s)) ≡ 0 →
-      s .clock ≤ largestClock →
-      every (entrySound (speedOf baseSpeeds (nominal baseSpeeds (planIn s)))) (s .entries) ≡ true →
-      stateSound baseSpeeds s
-      ≡ orderSound baseSpeeds (timing baseSpeeds (planIn s)) (nominal baseSpeeds (planIn s)) s (openJobs (timing baseSpeeds (planIn s)) s)
-  order-decides p c e =
-      ap (λ (b : Bool). both b (both (clockWell s) (both (entriesWell s) (orderWell s))))
-      (eq-eqb (firstNo (judging baseSpeeds (length (s .entries)) (planIn s))) 0 p)
-      ∙ ap (λ (b : Bool). both b (both (entriesWell s) (orderWell s))) (le-leb (s .clock) largestClock c)
-      ∙ ap (λ (b : Bool). both b (orderWell s)) e
+      firstNo (judging speeds (length (s .entries)) (planIn s)) ≡ 0 →
+      every (entrySound (speedOf speeds (nominal speeds (planIn s)))) (s .entries) ≡ true →
+      stateSound speeds s
+      ≡ orderSound speeds (timing speeds (planIn s)) (nominal speeds (planIn s)) s (openJobs (timing speeds (planIn s)) s)
+  order-decides p e =
+      ap (λ (b : Bool). both b (both entriesWell orderWell)) (eq-eqb (firstNo (judging speeds (length (s .entries)) (planIn s))) 0 p)
+      ∙ ap (λ (b : Bool). both b orderWell) e
 
 -- a block that is not sound, as it is answered
-tested-not : (b : List ℕ) {r : Tested} {found : Bool} → r ≡ testedBy false [] → found ≡ false → r ≡ testedBy found b
-tested-not b e n = e ∙ ap (λ (t : Bool). testedBy t b) (sym n)
+tested-not : (speeds b : List ℕ) {r : Tested} {found : Bool} → r ≡ testedBy [] false [] → found ≡ false → r ≡ testedBy speeds found b
+tested-not speeds b e n = e ∙ ap (λ (t : Bool). testedBy speeds t b) (sym n)
 
 -- a block whose plan is admitted
-module _ (b : List ℕ) (yes-all : firstNo (taskQuestions baseSpeeds (planIn (decode b))) ≡ 0) where
+module _ (speeds b : List ℕ) (yes-all : firstNo (taskQuestions speeds (planIn (decode b))) ≡ 0) where
   periods-in : (i : ℕ) → i < stateCount b → (1 ≤ entryIn b i .period) × (entryIn b i .period ≤ 65535)
   periods-in i h =
       let r : InRange (taskOf (entryIn b i)) =
       subst InRange (task-is b i h)
-      (range-at (planIn (decode b)) i (fine-tasks baseSpeeds (planIn (decode b)) yes-all .ranges) (omega (arith, timing-count b))) in
+      (range-at (planIn (decode b)) i (fine-tasks speeds (planIn (decode b)) yes-all .ranges) (omega (arith, timing-count b))) in
       (r .period-low, r .period-high)
 
-  pub nominal-below : (level : ℕ) → level ≡ nominal baseSpeeds (planIn (decode b)) → level < 8
-  nominal-below level n = subst (λ (x : ℕ). x < 8) (sym n) (fine-tasks baseSpeeds (planIn (decode b)) yes-all .admitted)
+  pub nominal-below : (level : ℕ) → level ≡ nominal speeds (planIn (decode b)) → level < length speeds
+  nominal-below level n = subst (λ (x : ℕ). x < length speeds) (sym n) (fine-tasks speeds (planIn (decode b)) yes-all .admitted)
 
-  judging-yes : stateCount b ≤ places → 1 ≤ stateCount b → firstNo (judging baseSpeeds (length (decode b .entries)) (planIn (decode b))) ≡ 0
+  judging-yes : stateCount b ≤ places → 1 ≤ stateCount b → firstNo (judging speeds (length (decode b .entries)) (planIn (decode b))) ≡ 0
   judging-yes few some =
-      count-good baseSpeeds (planIn (decode b)) (length (decode b .entries)) (omega (arith, count-in b)) (omega (arith, count-in b))
+      count-good speeds (planIn (decode b)) (length (decode b .entries)) (omega (arith, count-in b)) (omega (arith, count-in b))
       ∙ yes-all
 
   -- the keys that are found are those of its latest jobs
-  keyed-in : stateCount b ≤ places → decode b .clock ≤ largestClock → Keyed (timingIn b) (decode b .clock) (keysIn b (stateCount b) (decode b .clock))
+  keyed-in : stateCount b ≤ places → decode b .clock ≤ largestClock → Keyed (timingIn speeds b) (decode b .clock) (keysIn b (stateCount b) (decode b .clock))
   keyed-in few le = record {
     few = subst (λ (n : ℕ). n ≤ 16) (sym (timing-count b)) few;
     low = λ i h. subst (λ (n : ℕ). 1 ≤ n) (sym (period-is b i (below i h))) (periods-in i (below i h) .0);
@@ -299,90 +278,91 @@ module _ (b : List ℕ) (yes-all : firstNo (taskQuestions baseSpeeds (planIn (de
         ∙ ap (λ (p : ℕ). latestKey (decode b .clock) p i) (sym (period-is b i (below i h)));
   }
     where
-      below : (i : ℕ) → i < timingIn b .count → i < stateCount b
+      below : (i : ℕ) → i < timingIn speeds b .count → i < stateCount b
       below i h = subst (λ (n : ℕ). i < n) (timing-count b) h
 
 -- a block of some tasks whose plan is admitted at a level, with its clock and the level's speed
-pub record Admitted (b : List ℕ) (count clock level speed : ℕ) : Type 0 where
+pub record Admitted (held : List ℕ) (levels : ℕ) (b : List ℕ) (count clock level speed : ℕ) : Type 0 where
+  pub table : Table held levels
   pub holds : Holds b
   pub same : count ≡ stateCount b
   pub some : 1 ≤ count
   pub clock-is : clock ≡ decode b .clock
   pub in-range : clock ≤ largestClock
-  pub yes-all : firstNo (taskQuestions baseSpeeds (planIn (decode b))) ≡ 0
-  pub level-is : level ≡ nominal baseSpeeds (planIn (decode b))
-  pub speed-is : speed ≡ speedOf baseSpeeds level
+  pub yes-all : firstNo (taskQuestions (loaded held levels) (planIn (decode b))) ≡ 0
+  pub level-is : level ≡ nominal (loaded held levels) (planIn (decode b))
+  pub speed-read : speed ≡ getD held level 0
 
-module _ {b : List ℕ} {count clock level speed : ℕ} (k : Admitted b count clock level speed) where
-  pub level-low : level < 8
-  level-low = nominal-below b (k .yes-all) level (k .level-is)
+module _ {held : List ℕ} {levels : ℕ} {b : List ℕ} {count clock level speed : ℕ} (k : Admitted held levels b count clock level speed) where
+  pub level-low : level < levels
+  level-low = omega (arith, nominal-below (loaded held levels) b (k .yes-all) level (k .level-is), levels-are (k .table))
 
-  pub admitted-speed : (0 < speed) × (speed ≤ 100)
-  admitted-speed = (speed-positive level speed level-low (k .speed-is), speed-most level speed level-low (k .speed-is))
+  pub admitted-speed : (0 < speed) × (speed ≤ 1000)
+  admitted-speed =
+      subst (λ (x : ℕ). (0 < x) × (x ≤ 1000)) (sym (k .speed-read)) (speed-positive (k .table) level level-low, speed-most (k .table) level level-low)
 
   pub admitted-periods : (i : ℕ) → i < count → 1 ≤ entryIn b i .period
-  admitted-periods i h = periods-in b (k .yes-all) i (subst (λ (n : ℕ). i < n) (k .same) h) .0
+  admitted-periods i h = periods-in (loaded held levels) b (k .yes-all) i (subst (λ (n : ℕ). i < n) (k .same) h) .0
 
   -- its keys
   module _ {keys : List ℕ} (e : keys ≡ keysIn b count clock) where
     keys-are : keys ≡ keysIn b (stateCount b) (decode b .clock)
     keys-are = e ∙ ap₂ (keysIn b) (k .same) (k .clock-is)
 
-    pub admitted-keyed : Keyed (timingIn b) (decode b .clock) keys
+    pub admitted-keyed : Keyed (timingIn (loaded held levels) b) (decode b .clock) keys
     admitted-keyed =
-        subst (Keyed (timingIn b) (decode b .clock)) (sym keys-are)
-        (keyed-in b (k .yes-all) (k .holds .few) (subst (λ (n : ℕ). n ≤ largestClock) (k .clock-is) (k .in-range)))
+        subst (Keyed (timingIn (loaded held levels) b) (decode b .clock)) (sym keys-are)
+        (keyed-in (loaded held levels) b (k .yes-all) (k .holds .few) (subst (λ (n : ℕ). n ≤ largestClock) (k .clock-is) (k .in-range)))
 
   -- it is tested by its entries, then by its order
   entries-are :
       every (entrySound speed) (decode b .entries)
-      ≡ every (entrySound (speedOf baseSpeeds (nominal baseSpeeds (planIn (decode b))))) (decode b .entries)
-  entries-are = ap (λ (v : ℕ). every (entrySound v) (decode b .entries)) (k .speed-is ∙ ap (speedOf baseSpeeds) (k .level-is))
+      ≡ every (entrySound (speedOf (loaded held levels) (nominal (loaded held levels) (planIn (decode b))))) (decode b .entries)
+  entries-are = ap (λ (v : ℕ). every (entrySound v) (decode b .entries)) (k .speed-read ∙ speed-is (k .table) level level-low ∙ ap (speedOf (loaded held levels)) (k .level-is))
 
   pub admitted-entries :
       {found : Bool} →
       found ≡ every (entrySound speed) (decode b .entries) →
       found ≡ false →
       {r : Tested} →
-      r ≡ testedBy false [] →
-      r ≡ testedBy (stateSound baseSpeeds (decode b)) b
-  admitted-entries e f g = tested-not b g (entries-not (decode b) (sym (e ∙ entries-are) ∙ f))
+      r ≡ testedBy [] false [] →
+      r ≡ testedBy (loaded held levels) (stateSound (loaded held levels) (decode b)) b
+  admitted-entries e f g = tested-not (loaded held levels) b g (entries-not (loaded held levels) (decode b) (sym (e ∙ entries-are) ∙ f))
 
 -- its entries are sound
-pub record Entered (b : List ℕ) (count clock level speed : ℕ) : Type 0 where
-  pub admitted : Admitted b count clock level speed
+pub record Entered (held : List ℕ) (levels : ℕ) (b : List ℕ) (count clock level speed : ℕ) : Type 0 where
+  pub admitted : Admitted held levels b count clock level speed
   pub entries : every (entrySound speed) (decode b .entries) ≡ true
 
-module _ {b : List ℕ} {count clock level speed : ℕ} (k : Entered b count clock level speed) where
-  order-is : orderIn b level ≡ stateSound baseSpeeds (decode b)
+module _ {held : List ℕ} {levels : ℕ} {b : List ℕ} {count clock level speed : ℕ} (k : Entered held levels b count clock level speed) where
+  order-is : orderIn (loaded held levels) b level ≡ stateSound (loaded held levels) (decode b)
   order-is =
-      ap (orderIn b) (k .admitted .level-is)
+      ap (orderIn (loaded held levels) b) (k .admitted .level-is)
       ∙ sym
-      (order-decides (decode b)
-      (judging-yes b (k .admitted .yes-all) (k .admitted .holds .few) (subst (λ (n : ℕ). 1 ≤ n) (k .admitted .same) (k .admitted .some)))
-      (subst (λ (n : ℕ). n ≤ largestClock) (k .admitted .clock-is) (k .admitted .in-range))
+      (order-decides (loaded held levels) (decode b)
+      (judging-yes (loaded held levels) b (k .admitted .yes-all) (k .admitted .holds .few) (subst (λ (n : ℕ). 1 ≤ n) (k .admitted .same) (k .admitted .some)))
       (sym (entries-are (k .admitted)) ∙ k .entries))
 
   pub admitted-order :
       {found : Bool} →
-      found ≡ orderIn b level →
+      found ≡ orderIn (loaded held levels) b level →
       found ≡ false →
       {r : Tested} →
-      r ≡ testedBy false [] →
-      r ≡ testedBy (stateSound baseSpeeds (decode b)) b
-  admitted-order e f g = tested-not b g (sym (e ∙ order-is) ∙ f)
+      r ≡ testedBy [] false [] →
+      r ≡ testedBy (loaded held levels) (stateSound (loaded held levels) (decode b)) b
+  admitted-order e f g = tested-not (loaded held levels) b g (sym (e ∙ order-is) ∙ f)
 
   pub admitted-sound :
       {found : Bool} →
-      found ≡ orderIn b level →
+      found ≡ orderIn (loaded held levels) b level →
       found ≡ true →
       {keys : List ℕ} →
       keys ≡ keysIn b count clock →
-      _≡_ {A = Tested} (record { sound = true; nominal = level; keys = keys }) (testedBy (stateSound baseSpeeds (decode b)) b)
+      _≡_ {A = Tested} (record { sound = true; nominal = level; keys = keys }) (testedBy (loaded held levels) (stateSound (loaded held levels) (decode b)) b)
   admitted-sound o y {keys} e =
-      let r : _≡_ {A = Tested} (record { sound = true; nominal = level; keys = keys }) (testedBy true b) =
+      let r : _≡_ {A = Tested} (record { sound = true; nominal = level; keys = keys }) (testedBy (loaded held levels) true b) =
       λ i. record { sound = true; nominal = k .admitted .level-is i; keys = keys-are (k .admitted) e i } in
-      r ∙ ap (λ (t : Bool). testedBy t b) (sym y ∙ o ∙ order-is)
+      r ∙ ap (λ (t : Bool). testedBy (loaded held levels) t b) (sym y ∙ o ∙ order-is)
 
 -- the number that a verdict is of
 refused-number : (n k : ℕ) (v : Verdict) (speeds : List ℕ) (ts : List Task) → v ≡ answered n speeds ts → v ≡ verdict.Refused k → 0 < n
@@ -398,90 +378,96 @@ admitted-number zero level span v speeds ts a r = (refl, cc)
 admitted-number (suc n) level span v speeds ts a r = let z : _≡_ {A = ℕ} 0 1 = cc in absurd (omega arith)
 
 -- a block of some tasks with its plan and the plan's verdict
-pub record Judged (b : List ℕ) (count : ℕ) (p : Plan) (v : Verdict) : Type 0 where
+pub record Judged (speeds b : List ℕ) (count : ℕ) (p : Plan) (v : Verdict) : Type 0 where
   pub holds : Holds b
   pub same : count ≡ stateCount b
   pub some : 1 ≤ count
   pub plan : p ≡ planOf (planIn (decode b))
-  pub verdict : v ≡ answered (firstNo (taskQuestions baseSpeeds (tasksOf p))) baseSpeeds (tasksOf p)
+  pub verdict : v ≡ answered (firstNo (taskQuestions speeds (tasksOf p))) speeds (tasksOf p)
 
-module _ {b : List ℕ} {count : ℕ} {p : Plan} {v : Verdict} (k : Judged b count p v) where
+module _ {speeds b : List ℕ} {count : ℕ} {p : Plan} {v : Verdict} (k : Judged speeds b count p v) where
   abbrev us : List Task
   us = planIn (decode b)
 
-  verdict-is : v ≡ answered (firstNo (taskQuestions baseSpeeds us)) baseSpeeds us
+  verdict-is : v ≡ answered (firstNo (taskQuestions speeds us)) speeds us
   verdict-is =
       k .verdict
-      ∙ ap (λ (l : List Task). answered (firstNo (taskQuestions baseSpeeds l)) baseSpeeds l)
+      ∙ ap (λ (l : List Task). answered (firstNo (taskQuestions speeds l)) speeds l)
       (ap tasksOf (k .plan) ∙ tasksOf-planOf us)
 
-  pub plan-refused : {n : ℕ} → v ≡ verdict.Refused n → {r : Tested} → r ≡ testedBy false [] → r ≡ testedBy (stateSound baseSpeeds (decode b)) b
+  pub plan-refused : {n : ℕ} → v ≡ verdict.Refused n → {r : Tested} → r ≡ testedBy [] false [] → r ≡ testedBy speeds (timedSound speeds (decode b)) b
   plan-refused {n} e f =
       let counted : length (decode b .entries) ≡ stateCount b = count-in b in
-      let some-no : 0 < firstNo (taskQuestions baseSpeeds us) = refused-number (firstNo (taskQuestions baseSpeeds us)) n v baseSpeeds us verdict-is e in
-      let good : firstNo (judging baseSpeeds (length (decode b .entries)) us) ≡ firstNo (taskQuestions baseSpeeds us) =
-      count-good baseSpeeds us (length (decode b .entries)) (omega (arith, k .same, k .some)) (omega (arith, k .holds .few)) in
-      tested-not b f (plan-not (decode b) (subst (λ (m : ℕ). 0 < m) (sym good) some-no))
+      let some-no : 0 < firstNo (taskQuestions speeds us) = refused-number (firstNo (taskQuestions speeds us)) n v speeds us verdict-is e in
+      let good : firstNo (judging speeds (length (decode b .entries)) us) ≡ firstNo (taskQuestions speeds us) =
+      count-good speeds us (length (decode b .entries)) (omega (arith, k .same, k .some)) (omega (arith, k .holds .few)) in
+      tested-not speeds b f
+      (both-not (inTime (decode b .clock)) (stateSound speeds (decode b)) (plan-not speeds (decode b) (subst (λ (m : ℕ). 0 < m) (sym good) some-no)))
 
-  pub plan-admitted : {level span : ℕ} → v ≡ verdict.Admitted level span → (firstNo (taskQuestions baseSpeeds us) ≡ 0) × (level ≡ nominal baseSpeeds us)
+  pub plan-admitted : {level span : ℕ} → v ≡ verdict.Admitted level span → (firstNo (taskQuestions speeds us) ≡ 0) × (level ≡ nominal speeds us)
   plan-admitted {level} {span} e =
-      admitted-number (firstNo (taskQuestions baseSpeeds us)) level span v baseSpeeds us verdict-is e
+      admitted-number (firstNo (taskQuestions speeds us)) level span v speeds us verdict-is e
 
--- a clock that is out of range
-pub clock-refused :
-    (b : List ℕ) {clock : ℕ} →
-    clock ≡ decode b .clock →
-    leb clock largestClock ≡ false →
-    {r : Tested} →
-    r ≡ testedBy false [] →
-    r ≡ testedBy (stateSound baseSpeeds (decode b)) b
-clock-refused b c f e = tested-not b e (clock-not (decode b) (ap (λ (n : ℕ). leb n largestClock) (sym c) ∙ f))
+-- a clock that is out of range, or in it
+module _ (speeds b : List ℕ) {clock : ℕ} (c : clock ≡ decode b .clock) where
+  in-time : {t : Bool} → leb clock largestClock ≡ t → inTime (decode b .clock) ≡ t
+  in-time f = ap (λ (n : ℕ). leb n largestClock) (sym c) ∙ f
+
+  pub clock-refused : {r : Tested} → leb clock largestClock ≡ false → r ≡ testedBy [] false [] → r ≡ testedBy speeds (timedSound speeds (decode b)) b
+  clock-refused f e = tested-not speeds b e (ap (λ (t : Bool). both t (stateSound speeds (decode b))) (in-time f))
+
+  pub clock-accepted :
+      {r : Tested} →
+      leb clock largestClock ≡ true → r ≡ testedBy speeds (stateSound speeds (decode b)) b → r ≡ testedBy speeds (timedSound speeds (decode b)) b
+  clock-accepted f e = e ∙ ap (λ (t : Bool). testedBy speeds t b) (sym (ap (λ (t : Bool). both t (stateSound speeds (decode b))) (in-time f)))
 
 -- a block, by each way out
-abbrev Right : List ℕ → Tested → Type 0
-Right bytes r = r ≡ testedBy (sound baseSpeeds bytes) bytes
+abbrev Right : List ℕ → List ℕ → Tested → Type 0
+Right speeds bytes r = r ≡ testedBy speeds (sound speeds bytes) bytes
 
-module _ (bytes : List ℕ) {r : Tested} where
-  pub layout-not : laidOut bytes ≡ false → r ≡ testedBy false [] → Right bytes r
-  layout-not n f = tested-not bytes f (ap (λ (t : Bool). both t (stateSound baseSpeeds (decode bytes))) n)
+module _ (speeds bytes : List ℕ) {r : Tested} where
+  pub layout-not : laidOut bytes ≡ false → r ≡ testedBy [] false [] → Right speeds bytes r
+  layout-not n f = tested-not speeds bytes f (ap (λ (t : Bool). both t (timedSound speeds (decode bytes))) n)
 
-  pub length-not : (length bytes ≡ stateLength → ⊥) → r ≡ testedBy false [] → Right bytes r
+  pub length-not : (length bytes ≡ stateLength → ⊥) → r ≡ testedBy [] false [] → Right speeds bytes r
   length-not n =
       layout-not (ap (λ (t : Bool). both t (sameBytes (encode (decode bytes)) bytes)) (ne-eqb (length bytes) stateLength n))
 
-  count-not : firstNo (judging baseSpeeds (length (decode bytes .entries)) (planIn (decode bytes))) ≡ 3 → r ≡ testedBy false [] → Right bytes r
+  count-not : firstNo (judging speeds (length (decode bytes .entries)) (planIn (decode bytes))) ≡ 3 → r ≡ testedBy [] false [] → Right speeds bytes r
   count-not e f =
-      tested-not bytes f (both-not (laidOut bytes) (stateSound baseSpeeds (decode bytes)) (plan-not (decode bytes) (omega arith)))
+      tested-not speeds bytes f
+      (both-not (laidOut bytes) (timedSound speeds (decode bytes))
+      (both-not (inTime (decode bytes .clock)) (stateSound speeds (decode bytes)) (plan-not speeds (decode bytes) (omega arith))))
 
-  pub count-none : stateCount bytes < 1 → r ≡ testedBy false [] → Right bytes r
+  pub count-none : stateCount bytes < 1 → r ≡ testedBy [] false [] → Right speeds bytes r
   count-none h =
-      count-not (count-low baseSpeeds (planIn (decode bytes)) (length (decode bytes .entries)) (omega (arith, count-in bytes)))
+      count-not (count-low speeds (planIn (decode bytes)) (length (decode bytes .entries)) (omega (arith, count-in bytes)))
 
-  pub count-above : places < stateCount bytes → r ≡ testedBy false [] → Right bytes r
+  pub count-above : places < stateCount bytes → r ≡ testedBy [] false [] → Right speeds bytes r
   count-above h =
-      count-not (count-high baseSpeeds (planIn (decode bytes)) (length (decode bytes .entries)) (omega (arith, count-in bytes)))
+      count-not (count-high speeds (planIn (decode bytes)) (length (decode bytes .entries)) (omega (arith, count-in bytes)))
 
-  pub state-tested : laidOut bytes ≡ true → r ≡ testedBy (stateSound baseSpeeds (decode bytes)) bytes → Right bytes r
+  pub state-tested : laidOut bytes ≡ true → r ≡ testedBy speeds (timedSound speeds (decode bytes)) bytes → Right speeds bytes r
   state-tested y e =
-      e ∙ ap (λ (t : Bool). testedBy t bytes) (sym (ap (λ (t : Bool). both t (stateSound baseSpeeds (decode bytes))) y))
+      e ∙ ap (λ (t : Bool). testedBy speeds t bytes) (sym (ap (λ (t : Bool). both t (timedSound speeds (decode bytes))) y))
 
 -- what a caller reads off the answer
-module _ (bytes : List ℕ) (r : Tested) (e : r ≡ testedBy (sound baseSpeeds bytes) bytes) where
-  sound-field : (b : Bool) → testedBy b bytes .sound ≡ b
+module _ (speeds bytes : List ℕ) (r : Tested) (e : r ≡ testedBy speeds (sound speeds bytes) bytes) where
+  sound-field : (b : Bool) → testedBy speeds b bytes .sound ≡ b
   sound-field true = refl
   sound-field false = refl
 
-  pub tested-sound : r .sound ≡ sound baseSpeeds bytes
-  tested-sound = ap (λ (x : Tested). x .sound) e ∙ sound-field (sound baseSpeeds bytes)
+  pub tested-sound : r .sound ≡ sound speeds bytes
+  tested-sound = ap (λ (x : Tested). x .sound) e ∙ sound-field (sound speeds bytes)
 
-  pub tested-good : r .sound ≡ true → Good bytes (r .keys) (r .nominal)
-  tested-good t =
-      let ok : sound baseSpeeds bytes ≡ true = sym tested-sound ∙ t in
-      let is : testedBy true bytes ≡ r = sym (e ∙ ap (λ (x : Bool). testedBy x bytes) ok) in
-      subst (λ (x : Tested). Good bytes (x .keys) (x .nominal)) is
+  pub tested-good : Rising speeds → r .sound ≡ true → Good speeds bytes (r .keys) (r .nominal)
+  tested-good rising t =
+      let ok : sound speeds bytes ≡ true = sym tested-sound ∙ t in
+      let is : testedBy speeds true bytes ≡ r = sym (e ∙ ap (λ (x : Bool). testedBy speeds x bytes) ok) in
+      subst (λ (x : Tested). Good speeds bytes (x .keys) (x .nominal)) is
       record {
         sound = ok;
-        holds = sound-holds bytes ok;
-        keyed = keyed-in bytes (sound-plan-yes bytes ok) (sound-holds bytes ok .few) (sound-clock bytes ok);
+        holds = sound-holds speeds rising bytes ok;
+        keyed = keyed-in speeds bytes (sound-plan-yes speeds rising bytes ok) (sound-holds speeds rising bytes ok .few) (sound-clock speeds bytes ok);
         nominal = refl;
       }

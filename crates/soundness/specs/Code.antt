@@ -5,25 +5,35 @@ use mathlib.Core.Path.{_≡_}
 use mathlib.Core.Bool.{Bool, true, false}
 use mathlib.Core.List.{List}
 use lib.ListN.{replicate}
-use Rattle.plan.specs.Levels.{baseSpeeds, nominal}
-use Rattle.reclaiming.specs.StateBlock.{stateCount, decode, planIn}
-use Rattle.reclaiming.specs.Questions.{sound}
+use Rattle.arith.specs.Choice.{both}
+use Rattle.plan.specs.Levels.{nominal}
+use Rattle.reclaiming.specs.StateBlock.{State, stateCount, decode, planIn}
+use Rattle.reclaiming.specs.Orders.{openJobs}
+use Rattle.reclaiming.specs.Questions.{inTime, orderSound, stateSound, sound}
 use Rattle.state.specs.Code.{Holds, timingIn}
 use Rattle.urgency.specs.Code.{Keyed, keysIn}
 use Rattle.soundness.specs.declared.Tested.{Tested}
 
 -- a block that is sound, with its keys and its nominal level
-pub record Good (bytes keys : List ℕ) (highest : ℕ) : Type 0 where
-  pub sound : sound baseSpeeds bytes ≡ true
+pub record Good (speeds bytes keys : List ℕ) (highest : ℕ) : Type 0 where
+  pub sound : sound speeds bytes ≡ true
   pub holds : Holds bytes
-  pub keyed : Keyed (timingIn bytes) (decode bytes .clock) keys
-  pub nominal : highest ≡ nominal baseSpeeds (planIn (decode bytes))
+  pub keyed : Keyed (timingIn speeds bytes) (decode bytes .clock) keys
+  pub nominal : highest ≡ nominal speeds (planIn (decode bytes))
+
+-- whether the order that stands in a block is sound
+abbrev pub orderIn : List ℕ → List ℕ → ℕ → Bool
+orderIn speeds b highest = orderSound speeds (timingIn speeds b) highest (decode b) (openJobs (timingIn speeds b) (decode b))
+
+-- whether a state is sound and its clock in range
+abbrev pub timedSound : List ℕ → State → Bool
+timedSound speeds s = both (inTime (s .clock)) (stateSound speeds s)
 
 -- what testing a block finds: that it is sound, its nominal level and its keys; or that it is not, and zeros
-abbrev pub testedBy : Bool → List ℕ → Tested
-testedBy false bytes = record { sound = false; nominal = 0; keys = replicate 16 0 }
-testedBy true bytes = record {
+abbrev pub testedBy : List ℕ → Bool → List ℕ → Tested
+testedBy speeds false bytes = record { sound = false; nominal = 0; keys = replicate 16 0 }
+testedBy speeds true bytes = record {
   sound = true;
-  nominal = nominal baseSpeeds (planIn (decode bytes));
+  nominal = nominal speeds (planIn (decode bytes));
   keys = keysIn bytes (stateCount bytes) (decode bytes .clock);
 }

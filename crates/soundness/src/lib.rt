@@ -1,7 +1,6 @@
 // Whether a state block is sound.
 use clock::Clock;
 use plan::Plan;
-use plan::Task;
 use plan::Verdict;
 use state::COUNT_AT;
 use state::LEVEL_AT;
@@ -12,10 +11,9 @@ use state::WORK_AT;
 use state::WORK_WIDTH;
 use state::clock_at;
 use state::laid_out;
-use state::period_at;
 use state::remaining_at;
-use state::work_at;
-use state::worst_at;
+use state::rest_at;
+use state::task_at;
 use urgency::NO_KEY;
 use urgency::allowance_of;
 use urgency::keys_of;
@@ -27,16 +25,16 @@ ghost use mathlib.Core.List.{[]};
 ghost use Prim.Native.Nat.{_<_, _≤_};
 ghost use lib.ListN.{length};
 ghost use Rattle.arith.specs.Choice.{every};
-ghost use Rattle.plan.specs.Levels.{baseSpeeds, nominal};
+ghost use Rattle.plan.specs.Levels.{nominal};
+ghost use Rattle.levels.specs.Code.{loaded, Table};
 ghost use Rattle.plan.specs.Questions.{taskQuestions};
 ghost use Rattle.arith.specs.Asking.{firstNo};
 ghost use Rattle.plan.specs.Blocks.{planOf};
 ghost use Rattle.reclaiming.specs.StateBlock.{planIn, places, stateLength, stateCount, decode};
-ghost use Rattle.reclaiming.specs.Orders.{openJobs};
-ghost use Rattle.reclaiming.specs.Questions.{largestClock, entrySound, orderSound, stateSound, sound};
+ghost use Rattle.reclaiming.specs.Questions.{largestClock, entrySound, stateSound, sound};
 ghost use Rattle.state.specs.Code.{Holds, entryIn, timingIn};
 ghost use Rattle.urgency.specs.Code.{Keyed};
-ghost use Rattle.soundness.specs.Code.{testedBy};
+ghost use Rattle.soundness.specs.Code.{orderIn, timedSound, testedBy};
 
 // A block that was tested: whether it is sound and, if so, its nominal level and the keys of its jobs.
 pub struct Tested {
@@ -54,36 +52,32 @@ fn plan_of(block: &[u8], count: usize) -> Plan
     p.count = count;
     let mut i: usize = 0;
     while i < count {
-        p.tasks[i] = Task {
-            period: period_at(block, i),
-            worst: worst_at(block, i),
-        };
+        p.tasks[i] = task_at(block, i);
         i += 1;
     }
     p
 }
 
-// Whether the work and the remaining ticks of task i's entry are sound, at the nominal speed. What remains at most the time needed, and
-// what is needed at most the time that remains, are told by the work that the remaining ticks do.
+// Whether what is left of task i's job and its remaining ticks are sound, at the nominal speed.
 fn entry_sound(block: &[u8], i: usize, speed: u32) -> bool
-    requires { ⌜ (i < places) × (length (now block) ≡ stateLength) × (0 < speed) × (speed ≤ 100) ⌝ }
+    requires { ⌜ (i < places) × (length (now block) ≡ stateLength) × (0 < speed) × (speed ≤ 1000) ⌝ }
     ensures { λ r. ⌜ r ≡ entrySound speed (entryIn (now (block .entry)) i) ⌝ }
 {
-    let work = work_at(block, i);
-    let worst = worst_at(block, i);
-    if work > worst {
+    let rest = rest_at(block, i);
+    let whole = times::whole_of(task_at(block, i));
+    if rest.work > whole.work {
         return false;
     }
-    let most = remaining_at(block, i) * speed;
-    if worst + speed <= most {
+    let remaining = remaining_at(block, i);
+    if !times::is_within(speed, remaining, whole) {
         return false;
     }
-    work <= most
+    times::is_enough(speed, rest, remaining)
 }
 
 // Whether every task's entry is sound, at the nominal speed.
 fn entries_sound(block: &[u8], count: usize, speed: u32) -> bool
-    requires { ⌜ Holds (now block) × (count ≡ stateCount (now block)) × (0 < speed) × (speed ≤ 100) ⌝ }
+    requires { ⌜ Holds (now block) × (count ≡ stateCount (now block)) × (0 < speed) × (speed ≤ 1000) ⌝ }
     ensures { λ r. ⌜ r ≡ every (entrySound speed) (decode (now (block .entry)) .entries) ⌝ }
 {
     let mut i: usize = 0;
@@ -98,10 +92,17 @@ fn entries_sound(block: &[u8], count: usize, speed: u32) -> bool
 
 // Whether the order that stands is sound: idle exactly if no job is open, else the most urgent open job at a level no higher than
 // nominal that meets its allowance.
-fn order_sound(block: &[u8], keys: &[u64; 16], count: usize, highest: usize) -> bool
-    requires { ⌜ Holds (now block) × (count ≡ stateCount (now block)) × (highest < 8) ⌝ }
-    requires { ⌜ Keyed (timingIn (now block)) (decode (now block) .clock) (now keys) ⌝ }
-    ensures { λ r. ⌜ r ≡ orderSound baseSpeeds (timingIn (now (block .entry))) highest (decode (now (block .entry))) (openJobs (timingIn (now (block .entry))) (decode (now (block .entry)))) ⌝ }
+fn order_sound(
+    speeds: &[u32; 8],
+    levels: usize,
+    block: &[u8],
+    keys: &[u64; 16],
+    count: usize,
+    highest: usize,
+) -> bool
+    requires { ⌜ Table (now speeds) levels × Holds (now block) × (count ≡ stateCount (now block)) × (highest < levels) ⌝ }
+    requires { ⌜ Keyed (timingIn (loaded (now speeds) levels) (now block)) (decode (now block) .clock) (now keys) ⌝ }
+    ensures { λ r. ⌜ r ≡ orderIn (loaded (now (speeds .entry)) levels) (now (block .entry)) highest ⌝ }
 {
     let task = block[TASK_AT] as usize;
     let level = block[LEVEL_AT] as usize;
@@ -118,14 +119,14 @@ fn order_sound(block: &[u8], keys: &[u64; 16], count: usize, highest: usize) -> 
     if level > highest {
         return false;
     }
-    let work = work_at(block, task);
-    let speed = admission::speed_of(level);
-    work <= speed * allowance_of(block, keys, count, best)
+    let rest = rest_at(block, task);
+    let allowed = allowance_of(block, keys, count, best);
+    times::is_enough(speeds[level], rest, allowed)
 }
 
 // The answer to a block that is not sound: nothing is in it.
 fn not_sound() -> Tested
-    ensures { λ r. ⌜ r ≡ testedBy false [] ⌝ }
+    ensures { λ r. ⌜ r ≡ testedBy [] false [] ⌝ }
 {
     Tested {
         sound: false,
@@ -135,18 +136,27 @@ fn not_sound() -> Tested
 }
 
 // A block that is laid out, whose clock is in range and whose plan is admitted at a nominal level.
-fn test_admitted(block: &[u8], count: usize, clock: u32, level: usize) -> Tested
-    requires { ⌜ Holds (now block) × (count ≡ stateCount (now block)) × (1 ≤ count) ⌝ }
+fn test_admitted(
+    speeds: &[u32; 8],
+    levels: usize,
+    block: &[u8],
+    count: usize,
+    clock: u32,
+    level: usize,
+) -> Tested
+    requires { ⌜ Table (now speeds) levels × Holds (now block) × (count ≡ stateCount (now block)) × (1 ≤ count) ⌝ }
     requires { ⌜ (clock ≡ decode (now block) .clock) × (clock ≤ largestClock) ⌝ }
-    requires { ⌜ (firstNo (taskQuestions baseSpeeds (planIn (decode (now block)))) ≡ 0) × (level ≡ nominal baseSpeeds (planIn (decode (now block)))) ⌝ }
-    ensures { λ r. ⌜ r ≡ testedBy (stateSound baseSpeeds (decode (now (block .entry)))) (now (block .entry)) ⌝ }
+    requires { ⌜ (firstNo (taskQuestions (loaded (now speeds) levels) (planIn (decode (now block)))) ≡ 0) × (level ≡ nominal (loaded (now speeds) levels) (planIn (decode (now block)))) ⌝ }
+    ensures { λ r. ⌜ r ≡ testedBy (loaded (now (speeds .entry)) levels)
+        (stateSound (loaded (now (speeds .entry)) levels) (decode (now (block .entry))))
+        (now (block .entry)) ⌝ }
 {
-    let speed = admission::speed_of(level);
+    let speed = speeds[level];
     if !entries_sound(block, count, speed) {
         return not_sound();
     }
     let keys = keys_of(block, count, clock);
-    if !order_sound(block, &keys, count, level) {
+    if !order_sound(speeds, levels, block, &keys, count, level) {
         return not_sound();
     }
     Tested {
@@ -157,28 +167,33 @@ fn test_admitted(block: &[u8], count: usize, clock: u32, level: usize) -> Tested
 }
 
 // A block that is laid out, of at least one task.
-fn test_state(block: &[u8], count: usize) -> Tested
-    requires { ⌜ Holds (now block) × (count ≡ stateCount (now block)) × (1 ≤ count) ⌝ }
-    ensures { λ r. ⌜ r ≡ testedBy (stateSound baseSpeeds (decode (now (block .entry)))) (now (block .entry)) ⌝ }
+fn test_state(speeds: &[u32; 8], levels: usize, block: &[u8], count: usize) -> Tested
+    requires { ⌜ Table (now speeds) levels × Holds (now block) × (count ≡ stateCount (now block)) × (1 ≤ count) ⌝ }
+    ensures { λ r. ⌜ r ≡ testedBy (loaded (now (speeds .entry)) levels)
+        (timedSound (loaded (now (speeds .entry)) levels) (decode (now (block .entry))))
+        (now (block .entry)) ⌝ }
 {
     let clock = Clock::new(clock_at(block));
     if !clock.in_range() {
         return not_sound();
     }
     let p = plan_of(block, count);
-    let v = admission::verdict_of(p);
+    let v = admission::verdict_of(speeds, levels, p);
     match v {
         Verdict::Refused(_) => not_sound(),
         Verdict::Admitted {
             nominal,
             hyperperiod: _,
-        } => test_admitted(block, count, clock.ticks, nominal),
+        } => test_admitted(speeds, levels, block, count, clock.ticks, nominal),
     }
 }
 
 // A block tested: whether it is sound and, if so, its nominal level and its keys.
-pub fn test_block(block: &[u8]) -> Tested
-    ensures { λ r. ⌜ r ≡ testedBy (sound baseSpeeds (now (block .entry))) (now (block .entry)) ⌝ }
+pub fn test_block(speeds: &[u32; 8], levels: usize, block: &[u8]) -> Tested
+    requires { ⌜ Table (now speeds) levels ⌝ }
+    ensures { λ r. ⌜ r ≡ testedBy (loaded (now (speeds .entry)) levels)
+        (sound (loaded (now (speeds .entry)) levels) (now (block .entry)))
+        (now (block .entry)) ⌝ }
 {
     if block.len() != STATE_LENGTH {
         return not_sound();
@@ -193,5 +208,5 @@ pub fn test_block(block: &[u8]) -> Tested
     if !laid_out(block) {
         return not_sound();
     }
-    test_state(block, count)
+    test_state(speeds, levels, block, count)
 }

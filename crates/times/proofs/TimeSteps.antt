@@ -3,7 +3,10 @@
 use Prim.Native.Nat.{ℕ, _-_, _*_, _<_, _≤_}
 use mathlib.Core.Path.{_≡_, sym, ap, _∙_}
 use native.Mathlib.Nat.{mul-comm, mul-le-mul}
+use mathlib.Core.Bool.{Bool, true, not}
+use native.Mathlib.Decide.{decLe}
 use native.Mathlib.Omega.{arith}
+use borrow.Author.Tests.{le-leb, lt-leb}
 use lib.Dec.{leb}
 use Rattle.arith.specs.Need.{need}
 use Rattle.plan.specs.declared.Rest.{Rest}
@@ -32,3 +35,15 @@ worn-none speed d r h =
 pub worn-some : (speed d : ℕ) (r : Rest) → _≡_ {A = Rest} (record { work = r .work - d * speed }) (worn speed d r)
 unfolding worn
 worn-some speed d r = λ i. record { work = r .work - d * speed }
+
+-- some ticks are within a time where one tick less is not enough for it
+pub within-none : (time ticks : ℕ) → ticks ≡ 0 → true ≡ leb ticks time
+within-none time ticks e = sym (le-leb ticks time (omega arith))
+
+pub within-some : (time ticks : ℕ) → (ticks ≡ 0 → ⊥) → {found : Bool} → found ≡ leb time (ticks - 1) → not found ≡ leb ticks time
+within-some time ticks some e =
+    ap not e
+    ∙ elim (decLe ticks time) [
+      | yes h ↦ simp (lt-leb time (ticks - 1) (omega arith), le-leb ticks time h)
+      | no h ↦ simp (le-leb time (ticks - 1) (omega arith), lt-leb ticks time (omega arith))
+    ]

@@ -37,6 +37,17 @@ pub fn is_enough(speed: u32, rest: Rest, ticks: u32) -> bool
     rest.work <= speed * ticks
 }
 
+// Whether some ticks are at most the time that a job needs at a speed: one tick less is not enough for it.
+pub fn is_within(speed: u32, ticks: u32, rest: Rest) -> bool
+    requires { ⌜ (0 < speed) × (speed ≤ 1000) × (ticks ≤ 1048560) ⌝ }
+    ensures { λ r. ⌜ r ≡ leb ticks (timeOf speed rest) ⌝ }
+{
+    if ticks == 0 {
+        return true;
+    }
+    !is_enough(speed, rest, ticks - 1)
+}
+
 // What so many ticks at a speed leave of a job.
 pub fn worn_by(speed: u32, ticks: u32, rest: Rest) -> Rest
     requires { ⌜ (speed ≤ 1000) × (ticks ≤ 65535) ⌝ }

@@ -1,69 +1,82 @@
 -- `entry_sound` meets its contract, by each way out.
 -- Assumes nothing.
+use mathlib.Core.Path.{ap, _∙_}
 use native.Mathlib.Omega.{arith}
 use borrow.Author.Needs.{needs}
-use Rattle.soundness.proofs.SoundLaws.{Compared, Measured, work-high, most-fits, remaining-high, remaining-last}
+use borrow.Author.Tests.{not-true, not-false}
+use Rattle.plan.specs.Times.{whole}
+use Rattle.soundness.proofs.SoundLaws.{Compared, Measured, work-high, remaining-high, remaining-last}
 use Rattle.soundness.proofs.entry_sound.Statement.{statement}
 use Rattle.soundness.proofs.entry_sound.Tie as tie
 
-abbrev start : tie.After-worst-at → tie.Start
-start c = c .before .before .before
+abbrev start : tie.After-whole-of → tie.Start
+start c = c .before .before .before .before
 
 -- what is read, before the first test and past it
 compared :
-    (c : tie.After-worst-at) →
-    Compared (start c .args .block .now) (start c .args .i) (start c .args .speed) (c .before .work-at .result) (c .worst-at .result)
+    (c : tie.After-whole-of) →
+    Compared (start c .args .block .now) (start c .args .i) (start c .args .speed) (c .before .before .rest-at .result) (c .whole-of .result)
 compared c = record {
-  above = start c .pre .2;
-  most = start c .pre .3;
-  work-in = c .before .work-at .ensures .0;
-  worst-in = c .worst-at .ensures .0;
+  rest-in = c .before .before .rest-at .ensures .0;
+  whole-in = c .whole-of .ensures ∙ ap whole (c .before .task-at .ensures .0);
 }
+
+abbrev read : tie.After-is-within → tie.After-whole-of
+read c = c .before .before .before .before .before
 
 measured :
-    (c : tie.After-remaining-at) →
-    let w : tie.After-worst-at = c .before .before in
-    Measured (start w .args .block .now) (start w .args .i) (start w .args .speed) (w .before .work-at .result) (w .worst-at .result) (c .remaining-at .result)
+    (c : tie.After-is-within) →
+    let w : tie.After-whole-of = read c in
+    Measured (start w .args .block .now) (start w .args .i) (start w .args .speed) (w .before .before .rest-at .result) (w .whole-of .result)
+    (c .before .remaining-at .result) (c .is-within .result)
 measured c = record {
-  compared = compared (c .before .before);
-  low = c .before .if1 .left;
-  remaining-in = c .remaining-at .ensures .0;
-  short = c .remaining-at .ensures .1;
+  compared = compared (read c);
+  low = c .before .before .if1 .left;
+  remaining-in = c .before .remaining-at .ensures .0;
+  found-is = c .is-within .ensures;
 }
 
-work-at-requires : tie.Need-work-at-requires
-work-at-requires c κs = search needs
-
-worst-at-requires : tie.Need-worst-at-requires
-worst-at-requires c κs = search needs
-
 returns : tie.Need-returns
-returns c = work-high (compared (c .before)) (c .if1 .taken)
+returns c = work-high (compared (c .before .before .before)) (c .if1 .taken)
+
+returns-2 : tie.Need-returns-2
+returns-2 c = remaining-high (measured (c .before)) (not-true _ (c .if2 .taken))
+
+returns-3 : tie.Need-returns-3
+returns-3 c = remaining-last (measured (c .before .before)) (not-false _ (c .before .if2 .left)) (c .is-enough .ensures)
+
+rest-at-requires : tie.Need-rest-at-requires
+rest-at-requires c κs = search needs
+
+task-at-requires : tie.Need-task-at-requires
+task-at-requires c κs = search needs
+
+whole-of-requires : tie.Need-whole-of-requires
+whole-of-requires c κs = search needs
 
 remaining-at-requires : tie.Need-remaining-at-requires
 remaining-at-requires c κs = search needs
 
-mul-most : tie.Need-mul-most
-mul-most c = omega (arith, most-fits (measured c))
+is-within-requires : tie.Need-is-within-requires
+is-within-requires c κs =
+    let s : tie.Start = start (c .before .before .before .before) in
+    (s .pre .2, s .pre .3, omega (arith, c .remaining-at .ensures .1))
 
-add-if2 : tie.Need-add-if2
-add-if2 c = search needs
-
-returns-2 : tie.Need-returns-2
-returns-2 c = remaining-high (measured (c .before)) (omega (arith, c .if2 .taken))
-
-returns-3 : tie.Need-returns-3
-returns-3 c = remaining-last (measured (c .before)) (c .if2 .left)
+is-enough-requires : tie.Need-is-enough-requires
+is-enough-requires c κs =
+    let s : tie.Start = start (read (c .before)) in
+    (s .pre .2, s .pre .3, omega (arith, c .before .before .remaining-at .ensures .1))
 
 pub entry-sound-spec : {M : Type 1} → statement M
 entry-sound-spec =
     tie.close
     (tie.spec
-    work-at-requires
-    worst-at-requires
+    rest-at-requires
+    task-at-requires
+    whole-of-requires
     returns
     remaining-at-requires
-    mul-most
-    add-if2
+    is-within-requires
     returns-2
+    is-enough-requires
     returns-3)

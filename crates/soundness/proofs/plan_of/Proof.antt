@@ -31,28 +31,23 @@ loop-holds c =
 turn-few : (c : tie.In-loop Inv-loop μ-loop) → c .before .loop .i < 16
 turn-few c = omega (arith, c .loop-test .taken, c .before .loop .inv .holds .few, c .before .loop .inv .same)
 
-period-at-requires : tie.Need-period-at-requires Inv-loop μ-loop
-period-at-requires c κs = (omega (arith, turn-few c), c .before .loop .inv .holds .size)
+task-at-requires : tie.Need-task-at-requires Inv-loop μ-loop
+task-at-requires c κs = (turn-few c, c .before .loop .inv .holds .size)
 
-worst-at-requires : tie.Need-worst-at-requires Inv-loop μ-loop
-worst-at-requires c κs = (turn-few (c .before), c .before .before .loop .inv .holds .size)
-
-mul-t10 : tie.Need-mul-t10 Inv-loop μ-loop
-mul-t10 c = omega (arith, turn-few (c .before .before))
+mul-t8 : tie.Need-mul-t8 Inv-loop μ-loop
+mul-t8 c = omega (arith, turn-few (c .before))
 
 element-set-from-p : tie.Need-element-set-from-p Inv-loop μ-loop
-element-set-from-p c = omega (arith, turn-few (c .before .before))
+element-set-from-p c = omega (arith, turn-few (c .before))
 
 add-i : tie.Need-add-i Inv-loop μ-loop
-add-i c = omega (arith, turn-few (c .before .before))
+add-i c = omega (arith, turn-few (c .before))
 
 loop-less : tie.Need-loop-less Inv-loop μ-loop
 loop-less c = omega arith
 
 loop-again : tie.Need-loop-again Inv-loop μ-loop
-loop-again c =
-    let t : tie.In-loop Inv-loop μ-loop = c .before .before in
-    copy-more (t .before .loop .inv) (t .loop-test .taken) (c .before .period-at .ensures .0) (c .worst-at .ensures .0)
+loop-again c = copy-more (c .before .before .loop .inv) (c .before .loop-test .taken) (c .task-at .ensures .0)
 
 returns : tie.Need-returns Inv-loop μ-loop
 returns c = copy-all (c .before .loop .inv) (c .loop-test .left)
@@ -65,9 +60,8 @@ plan-of-spec =
     μ-loop
     empty-plan-requires
     loop-holds
-    period-at-requires
-    worst-at-requires
-    mul-t10
+    task-at-requires
+    mul-t8
     element-set-from-p
     add-i
     loop-less

@@ -1,12 +1,14 @@
 -- `test_state` meets its contract, by each way out.
 -- Assumes nothing.
-use Prim.Native.Nat.{_≤_}
+use Prim.Native.Nat.{ℕ, _≤_}
 use mathlib.Core.Path.{_≡_, sym, _∙_}
 use borrow.Author.Needs.{needs}
 use borrow.Author.Tests.{not-true, not-false, leb-true}
+use mathlib.Core.List.{List}
+use Rattle.levels.specs.Code.{loaded}
 use Rattle.reclaiming.specs.StateBlock.{decode}
 use Rattle.reclaiming.specs.Questions.{largestClock}
-use Rattle.soundness.proofs.SoundLaws.{Judged, plan-few, clock-refused, plan-refused, plan-admitted}
+use Rattle.soundness.proofs.SoundLaws.{Judged, plan-few, clock-refused, clock-accepted, plan-refused, plan-admitted}
 use Rattle.soundness.proofs.test_state.Statement.{statement}
 use Rattle.soundness.proofs.test_state.Tie as tie
 
@@ -26,17 +28,20 @@ clock c = c .new .ensures ∙ c .before .clock-at .ensures
 in-range : (c : tie.Else1) → clocked c .new .result .ticks ≤ largestClock
 in-range c = leb-true (clocked c .new .result .ticks) largestClock (sym (c .before .in-range .ensures) ∙ not-false _ (c .if1 .left))
 
-judged : (c : tie.After-verdict-of) → Judged (start c .args .block .now) (start c .args .count) (c .before .plan-of .result) (c .verdict-of .result)
+abbrev table : tie.Start → List ℕ
+table c = loaded (c .args .speeds .now) (c .args .levels)
+
+judged : (c : tie.After-verdict-of) → Judged (table (start c)) (start c .args .block .now) (start c .args .count) (c .before .plan-of .result) (c .verdict-of .result)
 judged c = record {
-  holds = start c .pre .0;
-  same = start c .pre .1;
-  some = start c .pre .2;
+  holds = start c .pre .1;
+  same = start c .pre .2;
+  some = start c .pre .3;
   plan = c .before .plan-of .ensures;
   verdict = c .verdict-of .ensures;
 }
 
 clock-at-requires : tie.Need-clock-at-requires
-clock-at-requires c κs = c .before .pre .0 .size
+clock-at-requires c κs = c .before .pre .1 .size
 
 new-requires : tie.Need-new-requires
 new-requires c κs = search needs
@@ -49,14 +54,17 @@ not-sound-requires c κs = search needs
 
 returns : tie.Need-returns
 returns c =
-    clock-refused (begun (c .before .before .before) .args .block .now) (clock (c .before .before .before))
+    let s : tie.Start = begun (c .before .before .before) in
+    clock-refused (table s) (s .args .block .now) (clock (c .before .before .before))
     (sym (c .before .before .in-range .ensures) ∙ not-true _ (c .before .if1 .taken)) (c .not-sound .ensures)
 
 plan-of-requires : tie.Need-plan-of-requires
 plan-of-requires c κs = search needs
 
 verdict-of-requires : tie.Need-verdict-of-requires
-verdict-of-requires c κs = plan-few (begun (clocked (c .before)) .pre .0) (c .plan-of .ensures)
+verdict-of-requires c κs =
+    let s : tie.Start = begun (clocked (c .before)) in
+    (plan-few (s .pre .1) (c .plan-of .ensures), s .pre .0)
 
 enum-told : tie.Need-enum-told
 enum-told c = search needs
@@ -71,7 +79,7 @@ test-admitted-requires : tie.Need-test-admitted-requires
 test-admitted-requires c κs =
     let v : tie.After-verdict-of = c .before .before .before in
     let k = judged v in (
-      (k .holds, k .same, k .some),
+      (start v .pre .0, k .holds, k .same, k .some),
       ((clock (clocked (v .before .before)), in-range (v .before .before)), plan-admitted k (c .before .v .given .1)),
     )
 
@@ -79,7 +87,11 @@ returns-2 : tie.Need-returns-2
 returns-2 c = plan-refused (judged (c .before .before .before)) (c .before .enum-told .given .1) (c .not-sound2 .ensures)
 
 returns-3 : tie.Need-returns-3
-returns-3 c = search needs
+returns-3 c =
+    let v : tie.After-verdict-of = c .before .before .before .before in
+    let s : tie.Start = start v in
+    clock-accepted (table s) (s .args .block .now) (clock (clocked (v .before .before)))
+    (sym (v .before .before .before .in-range .ensures) ∙ not-false _ (v .before .before .if1 .left)) (c .test-admitted .ensures)
 
 pub test-state-spec : {M : Type 1} → statement M
 test-state-spec =
