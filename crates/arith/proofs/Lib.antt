@@ -4,6 +4,7 @@ pub mod Needs
 pub mod Divisors
 pub mod DigitLaws
 pub mod BitLaws
+pub mod FieldLaws
 pub mod Stores
 pub mod Sums
 pub mod QuestionLaws

@@ -12,8 +12,18 @@ ghost use lib.ListN.{length, take, drop};
 ghost use Rattle.plan.specs.Levels.{baseSpeeds};
 ghost use Rattle.arith.specs.Asking.{numberOf};
 ghost use Rattle.plan.specs.Answers.{verdictAnswer};
-ghost use Rattle.transcript.specs.Listing.{planCut, startedLines, listing};
+ghost use Rattle.transcript.specs.Listing.{cutEdition, planCut, startedLines, listing};
 ghost use Rattle.lines.specs.Stores.{Put};
+
+// The edition that an input is cut by: one that is not 1 is refused whatever is cut.
+fn cut_edition(edition: u32) -> u32
+    ensures { λ r. ⌜ r ≡ cutEdition edition ⌝ }
+{
+    if edition == 1 {
+        return edition;
+    }
+    1
+}
 
 // How many bytes of the input the reader is given: as many as the count needs, or all there are if fewer, or if the count is bad.
 pub fn plan_cut(input: &[u8]) -> usize
@@ -24,6 +34,7 @@ pub fn plan_cut(input: &[u8]) -> usize
     if n < 2 {
         return n;
     }
+    let edition = cut_edition(numeric::bits_at(input, 0, 4));
     let count = numeric::bits_at(input, 4, 5) as usize;
     if count < 1 {
         return n;
@@ -31,7 +42,7 @@ pub fn plan_cut(input: &[u8]) -> usize
     if count > 16 {
         return n;
     }
-    let wanted = plan_reading::block_length(count);
+    let wanted = plan_reading::block_length(edition, count);
     if wanted < n {
         return wanted;
     }

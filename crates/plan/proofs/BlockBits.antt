@@ -1,215 +1,202 @@
--- The plan block bit by bit: how long it is, what stands at each place, and what is read from each place.
+-- The plan block bit by bit, in any edition: how long it is, what stands at each place, and what is read from each place.
 -- Assumes nothing.
 use Prim.Native.Nat.{ℕ, zero, suc, _+_, _-_, _*_, _/_, _%_, _^_, _<_, _≤_}
 use mathlib.Core.Path.{_≡_, refl, sym, subst, ap, _∙_}
 use mathlib.Core.List.{List, [], _∷_, _++_}
-use native.Mathlib.Nat.{not-suc-le-zero}
-use native.Mathlib.Decide.{decLe}
+use native.Mathlib.Nat.{not-suc-le-zero, mul-le-mul, mul-le-mul-left, mul-suc}
 use native.Mathlib.Omega.{arith}
 use lib.Dec.{eqb}
 use lib.ListN.{length, getD, drop, length-append, length-drop, List·getD-eq-default}
-use lib.Seq.{drop-drop, getD-drop}
+use lib.Seq.{drop-at, drop-drop, getD-drop}
 use Rattle.arith.specs.Choice.{every}
 use Rattle.arith.specs.Need.{need}
 use Rattle.arith.specs.Digits.{number, digits}
-use Rattle.arith.specs.Bits.{unpacked}
+use Rattle.arith.specs.Bits.{fieldsBits, unpacked}
 use Rattle.arith.proofs.ListLaws.{getD-early, getD-later}
-use Rattle.arith.proofs.DigitLaws.{digit-at}
 use Rattle.arith.proofs.BitLaws.{every-zero, length-unpacked, length-packed, packed-at}
+use Rattle.arith.proofs.FieldLaws.{Below, below-append, digits-below, field-bit, field-past, length-fields, fields-below}
 use Rattle.plan.specs.declared.Task.{Task}
-use Rattle.plan.specs.Blocks.{taskBits, tasksBits, planBits, planBlock, bitCount, blockLength, countIn, taskFrom, tasksFrom, closingBits, noTask}
+use Rattle.plan.specs.Blocks.{taskWidths, taskNumbers, taskWidth, taskBits, tasksBits, planBits, editionOf, planBlock, bitCount, blockLength, editionIn, countIn, taskFrom, tasksFrom, closingBits, noTask}
 
--- how many bits there are
-pub length-taskBits : (t : Task) → length (taskBits t) ≡ 36
-length-taskBits t = refl
+module _ (edition : ℕ) where
+  -- how wide a task is: it has its period and its worst case, and sixteen fit 1,024 bits with their header
+  pub width-least : 36 ≤ taskWidth edition
+  width-least = omega arith
 
-pub length-tasksBits : (ts : List Task) → length (tasksBits ts) ≡ 36 * length ts
-length-tasksBits [] = refl
-length-tasksBits (t ∷ ts) =
-    length-append (taskBits t) (tasksBits ts) ∙ omega (arith, length-taskBits t, length-tasksBits ts)
+  pub width-most : taskWidth edition ≤ 62
+  width-most = omega arith
 
-pub length-planBits : (ts : List Task) → length (planBits ts) ≡ bitCount (length ts)
-length-planBits ts = omega (arith, length-tasksBits ts)
+  -- a task more
+  pub bitCount-more : (i : ℕ) → bitCount edition (i + 1) ≡ bitCount edition i + taskWidth edition
+  bitCount-more i = omega (arith, mul-suc (taskWidth edition) i)
 
--- the bits from task i on
-pub tasksBits-from :
-    (ts : List Task) (i : ℕ) →
-    i < length ts →
-    drop (36 * i) (tasksBits ts) ≡ taskBits (getD ts i noTask) ++ tasksBits (drop (suc i) ts)
-tasksBits-from [] i h = absurd (not-suc-le-zero h)
-tasksBits-from (t ∷ ts) zero h = refl
-tasksBits-from (t ∷ ts) (suc i) h =
-    let e : 36 * suc i ≡ 36 + 36 * i = omega arith in
-    ap (λ (n : ℕ). drop n (tasksBits (t ∷ ts))) e
-    ∙ sym (drop-drop (36 * i) 36 (tasksBits (t ∷ ts)))
-    ∙ tasksBits-from ts i (omega arith)
+  pub bitCount-mono : (m n : ℕ) → m ≤ n → bitCount edition m ≤ bitCount edition n
+  bitCount-mono m n h = omega (arith, mul-le-mul-left (taskWidth edition) h)
 
-pub planBits-from :
-    (ts : List Task) (i : ℕ) →
-    i < length ts →
-    drop (9 + 36 * i) (planBits ts) ≡ taskBits (getD ts i noTask) ++ tasksBits (drop (suc i) ts)
-planBits-from ts i h = sym (drop-drop (36 * i) 9 (planBits ts)) ∙ tasksBits-from ts i h
+  pub width-times : (n : ℕ) {w : ℕ} → w ≡ taskWidth edition → n ≤ 16 → w * n ≤ 992
+  width-times n e h = subst (λ (k : ℕ). k * n ≤ 62 * 16) (sym e) (mul-le-mul width-most h)
 
--- the bit at a place: of the edition, of the count, of a task's period and worst case, and past the end
-pub planBits-edition : (ts : List Task) (k : ℕ) → k < 4 → getD (planBits ts) k 0 ≡ 1 / 2 ^ (3 - k) % 2
-planBits-edition ts k h =
-    let e : 4 - suc k ≡ 3 - k = omega arith in
-    getD-early (digits 2 4 1) (digits 2 5 (length ts) ++ tasksBits ts) 4 k 0 refl h
-    ∙ digit-at 2 4 1 k h
-    ∙ ap (λ (j : ℕ). 1 / 2 ^ j % 2) e
+  pub bitCount-most : (n : ℕ) → n ≤ 16 → bitCount edition n ≤ 1001
+  bitCount-most n h = omega (arith, width-times n refl h)
 
-pub planBits-count :
-    (ts : List Task) (k : ℕ) → 4 ≤ k → k < 9 → getD (planBits ts) k 0 ≡ length ts / 2 ^ (8 - k) % 2
-planBits-count ts k low high =
-    let e : 5 - suc (k - 4) ≡ 8 - k = omega arith in
-    getD-later (digits 2 4 1) (digits 2 5 (length ts) ++ tasksBits ts) 4 k 0 refl low
-    ∙ getD-early (digits 2 5 (length ts)) (tasksBits ts) 5 (k - 4) 0 refl (omega arith)
-    ∙ digit-at 2 5 (length ts) (k - 4) (omega arith)
-    ∙ ap (λ (j : ℕ). length ts / 2 ^ j % 2) e
+  -- a task that stands within so many bits has room for its period and its worst case, at a place that is read
+  pub bitCount-room : (i bits : ℕ) → i < 16 → bitCount edition (i + 1) ≤ bits → (bitCount edition i ≤ 1001) × (bitCount edition i + 36 ≤ bits)
+  bitCount-room i bits h l =
+      let more : bitCount edition (i + 1) ≡ bitCount edition i + taskWidth edition = bitCount-more i in
+      (omega (arith, bitCount-most i (omega arith)), omega (arith, width-least))
 
-pub taskBits-period : (t : Task) (rest : List ℕ) (r : ℕ) → r < 16 → getD (taskBits t ++ rest) r 0 ≡ t .period / 2 ^ (15 - r) % 2
-taskBits-period t rest r h =
-    let e : 16 - suc r ≡ 15 - r = omega arith in
-    getD-early (taskBits t) rest 36 r 0 refl (omega arith)
-    ∙ getD-early (digits 2 16 (t .period)) (digits 2 20 (t .worst)) 16 r 0 refl h
-    ∙ digit-at 2 16 (t .period) r h
-    ∙ ap (λ (j : ℕ). t .period / 2 ^ j % 2) e
+  -- how many bits there are
+  pub length-taskBits : (t : Task) → length (taskBits edition t) ≡ taskWidth edition
+  length-taskBits t = length-fields (taskWidths edition) (taskNumbers t)
 
-pub taskBits-worst :
-    (t : Task) (rest : List ℕ) (r : ℕ) → 16 ≤ r → r < 36 → getD (taskBits t ++ rest) r 0 ≡ t .worst / 2 ^ (35 - r) % 2
-taskBits-worst t rest r low high =
-    let e : 20 - suc (r - 16) ≡ 35 - r = omega arith in
-    getD-early (taskBits t) rest 36 r 0 refl high
-    ∙ getD-later (digits 2 16 (t .period)) (digits 2 20 (t .worst)) 16 r 0 refl low
-    ∙ digit-at 2 20 (t .worst) (r - 16) (omega arith)
-    ∙ ap (λ (j : ℕ). t .worst / 2 ^ j % 2) e
+  pub length-tasksBits : (ts : List Task) → length (tasksBits edition ts) ≡ taskWidth edition * length ts
+  length-tasksBits [] = omega arith
+  length-tasksBits (t ∷ ts) =
+      length-append (taskBits edition t) (tasksBits edition ts)
+      ∙ omega (arith, length-taskBits t, length-tasksBits ts, mul-suc (taskWidth edition) (length ts))
 
--- bit r of task i
-planBits-task :
-    (ts : List Task) (k i r : ℕ) →
-    k ≡ 9 + 36 * i + r →
-    i < length ts →
-    getD (planBits ts) k 0 ≡ getD (taskBits (getD ts i noTask) ++ tasksBits (drop (suc i) ts)) r 0
-planBits-task ts k i r e h =
-    ap (λ (j : ℕ). getD (planBits ts) j 0) e
-    ∙ sym (getD-drop (9 + 36 * i) (planBits ts) r 0)
-    ∙ ap (λ (l : List ℕ). getD l r 0) (planBits-from ts i h)
+  pub length-planBits : (ts : List Task) → length (planBits edition ts) ≡ bitCount edition (length ts)
+  length-planBits ts = omega (arith, length-tasksBits ts)
 
-pub planBits-period :
-    (ts : List Task) (k : ℕ) →
-    9 ≤ k →
-    (k - 9) / 36 < length ts →
-    (k - 9) % 36 < 16 →
-    getD (planBits ts) k 0 ≡ getD ts ((k - 9) / 36) noTask .period / 2 ^ (15 - (k - 9) % 36) % 2
-planBits-period ts k low h l =
-    let i : ℕ = (k - 9) / 36 in
-    let r : ℕ = (k - 9) % 36 in
-    planBits-task ts k i r (omega arith) h
-    ∙ taskBits-period (getD ts i noTask) (tasksBits (drop (suc i) ts)) r l
+  -- every one is 0 or 1
+  tasksBits-below : (ts : List Task) → Below (tasksBits edition ts)
+  tasksBits-below [] = λ k. omega arith
+  tasksBits-below (t ∷ ts) =
+      below-append (taskBits edition t) (tasksBits edition ts) (fields-below (taskWidths edition) (taskNumbers t)) (tasksBits-below ts)
 
-pub planBits-worst :
-    (ts : List Task) (k : ℕ) →
-    9 ≤ k →
-    (k - 9) / 36 < length ts →
-    16 ≤ (k - 9) % 36 →
-    getD (planBits ts) k 0 ≡ getD ts ((k - 9) / 36) noTask .worst / 2 ^ (35 - (k - 9) % 36) % 2
-planBits-worst ts k low h l =
-    let i : ℕ = (k - 9) / 36 in
-    let r : ℕ = (k - 9) % 36 in
-    planBits-task ts k i r (omega arith) h
-    ∙ taskBits-worst (getD ts i noTask) (tasksBits (drop (suc i) ts)) r l (omega arith)
+  pub planBits-below : (ts : List Task) → Below (planBits edition ts)
+  planBits-below ts =
+      below-append (digits 2 4 edition) (digits 2 5 (length ts) ++ tasksBits edition ts) (digits-below 4 edition)
+      (below-append (digits 2 5 (length ts)) (tasksBits edition ts) (digits-below 5 (length ts)) (tasksBits-below ts))
 
-pub planBits-past : (ts : List Task) (k : ℕ) → 9 ≤ k → length ts ≤ (k - 9) / 36 → getD (planBits ts) k 0 ≡ 0
-planBits-past ts k low h = List·getD-eq-default (planBits ts) 0 {n = k} (omega (arith, length-planBits ts))
+  -- the bits from task i on
+  pub tasksBits-from :
+      (ts : List Task) (i : ℕ) →
+      i < length ts →
+      drop (taskWidth edition * i) (tasksBits edition ts) ≡ taskBits edition (getD ts i noTask) ++ tasksBits edition (drop (suc i) ts)
+  tasksBits-from [] i h = absurd (not-suc-le-zero h)
+  tasksBits-from (t ∷ ts) zero h =
+      let e : taskWidth edition * 0 ≡ 0 = omega arith in
+      ap (λ (n : ℕ). drop n (tasksBits edition (t ∷ ts))) e
+  tasksBits-from (t ∷ ts) (suc i) h =
+      let w : ℕ = taskWidth edition in
+      let e : w * suc i ≡ w + w * i = omega (arith, mul-suc w i) in
+      ap (λ (n : ℕ). drop n (tasksBits edition (t ∷ ts))) e
+      ∙ sym (drop-drop (w * i) w (tasksBits edition (t ∷ ts)))
+      ∙ ap (λ (l : List ℕ). drop (w * i) l) (drop-at (taskBits edition t) (tasksBits edition ts) w (length-taskBits t))
+      ∙ tasksBits-from ts i (omega arith)
 
--- every one is 0 or 1
-pub planBits-below : (ts : List Task) (k : ℕ) → getD (planBits ts) k 0 < 2
-planBits-below ts k =
-    elim (decLe k 3) [
-      | yes a ↦ omega (arith, planBits-edition ts k (omega arith))
-      | no a ↦ elim (decLe k 8) [
-        | yes b ↦ omega (arith, planBits-count ts k (omega arith) (omega arith))
-        | no b ↦ elim (decLe (length ts) ((k - 9) / 36)) [
-          | yes c ↦ omega (arith, planBits-past ts k (omega arith) c)
-          | no c ↦ elim (decLe ((k - 9) % 36) 15) [
-            | yes d ↦ omega (arith, planBits-period ts k (omega arith) (omega arith) (omega arith))
-            | no d ↦ omega (arith, planBits-worst ts k (omega arith) (omega arith) (omega arith))
-          ]
-        ]
-      ]
-    ]
+  pub planBits-from :
+      (ts : List Task) (i : ℕ) →
+      i < length ts →
+      drop (bitCount edition i) (planBits edition ts) ≡ taskBits edition (getD ts i noTask) ++ tasksBits edition (drop (suc i) ts)
+  planBits-from ts i h = sym (drop-drop (taskWidth edition * i) 9 (planBits edition ts)) ∙ tasksBits-from ts i h
 
--- the tasks that bits are read as
-pub length-tasksFrom : (n : ℕ) (bits : List ℕ) → length (tasksFrom n bits) ≡ n
-length-tasksFrom zero bits = refl
-length-tasksFrom (suc n) bits = ap suc (length-tasksFrom n (drop 36 bits))
+  -- the bit at a place: of the edition, of the count, of a task's period and worst case, and past the end
+  module _ (ts : List Task) (k : ℕ) where
+    pub planBits-edition : k < 4 → getD (planBits edition ts) k 0 ≡ edition / 2 ^ (3 - k) % 2
+    planBits-edition h = field-bit 4 edition (digits 2 5 (length ts) ++ tasksBits edition ts) k h (omega arith)
 
-pub tasksFrom-at :
-    (n : ℕ) (bits : List ℕ) (i : ℕ) → i < n → getD (tasksFrom n bits) i noTask ≡ taskFrom (drop (36 * i) bits)
-tasksFrom-at zero bits i h = absurd (not-suc-le-zero h)
-tasksFrom-at (suc n) bits zero h = refl
-tasksFrom-at (suc n) bits (suc i) h =
-    let e : 36 + 36 * i ≡ 36 * suc i = omega arith in
-    tasksFrom-at n (drop 36 bits) i (omega arith)
-    ∙ ap (λ (l : List ℕ). taskFrom l) (drop-drop (36 * i) 36 bits ∙ ap (λ (k : ℕ). drop k bits) e)
+    pub planBits-count : 4 ≤ k → k < 9 → getD (planBits edition ts) k 0 ≡ length ts / 2 ^ (8 - k) % 2
+    planBits-count low high =
+        field-past 4 edition (digits 2 5 (length ts) ++ tasksBits edition ts) k low
+        ∙ field-bit 5 (length ts) (tasksBits edition ts) (k - 4) (omega arith) (omega arith)
 
--- the same, as a task's two numbers are read
-pub tasksFrom-read :
-    (n : ℕ) (bits : List ℕ) (i : ℕ) →
-    i < n →
-    getD (tasksFrom n (drop 9 bits)) i noTask
-    ≡ record { period = number 2 16 (drop (9 + 36 * i) bits); worst = number 2 20 (drop (25 + 36 * i) bits) }
-tasksFrom-read n bits i h =
-    let e : 9 + 36 * i + 16 ≡ 25 + 36 * i = omega arith in
-    let p : drop (36 * i) (drop 9 bits) ≡ drop (9 + 36 * i) bits = drop-drop (36 * i) 9 bits in
-    let w : drop 16 (drop (36 * i) (drop 9 bits)) ≡ drop (25 + 36 * i) bits =
-    ap (λ (l : List ℕ). drop 16 l) p ∙ drop-drop 16 (9 + 36 * i) bits ∙ ap (λ (k : ℕ). drop k bits) e in
-    tasksFrom-at n (drop 9 bits) i h ∙ (λ j. record { period = number 2 16 (p j); worst = number 2 20 (w j) })
+    pub planBits-past : bitCount edition (length ts) ≤ k → getD (planBits edition ts) k 0 ≡ 0
+    planBits-past h = List·getD-eq-default (planBits edition ts) 0 {n = k} (omega (arith, length-planBits ts))
 
--- how many bytes a block has: enough for its bits, with less than a byte to spare
-pub blockLength-is : (n : ℕ) → blockLength n ≡ (16 + 36 * n) / 8
-unfolding need
-blockLength-is n = omega arith
+    -- bit r of task i
+    module _ (i r : ℕ) (place : k ≡ bitCount edition i + r) (h : i < length ts) where
+      planBits-task : r < taskWidth edition → getD (planBits edition ts) k 0 ≡ getD (taskBits edition (getD ts i noTask)) r 0
+      planBits-task l =
+          let t : Task = getD ts i noTask in
+          ap (λ (j : ℕ). getD (planBits edition ts) j 0) place
+          ∙ sym (getD-drop (bitCount edition i) (planBits edition ts) r 0)
+          ∙ ap (λ (x : List ℕ). getD x r 0) (planBits-from ts i h)
+          ∙ getD-early (taskBits edition t) (tasksBits edition (drop (suc i) ts)) (taskWidth edition) r 0 (length-taskBits t) l
 
-pub blockLength-one : blockLength 1 ≡ 6
+      pub planBits-period : r < 16 → getD (planBits edition ts) k 0 ≡ getD ts i noTask .period / 2 ^ (15 - r) % 2
+      planBits-period l =
+          let t : Task = getD ts i noTask in
+          planBits-task (omega (arith, width-least))
+          ∙ field-bit 16 (t .period) (fieldsBits (drop 1 (taskWidths edition)) (drop 1 (taskNumbers t))) r l (omega arith)
+
+      pub planBits-worst : 16 ≤ r → r < 36 → getD (planBits edition ts) k 0 ≡ getD ts i noTask .worst / 2 ^ (35 - r) % 2
+      planBits-worst low high =
+          let t : Task = getD ts i noTask in
+          planBits-task (omega (arith, width-least))
+          ∙ field-past 16 (t .period) (fieldsBits (drop 1 (taskWidths edition)) (drop 1 (taskNumbers t))) r low
+          ∙ field-bit 20 (t .worst) (fieldsBits (drop 2 (taskWidths edition)) (drop 2 (taskNumbers t))) (r - 16) (omega arith) (omega arith)
+
+  -- the tasks that bits are read as
+  pub length-tasksFrom : (n : ℕ) (bits : List ℕ) → length (tasksFrom edition n bits) ≡ n
+  length-tasksFrom zero bits = refl
+  length-tasksFrom (suc n) bits = ap suc (length-tasksFrom n (drop (taskWidth edition) bits))
+
+  pub tasksFrom-at :
+      (n : ℕ) (bits : List ℕ) (i : ℕ) →
+      i < n →
+      getD (tasksFrom edition n bits) i noTask ≡ taskFrom edition (drop (taskWidth edition * i) bits)
+  tasksFrom-at zero bits i h = absurd (not-suc-le-zero h)
+  tasksFrom-at (suc n) bits zero h =
+      let e : 0 ≡ taskWidth edition * 0 = omega arith in
+      ap (λ (k : ℕ). taskFrom edition (drop k bits)) e
+  tasksFrom-at (suc n) bits (suc i) h =
+      let w : ℕ = taskWidth edition in
+      let e : w + w * i ≡ w * suc i = omega (arith, mul-suc w i) in
+      tasksFrom-at n (drop w bits) i (omega arith)
+      ∙ ap (λ (l : List ℕ). taskFrom edition l) (drop-drop (w * i) w bits ∙ ap (λ (k : ℕ). drop k bits) e)
+
+  -- how many bytes a block has: enough for its bits, with less than a byte to spare
+  module _ (n : ℕ) where
+    pub blockLength-is : blockLength edition n ≡ (16 + taskWidth edition * n) / 8
+    unfolding need
+    blockLength-is = omega arith
+
+    pub blockLength-most : n ≤ 16 → blockLength edition n ≤ 126
+    blockLength-most h = omega (arith, blockLength-is, bitCount-most n h)
+
+    pub blockLength-covers : bitCount edition n ≤ 8 * blockLength edition n
+    blockLength-covers = omega (arith, blockLength-is)
+
+    pub blockLength-tight : 8 * blockLength edition n < bitCount edition n + 8
+    blockLength-tight = omega (arith, blockLength-is)
+
+    -- with a task or more, two bytes and more
+    pub blockLength-least : 1 ≤ n → 2 ≤ blockLength edition n
+    blockLength-least h = omega (arith, blockLength-covers, mul-le-mul width-least h)
+
+-- 01: "6 bytes for one task, 74 for sixteen"
+pub blockLength-one : blockLength 1 1 ≡ 6
 unfolding need
 blockLength-one = refl
 
-pub blockLength-sixteen : blockLength 16 ≡ 74
+pub blockLength-sixteen : blockLength 1 16 ≡ 74
 unfolding need
 blockLength-sixteen = refl
 
-pub blockLength-most : (n : ℕ) → n ≤ 16 → blockLength n ≤ 74
-blockLength-most n h = omega (arith, blockLength-is n)
+module _ (ts : List Task) where
+  pub length-planBlock : length (planBlock ts) ≡ blockLength (editionOf ts) (length ts)
+  length-planBlock =
+      length-packed (need 8 (length (planBits (editionOf ts) ts))) (planBits (editionOf ts) ts)
+      ∙ ap (λ (n : ℕ). need 8 n) (length-planBits (editionOf ts) ts)
 
-pub blockLength-covers : (n : ℕ) → 9 + 36 * n ≤ 8 * blockLength n
-blockLength-covers n = omega (arith, blockLength-is n)
-
-pub blockLength-tight : (n : ℕ) → 8 * blockLength n < 9 + 36 * n + 8
-blockLength-tight n = omega (arith, blockLength-is n)
-
-pub length-planBlock : (ts : List Task) → length (planBlock ts) ≡ blockLength (length ts)
-length-planBlock ts =
-    length-packed (need 8 (length (planBits ts))) (planBits ts) ∙ ap (λ (n : ℕ). need 8 n) (length-planBits ts)
-
--- byte j is made of the eight bits from 8 * j on
-pub planBlock-at :
-    (ts : List Task) (j : ℕ) →
-    j < blockLength (length ts) →
-    getD (planBlock ts) j 0 ≡ number 2 8 (drop (8 * j) (planBits ts))
-planBlock-at ts j h =
-    packed-at (need 8 (length (planBits ts))) (planBits ts) j
-    (subst (λ (n : ℕ). j < need 8 n) (sym (length-planBits ts)) h)
+  -- byte j is made of the eight bits from 8 * j on
+  pub planBlock-at :
+      (j : ℕ) →
+      j < blockLength (editionOf ts) (length ts) →
+      getD (planBlock ts) j 0 ≡ number 2 8 (drop (8 * j) (planBits (editionOf ts) ts))
+  planBlock-at j h =
+      packed-at (need 8 (length (planBits (editionOf ts) ts))) (planBits (editionOf ts) ts) j
+      (subst (λ (n : ℕ). j < need 8 n) (sym (length-planBits (editionOf ts) ts)) h)
 
 -- the closing bits are zero exactly if the number that they are is
-pub length-closingBits : (block : List ℕ) → length (closingBits block) ≡ 8 * length block - bitCount (countIn block)
-length-closingBits block =
-    length-drop (bitCount (countIn block)) (unpacked block) ∙ ap (λ (n : ℕ). n - bitCount (countIn block)) (length-unpacked block)
+module _ (block : List ℕ) where
+  abbrev pub used : ℕ
+  used = bitCount (editionIn block) (countIn block)
 
-pub closing-zero :
-    (block : List ℕ) →
-    every (eqb 0) (closingBits block)
-    ≡ eqb (number 2 (8 * length block - bitCount (countIn block)) (closingBits block)) 0
-closing-zero block =
-    every-zero (closingBits block)
-    ∙ ap (λ (m : ℕ). eqb (number 2 m (closingBits block)) 0) (length-closingBits block)
+  length-closingBits : length (closingBits block) ≡ 8 * length block - used
+  length-closingBits = length-drop used (unpacked block) ∙ ap (λ (n : ℕ). n - used) (length-unpacked block)
+
+  pub closing-zero : every (eqb 0) (closingBits block) ≡ eqb (number 2 (8 * length block - used) (closingBits block)) 0
+  closing-zero = every-zero (closingBits block) ∙ ap (λ (m : ℕ). eqb (number 2 m (closingBits block)) 0) length-closingBits

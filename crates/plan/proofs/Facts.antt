@@ -116,7 +116,7 @@ pub record FineBlock (speeds block : List ℕ) : Type 0 where
   pub edition : editionIn block ≡ 1
   pub count-low : 1 ≤ countIn block
   pub count-high : countIn block ≤ 16
-  pub size : length block ≡ blockLength (countIn block)
+  pub size : length block ≡ blockLength (editionIn block) (countIn block)
   pub closing : every (eqb 0) (closingBits block) ≡ true
   pub tasks : FineTasks speeds (tasksIn block)
 
@@ -128,7 +128,7 @@ fine-block speeds block h =
       edition = eqb-true (editionIn block) 1 (told 2);
       count-low = within-low 1 16 (countIn block) (told 3);
       count-high = within-high 1 16 (countIn block) (told 3);
-      size = eqb-true (length block) (blockLength (countIn block)) (told 4);
+      size = eqb-true (length block) (blockLength (editionIn block) (countIn block)) (told 4);
       closing = told 5;
       tasks = tasks-fine speeds (tasksIn block) (told 6) (told 7) (told 8);
     }
@@ -142,17 +142,21 @@ block-yes speeds block f =
         (
           within-true 1 16 (countIn block) (f .count-low) (f .count-high),
           (
-            eq-eqb (length block) (blockLength (countIn block)) (f .size),
+            eq-eqb (length block) (blockLength (editionIn block) (countIn block)) (f .size),
             (f .closing, fine-yes speeds (tasksIn block) (f .tasks)),
           ),
         ),
       ),
     )
 
--- its tasks are a list that judging accepts
+-- how many tasks it has
+pub length-tasksIn : (block : List ℕ) → length (tasksIn block) ≡ countIn block
+length-tasksIn block = length-tasksFrom (editionIn block) (countIn block) (drop 9 (unpacked block))
+
+-- they are a list that judging accepts
 pub block-list : (speeds block : List ℕ) → FineBlock speeds block → FineList speeds (length (tasksIn block)) (tasksIn block)
 block-list speeds block f =
-    let n : length (tasksIn block) ≡ countIn block = length-tasksFrom (countIn block) (drop 9 (unpacked block)) in
+    let n : length (tasksIn block) ≡ countIn block = length-tasksIn block in
     record { count-low = omega (arith, f .count-low); count-high = omega (arith, f .count-high); tasks = f .tasks }
 
 -- how many tasks a plan has

@@ -1,73 +1,131 @@
--- Demand 2: a written plan reads back as the same plan, and an accepted block written again has the same bytes.
+-- Demand 2: a written plan reads back as the same plan, and an accepted block written again has the same bytes. One proof for every
+-- edition: of an edition it uses that a task's numbers fit its fields and that its fields are the whole task.
 -- Assumes nothing.
-use Prim.Native.Nat.{ℕ, zero, suc, _+_, _-_, _≤_}
+use Prim.Native.Nat.{ℕ, zero, suc, _+_, _-_, _*_, _≤_}
 use mathlib.Core.Path.{_≡_, refl, sym, subst, ap, ap₂, _∙_}
 use mathlib.Core.Bool.{true, true≢false}
-use mathlib.Core.List.{List}
+use mathlib.Core.List.{List, [], _∷_, _++_}
+use native.Mathlib.Nat.{mul-suc}
+use native.Mathlib.Decide.{decLe}
 use native.Mathlib.Omega.{arith}
 use borrow.Author.Tests.{eq-eqb}
 use lib.Dec.{eqb}
-use lib.ListN.{length, getD, drop, replicate}
-use lib.Seq.{ext-getD, getD-drop, length-take-le, take-append-seam}
+use lib.ListN.{length, getD, take, drop, replicate, length-drop, length-take, List·getD-eq-default}
+use lib.Seq.{getD-drop, getD-take, drop-at, drop-drop, take-add, length-take-le, take-append-seam}
 use Rattle.arith.specs.Choice.{every}
 use Rattle.arith.specs.Need.{need}
-use Rattle.arith.specs.Bits.{unpacked, packedTo}
+use Rattle.arith.specs.Digits.{digits}
+use Rattle.arith.specs.Bits.{unpacked, packedTo, packed}
 use Rattle.arith.specs.Asking.{isAccepted, firstNo}
+use Rattle.arith.proofs.Tests.{both-left, both-right}
 use Rattle.arith.proofs.ListLaws.{at-every, zero-at}
 use Rattle.arith.proofs.Needs.{need-covers}
-use Rattle.arith.proofs.BitLaws.{unpacked-packed, unpacked-below, packed-same, packed-unpacked}
+use Rattle.arith.proofs.DigitLaws.{number-digits, number-drop-same, digits-number}
+use Rattle.arith.proofs.BitLaws.{length-unpacked, unpacked-packed, unpacked-below, packed-same, packed-unpacked}
+use Rattle.arith.proofs.FieldLaws.{Same, Below, same-drop, below-drop, fields-read, fields-bits, fields-same}
 use Rattle.plan.specs.declared.Task.{Task}
 use Rattle.plan.specs.declared.Plan.{Plan}
-use Rattle.plan.specs.Blocks.{planBits, planBlock, bitCount, blockLength, countIn, tasksIn, closingBits, tasksOf, planOf, noTask}
+use Rattle.plan.specs.Blocks.{taskWidths, taskNumbers, taskOf, taskWidth, taskBits, tasksBits, planBits, editionOf, planBlock, bitCount, blockLength}
+use Rattle.plan.specs.Blocks.{editionIn, countIn, taskFrom, tasksFrom, tasksIn, closingBits, tasksOf, planOf, noTask}
 use Rattle.plan.specs.Questions.{inRange, judging, reading}
 use Rattle.plan.specs.Answers.{verdictAnswer, answered, judgedBy}
 use Rattle.plan.specs.Laws.{Bytes, WrittenReadsBack, AcceptedWritesBack}
-use Rattle.plan.proofs.BlockBits.{length-planBits, planBits-below, length-planBlock, blockLength-covers, length-tasksFrom, tasksFrom-read}
-use Rattle.plan.proofs.Facts.{FineTasks, FineList, FineBlock, fine-list, fine-block, block-yes, list-yes, block-list}
-use Rattle.plan.proofs.Fields.{Holds, holds-same, planBits-hold, holds-bits}
+use Rattle.plan.proofs.BlockBits.{length-taskBits, length-planBits, planBits-below, planBits-past, length-planBlock, blockLength-covers, blockLength-least, used}
+use Rattle.plan.proofs.Facts.{InRange, in-range, FineTasks, FineList, FineBlock, fine-list, fine-block, block-yes, list-yes, block-list, length-tasksIn}
 
--- the bits of a block written are the plan's
-pub unpacked-planBlock : (ts : List Task) (k : ℕ) → getD (unpacked (planBlock ts)) k 0 ≡ getD (planBits ts) k 0
-unpacked-planBlock ts k =
-    let n : ℕ = length (planBits ts) in
-    unpacked-packed (need 8 n) (planBits ts) (omega (arith, need-covers 8 n (omega arith))) (planBits-below ts) k
+-- a task's numbers fit their fields, so that they are read back
+task-back : (edition : ℕ) (t : Task) (rest : List ℕ) → InRange t → taskFrom edition (taskBits edition t ++ rest) ≡ t
+task-back edition t rest r =
+    ap taskOf (fields-read (taskWidths edition) (taskNumbers t) rest (omega arith) (omega arith, (omega arith, tt)))
 
--- a block that holds tasks is read as these
-pub tasksIn-held : (block : List ℕ) (ts : List Task) → Holds (unpacked block) ts → tasksIn block ≡ ts
-tasksIn-held block ts p =
-    let u : List ℕ = unpacked block in
-    let len : length (tasksIn block) ≡ length ts = length-tasksFrom (countIn block) (drop 9 u) ∙ p .count in
-    ext-getD noTask (tasksIn block) ts len
-    (λ i l. tasksFrom-read (countIn block) u i (omega (arith, p .count))
-    ∙ (λ j. record { period = p .period i (omega arith) j; worst = p .worst i (omega arith) j }))
+pub tasks-back : (edition : ℕ) (ts : List Task) → every inRange ts ≡ true → tasksFrom edition (length ts) (tasksBits edition ts) ≡ ts
+tasks-back edition [] h = refl
+tasks-back edition (t ∷ ts) h =
+    ap₂ (λ (x : Task) (l : List Task). x ∷ l)
+    (task-back edition t (tasksBits edition ts) (in-range t (both-left (inRange t) (every inRange ts) h)))
+    (ap (λ (b : List ℕ). tasksFrom edition (length ts) b)
+    (drop-at (taskBits edition t) (tasksBits edition ts) (taskWidth edition) (length-taskBits edition t))
+    ∙ tasks-back edition ts (both-right (inRange t) (every inRange ts) h))
 
--- the closing bits of a block that holds tasks are zero
-pub closing-held : (block : List ℕ) (ts : List Task) → Holds (unpacked block) ts → every (eqb 0) (closingBits block) ≡ true
-closing-held block ts p =
-    at-every (eqb 0) (closingBits block) 0
-    (λ k l. eq-eqb 0 (getD (closingBits block) k 0)
-    (sym (getD-drop (bitCount (countIn block)) (unpacked block) k 0 ∙ p .rest (bitCount (countIn block) + k) (omega (arith, p .count)))))
+-- and the bits that a task is read from are its bits
+task-again : (edition : ℕ) (bits : List ℕ) → taskWidth edition ≤ length bits → Below bits → taskBits edition (taskFrom edition bits) ≡ take (taskWidth edition) bits
+task-again edition bits l h = fields-bits (taskWidths edition) bits l h
+
+pub tasks-again :
+    (edition n : ℕ) (bits : List ℕ) →
+    taskWidth edition * n ≤ length bits →
+    Below bits →
+    tasksBits edition (tasksFrom edition n bits) ≡ take (taskWidth edition * n) bits
+tasks-again edition zero bits l h =
+    let e : 0 ≡ taskWidth edition * 0 = omega arith in
+    ap (λ (k : ℕ). take k bits) e
+tasks-again edition (suc n) bits l h =
+    let w : ℕ = taskWidth edition in
+    let e : w + w * n ≡ w * suc n = omega (arith, mul-suc w n) in
+    ap₂ (λ (x y : List ℕ). x ++ y) (task-again edition bits (omega arith) h)
+    (tasks-again edition n (drop w bits) (simp length-drop (omega arith)) (below-drop w bits h))
+    ∙ sym (take-add w (w * n) bits)
+    ∙ ap (λ (k : ℕ). take k bits) e
+
+-- reading looks only at the bits
+tasks-same : (edition n : ℕ) (xs ys : List ℕ) → Same xs ys → tasksFrom edition n xs ≡ tasksFrom edition n ys
+tasks-same edition zero xs ys h = refl
+tasks-same edition (suc n) xs ys h =
+    let w : ℕ = taskWidth edition in
+    ap₂ (λ (x : Task) (l : List Task). x ∷ l) (ap taskOf (fields-same (taskWidths edition) xs ys h))
+    (tasks-same edition n (drop w xs) (drop w ys) (same-drop w xs ys h))
 
 -- what a block written is read as
 module _ (ts : List Task) (high : length ts ≤ 16) (ranges : every inRange ts ≡ true) where
-  pub block-holds : Holds (unpacked (planBlock ts)) ts
-  block-holds = holds-same (unpacked (planBlock ts)) (planBits ts) ts (unpacked-planBlock ts) (planBits-hold ts high ranges)
+  -- its bits are the plan's
+  block-bits : Same (unpacked (planBlock ts)) (planBits (editionOf ts) ts)
+  block-bits k =
+      let bits : List ℕ = planBits (editionOf ts) ts in
+      let n : ℕ = length bits in
+      unpacked-packed (need 8 n) bits (omega (arith, need-covers 8 n (omega arith))) (planBits-below (editionOf ts) ts) k
+
+  block-edition : editionIn (planBlock ts) ≡ editionOf ts
+  block-edition =
+      number-drop-same 2 4 0 (unpacked (planBlock ts)) (planBits (editionOf ts) ts) block-bits
+      ∙ number-digits 2 4 (editionOf ts) (digits 2 5 (length ts) ++ tasksBits (editionOf ts) ts) (omega arith) (omega arith)
+
+  block-count : countIn (planBlock ts) ≡ length ts
+  block-count =
+      number-drop-same 2 5 4 (unpacked (planBlock ts)) (planBits (editionOf ts) ts) block-bits
+      ∙ number-digits 2 5 (length ts) (tasksBits (editionOf ts) ts) (omega arith) (omega arith)
 
   pub block-reads : tasksIn (planBlock ts) ≡ ts
-  block-reads = tasksIn-held (planBlock ts) ts block-holds
+  block-reads =
+      let u : List ℕ = unpacked (planBlock ts) in
+      let bits : List ℕ = planBits (editionOf ts) ts in
+      ap₂ (λ (e n : ℕ). tasksFrom e n (drop 9 u)) block-edition block-count
+      ∙ tasks-same (editionOf ts) (length ts) (drop 9 u) (drop 9 bits) (same-drop 9 u bits block-bits)
+      ∙ tasks-back (editionOf ts) ts ranges
+
+  -- past its tasks they are zero
+  block-closing : every (eqb 0) (closingBits (planBlock ts)) ≡ true
+  block-closing =
+      at-every (eqb 0) (closingBits (planBlock ts)) 0
+      (λ k l. eq-eqb 0 (getD (closingBits (planBlock ts)) k 0) (sym (zero k)))
+    where
+      zero : (k : ℕ) → getD (closingBits (planBlock ts)) k 0 ≡ 0
+      zero k =
+          let u : List ℕ = unpacked (planBlock ts) in
+          let m : ℕ = bitCount (editionOf ts) (length ts) in
+          ap₂ (λ (e n : ℕ). getD (drop (bitCount e n) u) k 0) block-edition block-count
+          ∙ getD-drop m u k 0
+          ∙ block-bits (m + k)
+          ∙ planBits-past (editionOf ts) ts (m + k) (omega arith)
 
   pub block-fine : (speeds : List ℕ) → 1 ≤ length ts → FineTasks speeds ts → FineBlock speeds (planBlock ts)
   block-fine speeds low fine =
-      let block : List ℕ = planBlock ts in
-      let c : countIn block ≡ length ts = block-holds .count in
-      let len : length block ≡ blockLength (length ts) = length-planBlock ts in
       record {
-        long = omega (arith, blockLength-covers (length ts));
-        edition = block-holds .edition;
-        count-low = omega arith;
-        count-high = omega arith;
-        size = len ∙ ap (λ (n : ℕ). blockLength n) (sym c);
-        closing = closing-held block ts block-holds;
+        long = omega (arith, length-planBlock ts, blockLength-least (editionOf ts) (length ts) low);
+        edition = block-edition;
+        count-low = omega (arith, block-count);
+        count-high = omega (arith, block-count);
+        size = length-planBlock ts ∙ sym (ap₂ (λ (e n : ℕ). blockLength e n) block-edition block-count);
+        closing = block-closing;
         tasks = subst (λ (l : List Task). FineTasks speeds l) (sym block-reads) fine;
       }
 
@@ -97,39 +155,58 @@ written-reads-back speeds p len accepted =
     h
     (block-reads ts high (f .tasks .ranges))
 
--- an accepted block holds the tasks that it is read as
-pub accepted-holds : (speeds block : List ℕ) → FineBlock speeds block → Holds (unpacked block) (tasksIn block)
-accepted-holds speeds block f =
-    let u : List ℕ = unpacked block in
-    let n : length (tasksIn block) ≡ countIn block = length-tasksFrom (countIn block) (drop 9 u) in
-    record {
-      edition = f .edition;
-      count = sym n;
-      period = λ i l. ap (λ (t : Task). t .period) (sym (tasksFrom-read (countIn block) u i (omega arith)));
-      worst = λ i l. ap (λ (t : Task). t .worst) (sym (tasksFrom-read (countIn block) u i (omega arith)));
-      rest = λ k l. past k (subst (λ (m : ℕ). bitCount m ≤ k) n l);
-    }
-  where
-    past : (k : ℕ) → bitCount (countIn block) ≤ k → getD (unpacked block) k 0 ≡ 0
-    past k l =
-        let c : ℕ = bitCount (countIn block) in
-        let e : c + (k - c) ≡ k = omega arith in
-        ap (λ (j : ℕ). getD (unpacked block) j 0) (sym e)
-        ∙ sym (getD-drop c (unpacked block) (k - c) 0)
-        ∙ zero-at (closingBits block) (f .closing) (k - c)
+-- an accepted block: its tasks are written in the edition that it names, and their bits are the block's
+module _ (speeds block : List ℕ) (f : FineBlock speeds block) where
+  edition-kept : editionOf (tasksIn block) ≡ editionIn block
+  edition-kept = sym (f .edition)
 
--- so its bytes are those that they are written as
-pub accepted-block : (speeds block : List ℕ) → Bytes block → FineBlock speeds block → planBlock (tasksIn block) ≡ block
-accepted-block speeds block bytes f =
-    let u : List ℕ = unpacked block in
-    let ts : List Task = tasksIn block in
-    let n : need 8 (length (planBits ts)) ≡ length block =
-    ap (λ (m : ℕ). need 8 m) (length-planBits ts)
-    ∙ ap (λ (m : ℕ). blockLength m) (length-tasksFrom (countIn block) (drop 9 u))
-    ∙ sym (f .size) in
-    ap (λ (m : ℕ). packedTo m (planBits ts)) n
-    ∙ packed-same (length block) (planBits ts) u (holds-bits u ts (unpacked-below block) (accepted-holds speeds block f))
-    ∙ packed-unpacked block bytes
+  -- the header's bits, then the tasks'
+  accepted-bits : planBits (editionIn block) (tasksIn block) ≡ take (used block) (unpacked block)
+  accepted-bits =
+      let u : List ℕ = unpacked block in
+      let e : ℕ = editionIn block in
+      let n : ℕ = countIn block in
+      let m : ℕ = taskWidth e * n in
+      let long : used block ≤ length u = omega (arith, length-unpacked block, f .size, blockLength-covers e n) in
+      let all : 4 + (5 + m) ≡ 9 + m = omega arith in
+      ap (λ (k : ℕ). digits 2 4 e ++ (digits 2 5 k ++ tasksBits e (tasksIn block))) (length-tasksIn block)
+      ∙ ap₂ (λ (x y : List ℕ). x ++ y) (digits-number 2 4 u (omega arith) (λ k l. unpacked-below block k))
+      (ap₂ (λ (x y : List ℕ). x ++ y)
+      (digits-number 2 5 (drop 4 u) (simp length-drop (omega arith)) (λ k l. below-drop 4 u (unpacked-below block) k))
+      (tasks-again e n (drop 9 u) (simp length-drop (omega arith)) (below-drop 9 u (unpacked-below block))
+      ∙ ap (λ (x : List ℕ). take m x) (sym (drop-drop 5 4 u))))
+      ∙ ap (λ (x : List ℕ). take 4 u ++ x) (sym (take-add 5 m (drop 4 u)))
+      ∙ sym (take-add 4 (5 + m) u)
+      ∙ ap (λ (k : ℕ). take k u) all
+
+  -- past them the block's bits are zero too
+  accepted-same : Same (planBits (editionIn block) (tasksIn block)) (unpacked block)
+  accepted-same k =
+      let u : List ℕ = unpacked block in
+      let m : ℕ = used block in
+      ap (λ (l : List ℕ). getD l k 0) accepted-bits
+      ∙ elim (decLe (suc k) m) [
+        | yes h ↦ getD-take m u k 0 h
+        | no h ↦
+            let e : m + (k - m) ≡ k = omega arith in
+            List·getD-eq-default (take m u) 0 {n = k} (omega (arith, length-take m u))
+            ∙ sym (zero-at (closingBits block) (f .closing) (k - m))
+            ∙ getD-drop m u (k - m) 0
+            ∙ ap (λ (j : ℕ). getD u j 0) e
+      ]
+
+  -- so its bytes are those that they are written as
+  pub accepted-block : Bytes block → planBlock (tasksIn block) ≡ block
+  accepted-block bytes =
+      let ts : List Task = tasksIn block in
+      let bits : List ℕ = planBits (editionIn block) ts in
+      let n : need 8 (length bits) ≡ length block =
+      ap (λ (m : ℕ). need 8 m) (length-planBits (editionIn block) ts ∙ ap (λ (m : ℕ). bitCount (editionIn block) m) (length-tasksIn block))
+      ∙ sym (f .size) in
+      ap (λ (e : ℕ). packed (planBits e ts)) edition-kept
+      ∙ ap (λ (m : ℕ). packedTo m bits) n
+      ∙ packed-same (length block) bits (unpacked block) accepted-same
+      ∙ packed-unpacked block bytes
 
 -- the tasks of a plan made of a list
 pub tasksOf-planOf : (ts : List Task) → tasksOf (planOf ts) ≡ ts
@@ -151,4 +228,4 @@ pub accepted-writes-back : (speeds : List ℕ) → AcceptedWritesBack speeds
 accepted-writes-back speeds block bytes accepted =
     let h : firstNo (reading speeds block) ≡ 0 = accepted-none speeds (tasksIn block) (firstNo (reading speeds block)) accepted in
     subst (λ (n : ℕ). planBlock (tasksOf (judgedBy n speeds (tasksIn block) .plan)) ≡ block) (sym h)
-    (ap planBlock (tasksOf-planOf (tasksIn block)) ∙ accepted-block speeds block bytes (fine-block speeds block h))
+    (ap planBlock (tasksOf-planOf (tasksIn block)) ∙ accepted-block speeds block (fine-block speeds block h) bytes)

@@ -2,56 +2,73 @@
 -- Assumes nothing.
 use Prim.Native.Nat.{ℕ, zero, suc, _+_, _*_}
 use mathlib.Core.List.{List, [], _∷_, _++_}
-use lib.ListN.{length, take, drop}
+use lib.ListN.{length, getD, take, drop}
 use Rattle.arith.specs.Need.{need}
 use Rattle.arith.specs.Digits.{number, digits}
-use Rattle.arith.specs.Bits.{unpacked, packed}
+use Rattle.arith.specs.Bits.{fieldsBits, fieldsFrom, widthOf, unpacked, packed}
 use Rattle.arith.specs.Arrays.{padded}
 use Rattle.plan.specs.declared.Task.{Task}
 use Rattle.plan.specs.declared.Plan.{Plan}
 
--- 01: "then for each task 16 bits of period and 20 of worst case"
-abbrev pub taskBits : Task → List ℕ
-taskBits t = digits 2 16 (t .period) ++ digits 2 20 (t .worst)
+-- the fields of a task: 01: "then for each task 16 bits of period and 20 of worst case"
+abbrev pub taskWidths : ℕ → List ℕ
+taskWidths edition = 16 ∷ 20 ∷ []
 
-abbrev pub tasksBits : List Task → List ℕ
-tasksBits [] = []
-tasksBits (t ∷ ts) = taskBits t ++ tasksBits ts
+-- the numbers in them, and the task that such numbers are
+abbrev pub taskNumbers : Task → List ℕ
+taskNumbers t = t .period ∷ t .worst ∷ []
+
+abbrev pub taskOf : List ℕ → Task
+taskOf numbers = record { period = getD numbers 0 0; worst = getD numbers 1 0 }
+
+abbrev pub taskBits : ℕ → Task → List ℕ
+taskBits edition t = fieldsBits (taskWidths edition) (taskNumbers t)
+
+abbrev pub tasksBits : ℕ → List Task → List ℕ
+tasksBits edition [] = []
+tasksBits edition (t ∷ ts) = taskBits edition t ++ tasksBits edition ts
 
 -- 01: "A plan block is 4 bits of edition (value 1), 5 bits of count", then the tasks
-abbrev pub planBits : List Task → List ℕ
-planBits ts = digits 2 4 1 ++ (digits 2 5 (length ts) ++ tasksBits ts)
+abbrev pub planBits : ℕ → List Task → List ℕ
+planBits edition ts = digits 2 4 edition ++ (digits 2 5 (length ts) ++ tasksBits edition ts)
+
+-- the edition that tasks are written in: 01: "(value 1)"
+abbrev pub editionOf : List Task → ℕ
+editionOf ts = 1
 
 -- "then zero bits to a whole byte"
 abbrev pub planBlock : List Task → List ℕ
-planBlock ts = packed (planBits ts)
+planBlock ts = packed (planBits (editionOf ts) ts)
 
--- how many bits a plan of so many tasks takes, and how many bytes: "6 bytes for one task, 74 for sixteen"
-abbrev pub bitCount : ℕ → ℕ
-bitCount count = 9 + 36 * count
+-- how many bits a task takes, a plan of so many tasks, and how many bytes: "6 bytes for one task, 74 for sixteen"
+abbrev pub taskWidth : ℕ → ℕ
+taskWidth edition = widthOf (taskWidths edition)
 
-abbrev pub blockLength : ℕ → ℕ
-blockLength count = need 8 (bitCount count)
+abbrev pub bitCount : ℕ → ℕ → ℕ
+bitCount edition count = 9 + taskWidth edition * count
 
--- the same fields read off a block
+abbrev pub blockLength : ℕ → ℕ → ℕ
+blockLength edition count = need 8 (bitCount edition count)
+
+-- the same fields read off a block, by the edition that it names
 abbrev pub editionIn : List ℕ → ℕ
 editionIn block = number 2 4 (unpacked block)
 
 abbrev pub countIn : List ℕ → ℕ
 countIn block = number 2 5 (drop 4 (unpacked block))
 
-abbrev pub taskFrom : List ℕ → Task
-taskFrom bits = record { period = number 2 16 bits; worst = number 2 20 (drop 16 bits) }
+abbrev pub taskFrom : ℕ → List ℕ → Task
+taskFrom edition bits = taskOf (fieldsFrom (taskWidths edition) bits)
 
-abbrev pub tasksFrom : ℕ → List ℕ → List Task
-tasksFrom zero bits = []
-tasksFrom (suc n) bits = taskFrom bits ∷ tasksFrom n (drop 36 bits)
+abbrev pub tasksFrom : ℕ → ℕ → List ℕ → List Task
+tasksFrom edition zero bits = []
+tasksFrom edition (suc n) bits = taskFrom edition bits ∷ tasksFrom edition n (drop (taskWidth edition) bits)
 
 abbrev pub tasksIn : List ℕ → List Task
-tasksIn block = tasksFrom (countIn block) (drop 9 (unpacked block))
+tasksIn block = tasksFrom (editionIn block) (countIn block) (drop 9 (unpacked block))
 
 abbrev pub closingBits : List ℕ → List ℕ
-closingBits block = drop (bitCount (countIn block)) (unpacked block)
+closingBits block = drop (bitCount (editionIn block) (countIn block)) (unpacked block)
 
 -- 01: "A plan is its count and its tasks"
 abbrev pub tasksOf : Plan → List Task

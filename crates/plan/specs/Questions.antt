@@ -45,7 +45,7 @@ reading speeds block =
     ask 1 (leb 2 (length block))
     ∷ ask 2 (eqb (editionIn block) 1)
     ∷ countQuestion (countIn block)
-    ∷ ask 4 (eqb (length block) (blockLength (countIn block)))
+    ∷ ask 4 (eqb (length block) (blockLength (editionIn block) (countIn block)))
     ∷ ask 5 (every (eqb 0) (closingBits block))
     ∷ taskQuestions speeds (tasksIn block)
 

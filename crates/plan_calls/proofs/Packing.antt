@@ -12,7 +12,7 @@ use Rattle.plan.specs.declared.Plan.{Plan}
 use Rattle.plan.specs.declared.Judged.{Judged}
 use Rattle.plan.specs.declared.Written.{Written}
 use Rattle.plan.specs.Levels.{baseSpeeds, hyperperiod, nominal}
-use Rattle.plan.specs.Blocks.{noTask, tasksOf, tasksIn, countIn, planBlock}
+use Rattle.plan.specs.Blocks.{noTask, tasksOf, tasksIn, editionIn, countIn, editionOf, planBlock}
 use Rattle.plan.specs.Questions.{judging, reading, roomQuestion}
 use Rattle.arith.specs.Asking.{Question, firstNo}
 use Rattle.plan.specs.Answers.{answered, judgedPlan, readBlock, writeNumber, writtenBy, writePlan, copyNumber}
@@ -89,7 +89,7 @@ wrote-most p room e =
         let f : FineList baseSpeeds (p .count) (tasksOf p) =
         fine-list baseSpeeds (p .count) (tasksOf p) (yes-of (judging baseSpeeds (p .count) (tasksOf p)) rest z) in
         let n : length (tasksOf p) ≤ 16 = omega (arith, length-take (p .count) (p .tasks), f .count-high) in
-        omega (arith, length-planBlock (tasksOf p), blockLength-most (length (tasksOf p)) n)
+        omega (arith, length-planBlock (tasksOf p), blockLength-most (editionOf (tasksOf p)) (length (tasksOf p)) n)
 
 pub copy-most :
     (block : List ℕ) (room : ℕ) {w : Written} →
@@ -105,4 +105,4 @@ copy-most block room e =
     long : copyNumber baseSpeeds block room ≡ 0 → length block ≤ 255
     long z =
         let f : FineBlock baseSpeeds block = fine-block baseSpeeds block (yes-of (reading baseSpeeds block) rest z) in
-        omega (arith, f .size, blockLength-most (countIn block) (f .count-high))
+        omega (arith, f .size, blockLength-most (editionIn block) (countIn block) (f .count-high))

@@ -2,7 +2,7 @@
 -- Assumes nothing.
 use Prim.Native.Nat.{ℕ, zero, suc, _+_, _-_, _*_, _<_, _≤_}
 use mathlib.Core.Bool.{true}
-use mathlib.Core.Path.{_≡_, refl, sym, ap, _∙_}
+use mathlib.Core.Path.{_≡_, refl, sym, ap, ap₂, _∙_}
 use mathlib.Core.List.{List, _∷_}
 use native.Mathlib.Omega.{arith}
 use borrow.Author.Tests.{le-leb, lt-leb, eq-eqb, ne-eqb}
@@ -17,7 +17,7 @@ use Rattle.plan.specs.declared.Plan.{Plan}
 use Rattle.plan.specs.declared.Judged.{Judged}
 use Rattle.plan.specs.declared.Verdict.the-variants as verdict
 use Rattle.plan.specs.declared.Written.the-variants as written
-use Rattle.plan.specs.Blocks.{bitCount, blockLength, editionIn, countIn, closingBits, taskFrom, tasksFrom, tasksIn, tasksOf, planOf, noTask}
+use Rattle.plan.specs.Blocks.{taskWidth, bitCount, blockLength, editionIn, countIn, closingBits, taskFrom, tasksFrom, tasksIn, tasksOf, planOf, noTask}
 use Rattle.plan.specs.Questions.{countQuestion, taskQuestions, reading}
 use Rattle.arith.specs.Asking.{Question, ask, firstNo}
 use Rattle.plan.specs.Answers.{judgedBy, refusedWith, readBlock}
@@ -28,36 +28,36 @@ use Rattle.plan.proofs.RoundTrip.{tasksOf-planOf}
 
 -- a task read at its place
 pub task-read :
-    (bits : List ℕ) (i : ℕ) {p w : ℕ} →
-    p ≡ number 2 16 (drop (9 + 36 * i) bits) →
-    w ≡ number 2 20 (drop (25 + 36 * i) bits) →
-    _≡_ {A = Task} (record { period = p; worst = w }) (taskFrom (drop (bitCount i) bits))
-task-read bits i {p} {w} a b =
-    let e : 25 + 36 * i ≡ 9 + 36 * i + 16 = omega arith in
-    let later : w ≡ number 2 20 (drop 16 (drop (9 + 36 * i) bits)) =
-    b
-    ∙ ap (λ (k : ℕ). number 2 20 (drop k bits)) e
-    ∙ sym (ap (λ (l : List ℕ). number 2 20 l) (drop-drop 16 (9 + 36 * i) bits)) in
-    λ j. record { period = a j; worst = later j }
+    (edition i : ℕ) (bits : List ℕ) {at p w : ℕ} →
+    at ≡ bitCount edition i →
+    p ≡ number 2 16 (drop at bits) →
+    w ≡ number 2 20 (drop (at + 16) bits) →
+    _≡_ {A = Task} (record { period = p; worst = w }) (taskFrom edition (drop (bitCount edition i) bits))
+task-read edition i bits {at} {p} {w} e a b =
+    let later : w ≡ number 2 20 (drop 16 (drop at bits)) =
+    b ∙ sym (ap (λ (l : List ℕ). number 2 20 l) (drop-drop 16 at bits)) in
+    let read : _≡_ {A = Task} (record { period = p; worst = w }) (taskFrom edition (drop at bits)) =
+    λ j. record { period = a j; worst = later j } in
+    read ∙ ap (λ (k : ℕ). taskFrom edition (drop k bits)) e
 
 -- a plan filled from the front with the tasks of a block
-module _ (bits : List ℕ) (count : ℕ) where
+module _ (edition : ℕ) (bits : List ℕ) (count : ℕ) where
   abbrev pub tasksAt : List Task
-  tasksAt = tasksFrom count (drop 9 bits)
+  tasksAt = tasksFrom edition count (drop 9 bits)
 
   pub tasks-listed : count ≤ length tasksAt
-  tasks-listed = omega (arith, length-tasksFrom count (drop 9 bits))
+  tasks-listed = omega (arith, length-tasksFrom edition count (drop 9 bits))
 
-  pub task-from : {i : ℕ} {t : Task} → i < count → t ≡ taskFrom (drop (bitCount i) bits) → t ≡ getD tasksAt i noTask
+  pub task-from : {i : ℕ} {t : Task} → i < count → t ≡ taskFrom edition (drop (bitCount edition i) bits) → t ≡ getD tasksAt i noTask
   task-from {i} h e =
       e
-      ∙ ap (λ (x : List ℕ). taskFrom x) (sym (drop-drop (36 * i) 9 bits))
-      ∙ sym (tasksFrom-at count (drop 9 bits) i h)
+      ∙ ap (λ (x : List ℕ). taskFrom edition x) (sym (drop-drop (taskWidth edition * i) 9 bits))
+      ∙ sym (tasksFrom-at edition count (drop 9 bits) i h)
 
   pub plan-read : {q : Plan} {i : ℕ} → Filled tasksAt count q i → count ≤ i → q ≡ planOf tasksAt
   plan-read at h =
       filled-all at tasks-listed h
-      ∙ ap (λ (x : List Task). planOf x) (take-all count tasksAt (omega (arith, length-tasksFrom count (drop 9 bits))))
+      ∙ ap (λ (x : List Task). planOf x) (take-all count tasksAt (omega (arith, length-tasksFrom edition count (drop 9 bits))))
 
 -- a refusal's number is all that is told, whatever the tasks are
 pub refused-as :
@@ -72,7 +72,7 @@ refused-as speeds ts {n = suc n} a h e = a ∙ sym (ap (λ (k : ℕ). judgedBy k
 -- the questions that a block is asked past its count
 abbrev sized : List ℕ → List ℕ → List Question
 sized speeds block =
-    ask 4 (eqb (length block) (blockLength (countIn block)))
+    ask 4 (eqb (length block) (blockLength (editionIn block) (countIn block)))
     ∷ ask 5 (every (eqb 0) (closingBits block))
     ∷ taskQuestions speeds (tasksIn block)
 
@@ -95,14 +95,16 @@ module _ (speeds block : List ℕ) {r : Judged} where
       refused-at 1 a (ask-yes 1 (le-leb 2 (length block) l) (ask-no 2 _ (ne-eqb (editionIn block) 1 (λ q. h (e ∙ q)))))
 
 -- 1 and 2 are answered yes, and the count is read
-pub record Opened (block : List ℕ) (count : ℕ) : Type 0 where
+pub record Opened (block : List ℕ) (edition count : ℕ) : Type 0 where
   pub long : 2 ≤ length block
-  pub edition : editionIn block ≡ 1
+  pub named : edition ≡ editionIn block
+  pub known : edition ≡ 1
   pub counted : count ≡ countIn block
 
-module _ (speeds : List ℕ) {block : List ℕ} {count : ℕ} (o : Opened block count) where
+module _ (speeds : List ℕ) {block : List ℕ} {edition count : ℕ} (o : Opened block edition count) where
   opened : (m : ℕ) → firstNo (countQuestion (countIn block) ∷ sized speeds block) ≡ m → firstNo (reading speeds block) ≡ m
-  opened m h = ask-yes 1 (le-leb 2 (length block) (o .long)) (ask-yes 2 (eq-eqb (editionIn block) 1 (o .edition)) h)
+  opened m h =
+      ask-yes 1 (le-leb 2 (length block) (o .long)) (ask-yes 2 (eq-eqb (editionIn block) 1 (sym (o .named) ∙ o .known)) h)
 
   pub read-low : {r : Judged} → r ≡ refusedWith 3 → count < 1 → r ≡ readBlock speeds block
   read-low a h = refused-at speeds block 2 a (opened 3 (ask-no 3 _ (within-under 1 16 (countIn block) (omega arith))))
@@ -111,40 +113,45 @@ module _ (speeds : List ℕ) {block : List ℕ} {count : ℕ} (o : Opened block 
   read-high a h = refused-at speeds block 2 a (opened 3 (ask-no 3 _ (within-over 1 16 (countIn block) (omega arith))))
 
 -- 3 is answered yes too
-pub record Counted (block : List ℕ) (count : ℕ) : Type 0 where
-  pub opens : Opened block count
+pub record Counted (block : List ℕ) (edition count : ℕ) : Type 0 where
+  pub opens : Opened block edition count
   pub low : 1 ≤ count
   pub high : count ≤ 16
 
-module _ (speeds : List ℕ) {block : List ℕ} {count : ℕ} (c : Counted block count) where
+module _ (speeds : List ℕ) {block : List ℕ} {edition count : ℕ} (c : Counted block edition count) where
   counted : (m : ℕ) → firstNo (sized speeds block) ≡ m → firstNo (reading speeds block) ≡ m
-  counted m h = opened speeds (c .opens) m (ask-yes 3 (within-true 1 16 (countIn block) (omega arith) (omega arith)) h)
+  counted m h =
+      opened speeds (c .opens) m
+      (ask-yes 3 (within-true 1 16 (countIn block) (omega (arith, c .opens .counted)) (omega (arith, c .opens .counted))) h)
+
+  -- what is made of the edition and the count that were read is made of the block's
+  pub by-block : {A : Type 0} (f : ℕ → ℕ → A) → f edition count ≡ f (editionIn block) (countIn block)
+  by-block f = ap₂ f (c .opens .named) (c .opens .counted)
 
   pub read-size :
       {r : Judged} {n : ℕ} →
       r ≡ refusedWith 4 →
-      n ≡ blockLength count →
+      n ≡ blockLength edition count →
       (length block ≡ n → ⊥) →
       r ≡ readBlock speeds block
   read-size a b h =
-      let e = ap (λ (k : ℕ). blockLength k) (c .opens .counted) in
       refused-at speeds block 3 a
-      (counted 4 (ask-no 4 _ (ne-eqb (length block) (blockLength (countIn block)) (λ q. h (q ∙ sym (b ∙ e))))))
+      (counted 4 (ask-no 4 _ (ne-eqb (length block) (blockLength (editionIn block) (countIn block)) (λ q. h (q ∙ sym (b ∙ by-block blockLength))))))
 
 -- 4 is answered yes too, and x is the number of the closing bits
-pub record Closing (block : List ℕ) (count x : ℕ) : Type 0 where
-  pub counts : Counted block count
-  pub size : length block ≡ blockLength count
-  pub closing : x ≡ number 2 (8 * length block - bitCount count) (drop (bitCount count) (unpacked block))
+pub record Closing (block : List ℕ) (edition count x : ℕ) : Type 0 where
+  pub counts : Counted block edition count
+  pub size : length block ≡ blockLength edition count
+  pub closing : x ≡ number 2 (8 * length block - bitCount edition count) (drop (bitCount edition count) (unpacked block))
 
-module _ (speeds : List ℕ) {block : List ℕ} {count x : ℕ} (c : Closing block count x) where
-  four : eqb (length block) (blockLength (countIn block)) ≡ true
-  four = eq-eqb (length block) (blockLength (countIn block)) (c .size ∙ ap (λ (k : ℕ). blockLength k) (c .counts .opens .counted))
+module _ (speeds : List ℕ) {block : List ℕ} {edition count x : ℕ} (c : Closing block edition count x) where
+  four : eqb (length block) (blockLength (editionIn block) (countIn block)) ≡ true
+  four = eq-eqb (length block) (blockLength (editionIn block) (countIn block)) (c .size ∙ by-block speeds (c .counts) blockLength)
 
   five : every (eqb 0) (closingBits block) ≡ eqb x 0
   five =
-      let bits : ℕ → ℕ = λ k. number 2 (8 * length block - bitCount k) (drop (bitCount k) (unpacked block)) in
-      closing-zero block ∙ sym (ap (λ (m : ℕ). eqb m 0) (c .closing ∙ ap bits (c .counts .opens .counted)))
+      let bits : ℕ → ℕ → ℕ = λ e k. number 2 (8 * length block - bitCount e k) (drop (bitCount e k) (unpacked block)) in
+      closing-zero block ∙ sym (ap (λ (m : ℕ). eqb m 0) (c .closing ∙ by-block speeds (c .counts) bits))
 
   pub read-closing : {r : Judged} → r ≡ refusedWith 5 → (x ≡ 0 → ⊥) → r ≡ readBlock speeds block
   read-closing a h =
@@ -153,7 +160,7 @@ module _ (speeds : List ℕ) {block : List ℕ} {count x : ℕ} (c : Closing blo
   pub read-tasks :
       {q : Plan} {r : Judged} →
       x ≡ 0 →
-      q ≡ planOf (tasksFrom count (drop 9 (unpacked block))) →
+      q ≡ planOf (tasksFrom edition count (drop 9 (unpacked block))) →
       r ≡ judgedBy (firstNo (taskQuestions speeds (tasksOf q))) speeds (tasksOf q) →
       r ≡ readBlock speeds block
   read-tasks {q} h p a =
@@ -161,8 +168,8 @@ module _ (speeds : List ℕ) {block : List ℕ} {count x : ℕ} (c : Closing blo
       let rest : ℕ = firstNo (taskQuestions speeds (tasksIn block)) in
       let ts : tasksOf q ≡ tasksIn block =
       ap (λ (z : Plan). tasksOf z) p
-      ∙ tasksOf-planOf (tasksFrom count bits)
-      ∙ ap (λ (k : ℕ). tasksFrom k bits) (c .counts .opens .counted) in
+      ∙ tasksOf-planOf (tasksFrom edition count bits)
+      ∙ by-block speeds (c .counts) (λ e k. tasksFrom e k bits) in
       let n : firstNo (reading speeds block) ≡ rest = counted speeds (c .counts) rest (ask-yes 4 four (ask-yes 5 (five ∙ eq-eqb x 0 h) refl)) in
       a
       ∙ ap (λ (l : List Task). judgedBy (firstNo (taskQuestions speeds l)) speeds l) ts

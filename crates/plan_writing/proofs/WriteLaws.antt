@@ -3,6 +3,7 @@
 use Prim.Native.Nat.{ℕ, _+_, _-_, _*_, _/_, _%_, _^_, _<_, _≤_}
 use mathlib.Core.Path.{_≡_, refl, sym, subst, ap, ap₂, _∙_}
 use mathlib.Core.List.{List, [], _∷_, _++_}
+use native.Mathlib.Nat.{mod-add-div', mod-lt, mul-comm}
 use native.Mathlib.Numerals.{add-one}
 use native.Mathlib.Omega.{arith}
 use borrow.Author.Tests.{le-leb, lt-leb}
@@ -16,7 +17,7 @@ use Rattle.plan.specs.declared.Verdict.{Verdict}
 use Rattle.plan.specs.declared.Verdict.the-variants as verdict
 use Rattle.plan.specs.declared.Written.{Written}
 use Rattle.plan.specs.declared.Written.the-variants as written
-use Rattle.plan.specs.Blocks.{planBits, planBlock, blockLength, tasksIn, tasksOf, planOf, noTask}
+use Rattle.plan.specs.Blocks.{taskWidth, bitCount, planBits, editionOf, planBlock, blockLength, tasksIn, tasksOf, planOf, noTask}
 use Rattle.plan.specs.Questions.{taskQuestions, judging, reading, roomQuestion}
 use Rattle.arith.specs.Asking.{Question, firstNo}
 use Rattle.plan.specs.Answers.{answered, beside, judgedBy, readBlock, writeNumber, writtenBy, storedBy, writePlan, writeBuffer}
@@ -26,68 +27,75 @@ use Rattle.judging.proofs.Judgements.{count-low, count-high, count-good}
 use Rattle.plan.proofs.Facts.{fine-block}
 use Rattle.arith.proofs.QuestionLaws.{ask-no, ask-yes, no-before, yes-before, yes-of}
 use Rattle.plan.proofs.BlockBits.{planBits-edition, planBits-count, planBits-period, planBits-worst, planBits-past}
-use Rattle.plan.proofs.BlockBits.{length-planBlock, planBlock-at}
+use Rattle.plan.proofs.BlockBits.{width-least, bitCount-mono, length-planBlock, planBlock-at}
 use Rattle.plan.proofs.RoundTrip.{written-reads-back, none-accepted, accepted-block, tasksOf-planOf, read-judged}
 use Rattle.plan.proofs.AnswerLaws.{told-refused, told-admitted, told-written, Leaves, leaves-refused, leaves-written}
 
 -- the length of a plan's block, and the block's byte j
-module _ {p : Plan} (plan : Held p) where
-  pub planBlock-length : length (planBlock (tasksOf p)) ≡ blockLength (p .count)
-  planBlock-length = length-planBlock (tasksOf p) ∙ ap (λ (n : ℕ). blockLength n) (count-is plan)
+module _ {p : Plan} (plan : Held p) {edition : ℕ} (e : edition ≡ editionOf (tasksOf p)) where
+  pub planBlock-length : length (planBlock (tasksOf p)) ≡ blockLength edition (p .count)
+  planBlock-length = length-planBlock (tasksOf p) ∙ ap₂ (λ (x n : ℕ). blockLength x n) (sym e) (count-is plan)
 
   pub planBlock-byte :
       {j x : ℕ} →
-      j < blockLength (p .count) →
-      x ≡ number 2 8 (drop (8 * j) (planBits (tasksOf p))) →
+      j < blockLength edition (p .count) →
+      x ≡ number 2 8 (drop (8 * j) (planBits edition (tasksOf p))) →
       x ≡ getD (planBlock (tasksOf p)) j 0
-  planBlock-byte {j} h e =
-      e ∙ sym (planBlock-at (tasksOf p) j (subst (λ (n : ℕ). j < blockLength n) (sym (count-is plan)) h))
+  planBlock-byte {j} h b =
+      b
+      ∙ ap (λ (x : ℕ). number 2 8 (drop (8 * j) (planBits x (tasksOf p)))) e
+      ∙ sym (planBlock-at (tasksOf p) j (subst (λ (n : ℕ). j < n) (sym planBlock-length ∙ length-planBlock (tasksOf p)) h))
 
-  -- bit k of its block: of the count, and past the last task
-  pub bit-count : {k x : ℕ} → 4 ≤ k → k < 9 → x ≡ p .count / 2 ^ (8 - k) % 2 → x ≡ getD (planBits (tasksOf p)) k 0
-  bit-count {k} low high e =
-      e
-      ∙ sym (ap (λ (n : ℕ). n / 2 ^ (8 - k) % 2) (count-is plan))
-      ∙ sym (planBits-count (tasksOf p) k low high)
+-- bit k of a plan's bits: of the edition, and of the count
+pub bit-edition : (edition : ℕ) (ts : List Task) {k x : ℕ} → k < 4 → x ≡ edition / 2 ^ (3 - k) % 2 → x ≡ getD (planBits edition ts) k 0
+bit-edition edition ts {k} h e = e ∙ sym (planBits-edition edition ts k h)
 
-  pub bit-past : {k : ℕ} → 9 ≤ k → p .count ≤ (k - 9) / 36 → 0 ≡ getD (planBits (tasksOf p)) k 0
-  bit-past {k} low h = sym (planBits-past (tasksOf p) k low (omega (arith, count-is plan)))
+pub bit-count :
+    {p : Plan} → Held p → (edition : ℕ) {k x : ℕ} → 4 ≤ k → k < 9 → x ≡ p .count / 2 ^ (8 - k) % 2 → x ≡ getD (planBits edition (tasksOf p)) k 0
+bit-count {p} plan edition {k} low high e =
+    e
+    ∙ sym (ap (λ (n : ℕ). n / 2 ^ (8 - k) % 2) (count-is plan))
+    ∙ sym (planBits-count edition (tasksOf p) k low high)
 
-pub bit-edition : (ts : List Task) {k x : ℕ} → k < 4 → x ≡ 1 / 2 ^ (3 - k) % 2 → x ≡ getD (planBits ts) k 0
-bit-edition ts {k} h e = e ∙ sym (planBits-edition ts k h)
-
--- bit k stands in a task
-pub record InTask (p : Plan) (k : ℕ) : Type 0 where
+-- bit k is bit r of task i, where there is such a task
+pub record AtTask (p : Plan) (edition k i r : ℕ) : Type 0 where
   pub plan : Held p
-  pub low : 9 ≤ k
-  pub below : (k - 9) / 36 < p .count
+  pub place : k ≡ bitCount edition i + r
 
-module _ {p : Plan} {k : ℕ} (b : InTask p k) where
-  here : getD (tasksOf p) ((k - 9) / 36) noTask ≡ getD (p .tasks) ((k - 9) / 36) noTask
-  here = getD-take (p .count) (p .tasks) ((k - 9) / 36) noTask (b .below)
+pub at-task :
+    {p : Plan} → Held p → (edition k : ℕ) {width : ℕ} → width ≡ taskWidth edition → 9 ≤ k → AtTask p edition k ((k - 9) / width) ((k - 9) % width)
+at-task plan edition k {width} e low =
+    let i : ℕ = (k - 9) / width in
+    let whole : taskWidth edition * i ≡ i * width = ap (λ (w : ℕ). w * i) (sym e) ∙ mul-comm width i in
+    record { plan = plan; place = omega (arith, mod-add-div' (k - 9) width) }
 
-  inside : (k - 9) / 36 < length (tasksOf p)
-  inside = omega (arith, count-is (b .plan))
+-- and r is a place in it
+pub rest-below : (edition x : ℕ) {width : ℕ} → width ≡ taskWidth edition → x % width < taskWidth edition
+rest-below edition x e = subst (λ (w : ℕ). x % w < taskWidth edition) (sym e) (mod-lt x (omega (arith, width-least edition)))
 
-  pub bit-period :
-      {x : ℕ} →
-      (k - 9) % 36 < 16 →
-      x ≡ getD (p .tasks) ((k - 9) / 36) noTask .period / 2 ^ (15 - (k - 9) % 36) % 2 →
-      x ≡ getD (planBits (tasksOf p)) k 0
-  bit-period r e =
-      e
-      ∙ sym (ap (λ (t : Task). t .period / 2 ^ (15 - (k - 9) % 36) % 2) here)
-      ∙ sym (planBits-period (tasksOf p) k (b .low) inside r)
+module _ {p : Plan} {edition k i r : ℕ} (b : AtTask p edition k i r) where
+  pub bit-past : p .count ≤ i → 0 ≡ getD (planBits edition (tasksOf p)) k 0
+  bit-past h =
+      sym (planBits-past edition (tasksOf p) k (omega (arith, b .place, bitCount-mono edition (length (tasksOf p)) i (omega (arith, count-is (b .plan))))))
 
-  pub bit-worst :
-      {x : ℕ} →
-      16 ≤ (k - 9) % 36 →
-      x ≡ getD (p .tasks) ((k - 9) / 36) noTask .worst / 2 ^ (35 - (k - 9) % 36) % 2 →
-      x ≡ getD (planBits (tasksOf p)) k 0
-  bit-worst r e =
-      e
-      ∙ sym (ap (λ (t : Task). t .worst / 2 ^ (35 - (k - 9) % 36) % 2) here)
-      ∙ sym (planBits-worst (tasksOf p) k (b .low) inside r)
+  module _ (below : i < p .count) where
+    here : getD (tasksOf p) i noTask ≡ getD (p .tasks) i noTask
+    here = getD-take (p .count) (p .tasks) i noTask below
+
+    inside : i < length (tasksOf p)
+    inside = omega (arith, count-is (b .plan))
+
+    pub bit-period : {x : ℕ} → r < 16 → x ≡ getD (p .tasks) i noTask .period / 2 ^ (15 - r) % 2 → x ≡ getD (planBits edition (tasksOf p)) k 0
+    bit-period l e =
+        e
+        ∙ sym (ap (λ (t : Task). t .period / 2 ^ (15 - r) % 2) here)
+        ∙ sym (planBits-period edition (tasksOf p) k i r (b .place) inside l)
+
+    pub bit-worst : {x : ℕ} → 16 ≤ r → r < 36 → x ≡ getD (p .tasks) i noTask .worst / 2 ^ (35 - r) % 2 → x ≡ getD (planBits edition (tasksOf p)) k 0
+    bit-worst low high e =
+        e
+        ∙ sym (ap (λ (t : Task). t .worst / 2 ^ (35 - r) % 2) here)
+        ∙ sym (planBits-worst edition (tasksOf p) k i r (b .place) inside low high)
 
 -- bytes stored from the front, one a turn
 pub record Stored (bytes buffer m : List ℕ) (j : ℕ) : Type 0 where
@@ -208,7 +216,7 @@ module _ (speeds block : List ℕ) where
     copied =
         ap (λ (q : Plan). planBlock (tasksOf q)) e
         ∙ ap (λ (ts : List Task). planBlock ts) (tasksOf-planOf (tasksIn block))
-        ∙ accepted-block speeds block bytes (fine-block speeds block accepted)
+        ∙ accepted-block speeds block (fine-block speeds block accepted) bytes
 
     judged : firstNo (asked speeds p) ≡ 0
     judged = read-judged speeds block p accepted e

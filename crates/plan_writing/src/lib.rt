@@ -7,12 +7,13 @@ use plan::Verdict;
 use plan::Written;
 use plan_reading::block_length;
 use plan_reading::read_over;
+use plan_reading::task_width;
 ghost use mathlib.Core.Path.{_≡_};
 ghost use Prim.Native.Nat.{_+_, _*_, _/_, _%_, _^_, _<_, _≤_};
 ghost use lib.ListN.{length, drop, getD};
 ghost use Rattle.arith.specs.Digits.{number};
 ghost use Rattle.plan.specs.Levels.{baseSpeeds};
-ghost use Rattle.plan.specs.Blocks.{tasksOf, planBits, planBlock, blockLength};
+ghost use Rattle.plan.specs.Blocks.{tasksOf, editionOf, planBits, planBlock, blockLength};
 ghost use Rattle.levels.specs.Code.{loaded, Table};
 ghost use Rattle.plan.specs.Answers.{writePlan, writeBuffer, writtenBy, storedBy, writeNumber, judgedBy, copyNumber};
 
@@ -24,13 +25,21 @@ fn bit_of(x: u32, k: usize) -> u32
     (x >> k) % 2
 }
 
-// Bit k of a plan's block, past the edition and the count.
-fn task_bit(p: Plan, k: usize) -> u32
-    requires { ⌜ (p .count ≤ 16) × (9 ≤ k) × (k < 1024) ⌝ }
-    ensures { λ r. ⌜ r ≡ getD (planBits (tasksOf p)) k 0 ⌝ }
+// The edition that a plan is written in.
+fn edition_of(p: Plan) -> u32
+    ensures { λ r. ⌜ r ≡ editionOf (tasksOf p) ⌝ }
 {
-    let i = (k - 9) / 36;
-    let r = (k - 9) % 36;
+    1
+}
+
+// Bit k of a plan's block, past the edition and the count.
+fn task_bit(p: Plan, edition: u32, k: usize) -> u32
+    requires { ⌜ (p .count ≤ 16) × (9 ≤ k) × (k < 1024) ⌝ }
+    ensures { λ r. ⌜ r ≡ getD (planBits edition (tasksOf p)) k 0 ⌝ }
+{
+    let width = task_width(edition);
+    let i = (k - 9) / width;
+    let r = (k - 9) % width;
     let count = p.count;
     if count <= i {
         return 0;
@@ -43,42 +52,42 @@ fn task_bit(p: Plan, k: usize) -> u32
 }
 
 // Bit k of a plan's block.
-fn plan_bit(p: Plan, k: usize) -> u32
+fn plan_bit(p: Plan, edition: u32, k: usize) -> u32
     requires { ⌜ (p .count ≤ 16) × (k < 1024) ⌝ }
-    ensures { λ r. ⌜ r ≡ getD (planBits (tasksOf p)) k 0 ⌝ }
+    ensures { λ r. ⌜ r ≡ getD (planBits edition (tasksOf p)) k 0 ⌝ }
 {
     if k < 4 {
-        return bit_of(1, 3 - k);
+        return bit_of(edition, 3 - k);
     }
     if k < 9 {
         return bit_of(p.count as u32, 8 - k);
     }
-    task_bit(p, k)
+    task_bit(p, edition, k)
 }
 
 // Byte j of a plan's block.
-fn plan_byte(p: Plan, j: usize) -> u8
-    requires { ⌜ (p .count ≤ 16) × (j < 74) ⌝ }
-    ensures { λ r. ⌜ r ≡ number 2 8 (drop (8 * j) (planBits (tasksOf p))) ⌝ }
+fn plan_byte(p: Plan, edition: u32, j: usize) -> u8
+    requires { ⌜ (p .count ≤ 16) × (j < 128) ⌝ }
+    ensures { λ r. ⌜ r ≡ number 2 8 (drop (8 * j) (planBits edition (tasksOf p))) ⌝ }
 {
     let mut acc: u32 = 0;
     let mut i: usize = 0;
     while i < 8 {
-        acc = acc * 2 + plan_bit(p, 8 * j + i);
+        acc = acc * 2 + plan_bit(p, edition, 8 * j + i);
         i += 1;
     }
     acc as u8
 }
 
 // Stores the block of a plan.
-fn put_block(p: Plan, buffer: &mut [u8])
-    requires { ⌜ (p .count ≤ 16) × (blockLength (p .count) ≤ length (now buffer)) ⌝ }
+fn put_block(p: Plan, edition: u32, buffer: &mut [u8])
+    requires { ⌜ (p .count ≤ 16) × (edition ≡ editionOf (tasksOf p)) × (blockLength edition (p .count) ≤ length (now buffer)) ⌝ }
     ensures { λ _. ⌜ now (buffer .exit) ≡ storedBy 0 (planBlock (tasksOf p)) (now (buffer .entry)) ⌝ }
 {
-    let n = block_length(p.count);
+    let n = block_length(edition, p.count);
     let mut j: usize = 0;
     while j < n {
-        buffer[j] = plan_byte(p, j);
+        buffer[j] = plan_byte(p, edition, j);
         j += 1;
     }
 }
@@ -100,11 +109,12 @@ pub fn write_over(speeds: &[u32; 8], levels: usize, p: Plan, buffer: &mut [u8]) 
     if let Verdict::Refused(n) = v {
         return Written::Refused(n);
     }
-    let wanted = block_length(count);
+    let edition = edition_of(p);
+    let wanted = block_length(edition, count);
     if buffer.len() < wanted {
         return Written::Refused(9);
     }
-    put_block(p, buffer);
+    put_block(p, edition, buffer);
     Written::Bytes(wanted)
 }
 

@@ -9,7 +9,7 @@ use Rattle.arith.specs.Asking.{within}
 use Rattle.plan.specs.declared.Judged.{Judged}
 use Rattle.plan.specs.declared.Verdict.{Verdict}
 use Rattle.plan.specs.declared.Verdict.the-variants as verdict
-use Rattle.plan.specs.Blocks.{countIn, blockLength}
+use Rattle.plan.specs.Blocks.{editionIn, countIn, blockLength}
 use Rattle.plan.specs.Answers.{readBlock}
 use Rattle.reclaiming.specs.StateBlock.{stateLength}
 use Rattle.reclaiming.specs.declared.Reply.{Reply}
@@ -32,9 +32,16 @@ replyLine clock (reply.Run task level hold) =
 replyLine clock (reply.Idle hold) = decimal clock ++ (32 ∷ idleWord ++ (spaced hold ++ lineEnd))
 replyLine clock (reply.Refused n) = refusedLine n
 
+-- the edition that an input is cut by: one that is not 1 is refused whatever is cut, and is cut as 1
+abbrev pub cutEdition : ℕ → ℕ
+cutEdition edition = pick (eqb edition 1) edition 1
+
 -- 01: "The reader is given as many bytes as the count needs, or all there are if fewer, or if the count is bad."
 abbrev pub planCut : List ℕ → ℕ
-planCut input = pick (within 1 16 (countIn input)) (min (blockLength (countIn input)) (length input)) (length input)
+planCut input =
+    pick (within 1 16 (countIn input))
+    (min (blockLength (cutEdition (editionIn input)) (countIn input)) (length input))
+    (length input)
 
 -- 01: "two bytes each (1 bit finished, 15 bits d)"
 abbrev pub passOf : ℕ → ℕ → Pass

@@ -1,19 +1,19 @@
 -- `block_length` meets its contract.
 -- Assumes nothing.
-use mathlib.Core.Path.{sym}
-use Rattle.plan.proofs.BlockBits.{blockLength-is}
+use native.Mathlib.Omega.{arith}
+use Rattle.plan.proofs.BlockBits.{bitCount-most, blockLength-is}
 use borrow.Author.Needs.{needs}
 use Rattle.plan_reading.proofs.block_length.Statement.{statement}
 use Rattle.plan_reading.proofs.block_length.Tie as tie
 
-mul-result : tie.Need-mul-result
-mul-result c = search needs
+bit-count-requires : tie.Need-bit-count-requires
+bit-count-requires c κs = search needs
 
 add-result : tie.Need-add-result
-add-result c = search needs
+add-result c = omega (arith, c .bit-count .ensures, bitCount-most (c .before .args .edition) (c .before .args .count) (c .before .pre))
 
 returns : tie.Need-returns
-returns c = sym (blockLength-is (c .args .count))
+returns c = omega (arith, c .bit-count .ensures, blockLength-is (c .before .args .edition) (c .before .args .count))
 
 pub block-length-spec : {M : Type 1} → statement M
-block-length-spec = tie.close (tie.spec mul-result add-result returns)
+block-length-spec = tie.close (tie.spec bit-count-requires add-result returns)

@@ -1,6 +1,6 @@
 -- `read_over` meets its contract.
 -- Assumes nothing.
-use mathlib.Core.Path.{sym, _∙_}
+use mathlib.Core.Path.{_∙_}
 use mathlib.Core.List.{List}
 use Prim.Native.Nat.{ℕ}
 use native.Mathlib.Omega.{arith}
@@ -21,17 +21,18 @@ abbrev block : tie.Else1 → List ℕ
 block c = start c .args .block .now
 
 -- the edition and the count are read
-opened : (c : tie.After-bits-at2) → Opened (block (c .before .before .before)) (c .bits-at2 .result)
+opened : (c : tie.After-bits-at2) → Opened (block (c .before .before .before)) (c .before .before .bits-at .result) (c .bits-at2 .result)
 opened c =
     let edition = c .before .before in
     record {
       long = edition .before .if1 .left;
-      edition = sym (edition .bits-at .ensures) ∙ c .before .if2 .left;
+      named = edition .bits-at .ensures;
+      known = c .before .if2 .left;
       counted = c .bits-at2 .ensures;
     }
 
 -- and the count is in its range
-counted : (c : tie.Else4) → Counted (block (c .before .before .before .before .before)) (c .before .before .bits-at2 .result)
+counted : (c : tie.Else4) → Counted (block (c .before .before .before .before .before)) (c .before .before .before .before .bits-at .result) (c .before .before .bits-at2 .result)
 counted c = record { opens = opened (c .before .before); low = c .before .if3 .left; high = c .if4 .left }
 
 refused-requires : tie.Need-refused-requires
@@ -83,7 +84,13 @@ returns-5 c =
     read-size (speeds (start (wanted .before .before .before .before .before .before))) (counted (wanted .before)) (c .refused5 .ensures) (wanted .block-length .ensures) (λ e. omega (arith, c .before .if5 .taken, e))
 
 read-counted-requires : tie.Need-read-counted-requires
-read-counted-requires c κs = search needs
+read-counted-requires c κs =
+    let wanted = c .before in
+    let k = counted (wanted .before) in
+    let o = k .opens in (
+      start (wanted .before .before .before .before .before .before) .pre,
+      ((o .named, o .known, o .counted), (k .low, k .high, c .if5 .left ∙ wanted .block-length .ensures)),
+    )
 
 returns-6 : tie.Need-returns-6
 returns-6 c = search needs

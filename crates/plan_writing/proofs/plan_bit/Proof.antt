@@ -18,7 +18,7 @@ bit-of-requires : tie.Need-bit-of-requires
 bit-of-requires c κs = search needs
 
 returns : tie.Need-returns
-returns c = bit-edition (tasksOf (c .before .before .args .p)) (c .before .if1 .taken) (c .bit-of .ensures)
+returns c = bit-edition (c .before .before .args .edition) (tasksOf (c .before .before .args .p)) (c .before .if1 .taken) (c .bit-of .ensures)
 
 cast-bit-of : tie.Need-cast-bit-of
 cast-bit-of c = search needs
@@ -32,7 +32,7 @@ bit-of-requires-2 c κs = search needs
 returns-2 : tie.Need-returns-2
 returns-2 c =
     let else = c .before .before .before in
-    bit-count (plan (else .before)) (else .if1 .left) (c .before .before .if2 .taken) (c .bit-of2 .ensures)
+    bit-count (plan (else .before)) (else .before .args .edition) (else .if1 .left) (c .before .before .if2 .taken) (c .bit-of2 .ensures)
 
 task-bit-requires : tie.Need-task-bit-requires
 task-bit-requires c κs = search needs

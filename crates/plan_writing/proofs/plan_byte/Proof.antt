@@ -10,17 +10,17 @@ use Rattle.plan_writing.proofs.plan_byte.Statement.{statement}
 use Rattle.plan_writing.proofs.plan_byte.Tie as tie
 
 abbrev Inv-loop : tie.InvT-loop
-Inv-loop p j acc₀ i₀ acc i = (i ≤ 8) × ReadTo 2 (planBits (tasksOf p)) (8 * j) acc i
+Inv-loop p edition j acc₀ i₀ acc i = (i ≤ 8) × ReadTo 2 (planBits edition (tasksOf p)) (8 * j) acc i
 
 abbrev μ-loop : tie.MeasureT-loop
-μ-loop p j acc₀ i₀ acc i = 8 - i
+μ-loop p edition j acc₀ i₀ acc i = 8 - i
 
 -- a bit is 0 or 1
 small : (c : tie.After-plan-bit Inv-loop μ-loop) → c .plan-bit .result < 2
 small c =
     let turn = c .before .before in
     let s = turn .before in
-    omega (arith, planBits-below (tasksOf (s .args .p)) (8 * s .args .j + turn .loop .i))
+    omega (arith, planBits-below (s .args .edition) (tasksOf (s .args .p)) (8 * s .args .j + turn .loop .i))
 
 loop-holds : tie.Need-loop-holds Inv-loop μ-loop
 loop-holds c = (omega arith, record { is = search needs; below = omega arith })

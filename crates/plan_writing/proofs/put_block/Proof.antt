@@ -14,10 +14,10 @@ use Rattle.plan_writing.proofs.put_block.Statement.{statement}
 use Rattle.plan_writing.proofs.put_block.Tie as tie
 
 abbrev Inv-loop : tie.InvT-loop
-Inv-loop p buffer₀ n j₀ buffer j = Stored (planBlock (tasksOf p)) buffer₀ buffer j
+Inv-loop p edition buffer₀ n j₀ buffer j = Stored (planBlock (tasksOf p)) buffer₀ buffer j
 
 abbrev μ-loop : tie.MeasureT-loop
-μ-loop p buffer₀ n j₀ buffer j = n - j
+μ-loop p edition buffer₀ n j₀ buffer j = n - j
 
 plan : (c : tie.Start Inv-loop μ-loop) → Held (c .args .p)
 plan c = record { places = search (length-mapped, needs); most = c .pre .0 }
@@ -27,18 +27,18 @@ start c = c .before .before
 
 -- as many bytes as the block has
 long : (c : tie.After-block-length Inv-loop μ-loop) → c .block-length .result ≡ length (planBlock (tasksOf (start c .args .p)))
-long c = c .block-length .ensures ∙ sym (planBlock-length (plan (start c)))
+long c = c .block-length .ensures ∙ sym (planBlock-length (plan (start c)) (start c .pre .1))
 
 block-length-requires : tie.Need-block-length-requires Inv-loop μ-loop
 block-length-requires c κs = search needs
 
 loop-holds : tie.Need-loop-holds Inv-loop μ-loop
-loop-holds c = stored-none (omega (arith, planBlock-length (plan (start c))))
+loop-holds c = stored-none (omega (arith, planBlock-length (plan (start c)) (start c .pre .1)))
 
 plan-byte-requires : tie.Need-plan-byte-requires Inv-loop μ-loop
 plan-byte-requires c κs =
     let n = c .before .before in
-    omega (arith, n .block-length .ensures, blockLength-most (start n .args .p .count) (plan (start n) .most))
+    omega (arith, n .block-length .ensures, blockLength-most (start n .args .edition) (start n .args .p .count) (plan (start n) .most))
 
 slice-write-buffer : tie.Need-slice-write-buffer Inv-loop μ-loop
 slice-write-buffer c = omega (arith, long (c .before .before .before))
@@ -53,7 +53,7 @@ loop-again : tie.Need-loop-again Inv-loop μ-loop
 loop-again c =
     let turn = c .before .before in
     let n = turn .before in
-    stored-more (turn .loop .inv) (omega (arith, long n)) (planBlock-byte (plan (start n)) (omega (arith, n .block-length .ensures)) (c .plan-byte .ensures))
+    stored-more (turn .loop .inv) (omega (arith, long n)) (planBlock-byte (plan (start n)) (start n .pre .1) (omega (arith, n .block-length .ensures)) (c .plan-byte .ensures))
 
 same-length : tie.Need-same-length Inv-loop μ-loop
 same-length c = c .before .loop .inv .same

@@ -1,27 +1,47 @@
 -- `task_bit` meets its contract.
 -- Assumes nothing.
+use Prim.Native.Nat.{_-_, _/_, _%_, _<_}
+use native.Mathlib.Omega.{arith}
 use borrow.Author.Needs.{needs}
 use Rattle.arith.proofs.Loops.{length-mapped}
+use Rattle.plan.specs.Blocks.{taskWidth}
+use Rattle.plan.proofs.BlockBits.{width-least}
 use Rattle.admission.proofs.Admissions.{Held}
-use Rattle.plan_writing.proofs.WriteLaws.{InTask, bit-past, bit-period, bit-worst}
+use Rattle.plan_writing.proofs.WriteLaws.{AtTask, at-task, rest-below, bit-past, bit-period, bit-worst}
 use Rattle.plan_writing.proofs.task_bit.Statement.{statement}
 use Rattle.plan_writing.proofs.task_bit.Tie as tie
 
 plan : (c : tie.Start) → Held (c .args .t1)
 plan c = record { places = search (length-mapped, needs); most = c .pre .0 }
 
--- the bit stands in a task
-in-task : (c : tie.Else1) → InTask (c .before .args .t1) (c .before .args .k)
-in-task c = record { plan = plan (c .before); low = c .before .pre .1; below = c .if1 .left }
+-- where the bit stands
+place :
+    (c : tie.After-task-width) →
+    AtTask (c .before .args .t1) (c .before .args .edition) (c .before .args .k) ((c .before .args .k - 9) / c .task-width .result) ((c .before .args .k - 9) % c .task-width .result)
+place c =
+    let s = c .before in
+    at-task (plan s) (s .args .edition) (s .args .k) (c .task-width .ensures) (s .pre .1)
+
+within : (c : tie.After-task-width) → (c .before .args .k - 9) % c .task-width .result < taskWidth (c .before .args .edition)
+within c = rest-below (c .before .args .edition) (c .before .args .k - 9) (c .task-width .ensures)
+
+task-width-requires : tie.Need-task-width-requires
+task-width-requires c κs = search needs
 
 sub-i : tie.Need-sub-i
 sub-i c = search needs
 
+div-i : tie.Need-div-i
+div-i c = omega (arith, c .task-width .ensures, width-least (c .before .args .edition))
+
 sub-r : tie.Need-sub-r
 sub-r c = search needs
 
+rem-r : tie.Need-rem-r
+rem-r c = omega (arith, c .task-width .ensures, width-least (c .before .args .edition))
+
 returns : tie.Need-returns
-returns c = bit-past (plan (c .before)) (c .before .pre .1) (c .if1 .taken)
+returns c = bit-past (place (c .before)) (c .if1 .taken)
 
 mul-t : tie.Need-mul-t
 mul-t c = search needs
@@ -36,23 +56,30 @@ bit-of-requires : tie.Need-bit-of-requires
 bit-of-requires c κs = search needs
 
 returns-2 : tie.Need-returns-2
-returns-2 c = bit-period (in-task (c .before .before .before)) (c .before .if2 .taken) (c .bit-of .ensures)
+returns-2 c =
+    let task = c .before .before .before in
+    bit-period (place (task .before)) (task .if1 .left) (c .before .if2 .taken) (c .bit-of .ensures)
 
 sub-bit-of-2 : tie.Need-sub-bit-of-2
-sub-bit-of-2 c = search needs
+sub-bit-of-2 c = omega (arith, within (c .before .before .before))
 
 bit-of-requires-2 : tie.Need-bit-of-requires-2
 bit-of-requires-2 c κs = search needs
 
 returns-3 : tie.Need-returns-3
-returns-3 c = bit-worst (in-task (c .before .before .before)) (c .before .if2 .left) (c .bit-of2 .ensures)
+returns-3 c =
+    let task = c .before .before .before in
+    bit-worst (place (task .before)) (task .if1 .left) (c .before .if2 .left) (within (task .before)) (c .bit-of2 .ensures)
 
 pub task-bit-spec : {M : Type 1} → statement M
 task-bit-spec =
     tie.close
     (tie.spec
+    task-width-requires
     sub-i
+    div-i
     sub-r
+    rem-r
     returns
     mul-t
     element-copy-out-t

@@ -27,7 +27,7 @@ rated c = record { low = c .before .before .if1 .left; high = c .before .if2 .le
 
 -- they are admitted
 abbrev judged : tie.After-block-length → tie.After-verdict-of
-judged c = c .before .before .before
+judged c = c .before .before .before .before
 
 abbrev buffer : tie.After-block-length → List ℕ
 buffer c = start (judged c .before) .args .buffer .now
@@ -35,8 +35,8 @@ buffer c = start (judged c .before) .args .buffer .now
 wanted : (c : tie.After-block-length) → Wanted (speeds (start (judged c .before))) (start (judged c .before) .args .p) (c .block-length .result)
 wanted c =
     record {
-      fine = rated-fine (rated (judged c)) (c .before .enum-told .given .1);
-      wanted = c .block-length .ensures ∙ sym (planBlock-length (plan (judged c .before)));
+      fine = rated-fine (rated (judged c)) (c .before .before .enum-told .given .1);
+      wanted = c .block-length .ensures ∙ sym (planBlock-length (plan (judged c .before)) (c .before .edition-of .ensures));
     }
 
 returns : tie.Need-returns
@@ -62,6 +62,9 @@ returns-3 c =
 
 enum-told : tie.Need-enum-told
 enum-told c = search needs
+
+edition-of-requires : tie.Need-edition-of-requires
+edition-of-requires c κs = search needs
 
 block-length-requires : tie.Need-block-length-requires
 block-length-requires c κs = search needs
@@ -90,6 +93,7 @@ write-over-spec =
     enum-known-v
     returns-3
     enum-told
+    edition-of-requires
     block-length-requires
     returns-4
     put-block-requires
