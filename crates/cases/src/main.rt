@@ -4,6 +4,7 @@ use dispatcher_calls::kilmstra_show;
 use dispatcher_calls::kilmstra_start;
 use plan_calls::kilmstra_plan_copy;
 use plan_calls::kilmstra_plan_read;
+use state::STATE_LENGTH;
 
 // A line: what was asked, and the answer taken apart. A refusal is its number; an order is its kind, task, level and hold.
 fn tell(what: &[u8], answer: u64) {
@@ -27,7 +28,7 @@ fn tell(what: &[u8], answer: u64) {
 
 // "Bench plan at tick 0, passes: 5 finished, 14; 0, 11." A refusal leaves the state, so one state serves both.
 fn at_the_start(block: &[u8]) {
-    let mut state = [0u8; 200];
+    let mut state = [0u8; STATE_LENGTH];
     tell(b"start", kilmstra_start(block, &mut state));
     tell(b"tick 0, 5 finished", kilmstra_pass(&mut state, 5, 1));
     tell(b"tick 0, 0", kilmstra_pass(&mut state, 0, 0));
@@ -41,7 +42,7 @@ fn at_the_start(block: &[u8]) {
 
 // "At tick 18, 2 finished: 13", the levels at ticks 10 and 20 where a scheduler goes astray, and the whole listing's orders.
 fn along_the_listing(block: &[u8]) {
-    let mut state = [0u8; 200];
+    let mut state = [0u8; STATE_LENGTH];
     tell(b"start", kilmstra_start(block, &mut state));
     tell(b"tick 1", kilmstra_pass(&mut state, 1, 1));
     tell(b"tick 8", kilmstra_pass(&mut state, 7, 1));

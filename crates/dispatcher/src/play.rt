@@ -5,6 +5,7 @@ use plan::Written;
 use reclaiming::Reply;
 use showing::show;
 use starting::start;
+use state::STATE_LENGTH;
 ghost use mathlib.Core.Path.{_≡_};
 ghost use mathlib.Core.List.{_++_};
 ghost use lib.ListN.{length, drop};
@@ -68,7 +69,7 @@ pub fn play(block: &[u8], state: &mut [u8], passes: &[u64], replies: &mut [u64])
     if !is_order(first) {
         return reply_number(first);
     }
-    play_all(&mut state[..200], passes, replies);
+    play_all(&mut state[..STATE_LENGTH], passes, replies);
     reply_number(first)
 }
 
@@ -100,6 +101,6 @@ pub fn play_and_show(
             shown: Written::Bytes(0),
         };
     }
-    let shown = show(&state[..200], buffer);
+    let shown = show(&state[..STATE_LENGTH], buffer);
     Played { first, shown }
 }

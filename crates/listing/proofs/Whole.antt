@@ -19,7 +19,7 @@ use Rattle.plan.specs.Levels.{baseSpeeds}
 use Rattle.plan.specs.Blocks.{tasksIn}
 use Rattle.plan.specs.Answers.{verdictAnswer, readBlock}
 use Rattle.reclaiming.specs.declared.Reply.{Reply}
-use Rattle.reclaiming.specs.StateBlock.{timing}
+use Rattle.reclaiming.specs.StateBlock.{timing, stateLength}
 use Rattle.reclaiming.specs.Calls.{startReply, startBuffer}
 use Rattle.reclaiming.specs.Run.{trace, startedBytes, openedBook, linesFrom}
 use Rattle.transcript.specs.Listing.{planLine, replyLine, refusedLine, planCut, passesIn, oddLine, linesText, startedLines, judgedLines, readLines, listing}
@@ -50,12 +50,12 @@ front {m} {r} {text} {whole} {before} {after} p room e =
 -- the lines from the start on
 pub started-is :
     (block passes : List ℕ) {r : Reply} {s : List ℕ} →
-    r ≡ startReply baseSpeeds block 200 →
-    s ≡ startBuffer baseSpeeds block (replicate 200 0) →
-    length s ≡ 200 →
+    r ≡ startReply baseSpeeds block stateLength →
+    s ≡ startBuffer baseSpeeds block (replicate stateLength 0) →
+    length s ≡ stateLength →
     replyLine 0 r ++ passesText (timing baseSpeeds (tasksIn block)) (openedBook r) s passes ≡ startedLines baseSpeeds block passes
 started-is block passes {r} {s} a b size =
-    let begun : s ≡ startedBytes baseSpeeds block (replicate 200 0) = sym (take-all 200 s (omega arith)) ∙ ap (take 200) b in
+    let begun : s ≡ startedBytes baseSpeeds block (replicate stateLength 0) = sym (take-all stateLength s (omega arith)) ∙ ap (take stateLength) b in
     let lines : Reply → List ℕ → List ℕ = λ x y. linesText (linesFrom (timing baseSpeeds (tasksIn block)) (openedBook x) (trace baseSpeeds y (passesIn passes))) in
     sym (append-assoc (replyLine 0 r) (lines r s) (oddLine passes))
     ∙ ap₂ (λ (x : Reply) (y : List ℕ). replyLine 0 x ++ lines x y ++ oddLine passes) a begun

@@ -5,6 +5,7 @@ use lines::reply_line;
 use pass_lines::pass_lines;
 use plan::Verdict;
 use starting::start;
+use state::STATE_LENGTH;
 ghost use mathlib.Core.Path.{_≡_};
 ghost use mathlib.Core.List.{_++_};
 ghost use Prim.Native.Nat.{_+_, _≤_};
@@ -64,7 +65,7 @@ fn started_lines(block: &[u8], passes: &[u8], out: &mut [u8], from: usize) -> us
     requires { ⌜ (length (now passes) ≤ 65536) × (from + 1900000 ≤ length (now out)) ⌝ }
     ensures { λ r. ⌜ Put 1900000 (now (out .entry)) from (startedLines baseSpeeds (now (block .entry)) (now (passes .entry))) r (now (out .exit)) ⌝ }
 {
-    let mut state = [0u8; 200];
+    let mut state = [0u8; STATE_LENGTH];
     let reply = start(block, &mut state);
     let at = reply_line(out, from, 0, reply);
     pass_lines(passes, &mut state, out, at)

@@ -7,6 +7,7 @@ use borrow.Author.Needs.{needs}
 use borrow.Author.Tests.{not-true, not-false}
 use lib.ListN.{length}
 use lib.Seq.{length-take-le}
+use Rattle.reclaiming.specs.StateBlock.{stateLength}
 use Rattle.reclaiming.specs.Run.{Pass}
 use Rattle.reclaiming.specs.Play.{playedPasses}
 use Rattle.reclaiming.proofs.NumberLaws.{start-most}
@@ -44,7 +45,7 @@ begun c = record {
   kept = started c .start .kept .1 .0;
 }
 
-room : (c : tie.Else1) → 200 ≤ length (left (started (c .before)))
+room : (c : tie.Else1) → stateLength ≤ length (left (started (c .before)))
 room c = play-room (begun (c .before)) (not-false _ (c .if1 .left))
 
 start-requires : tie.Need-start-requires
@@ -70,7 +71,7 @@ slice-relend-prefix-play-all : tie.Need-slice-relend-prefix-play-all
 slice-relend-prefix-play-all c = room c
 
 slice-aggregate-play-all : tie.Need-slice-aggregate-play-all
-slice-aggregate-play-all c = sym (length-take-le 200 (left (started (c .before .before))) (room (c .before)))
+slice-aggregate-play-all c = sym (length-take-le stateLength (left (started (c .before .before))) (room (c .before)))
 
 play-all-requires : tie.Need-play-all-requires
 play-all-requires c κs = search needs

@@ -7,6 +7,7 @@ use native.Mathlib.Omega.{arith}
 use borrow.Author.Needs.{needs}
 use lib.ListN.{length}
 use lib.Seq.{length-take-le}
+use Rattle.reclaiming.specs.StateBlock.{stateLength}
 use Rattle.reclaiming.specs.Play.{playedPasses}
 use Rattle.reclaiming.proofs.PlayShown.{Ran, shown-not, shown-room, shown-is}
 use Rattle.dispatcher.proofs.play.play_and_show.Statement.{statement}
@@ -57,7 +58,7 @@ slice-reshare-prefix-show c =
 slice-aggregate-show : tie.Need-slice-aggregate-show
 slice-aggregate-show c =
     let played : tie.After-play = search in
-    sym (length-take-le 200 (state played) (shown-room (ran played) (lent played) (omega arith)))
+    sym (length-take-le stateLength (state played) (shown-room (ran played) (lent played) (omega arith)))
 
 show-requires : tie.Need-show-requires
 show-requires c κs = search needs
