@@ -23,7 +23,7 @@ use Rattle.schedule.specs.PlainSchedule.{Timing, Pending}
 use Rattle.orders.specs.declared.Choice.{Choice}
 use Rattle.reclaiming.specs.declared.Reply.{Reply}
 use Rattle.reclaiming.specs.declared.Reply.the-variants as reply
-use Rattle.reclaiming.specs.StateBlock.{State, remainingOf, restIn, restOf, encode, decode, taskField, levelField, stateCount}
+use Rattle.reclaiming.specs.StateBlock.{State, remainingOf, restIn, restOf, encode, decode, taskField, levelField, stateCount, places}
 use Rattle.reclaiming.specs.Orders.{nextArrival, allowance, lowestLevel, runningTime, holdOf, withOrder, orderFor}
 use Rattle.arith.specs.Ranges.{leastTo}
 use Rattle.state.specs.Code.{Holds, entryIn, headStored, timingIn}
@@ -179,7 +179,7 @@ module _ {levels : ℕ} {b : List ℕ} (k : Runs levels b) where
   standing-below : decode b .task < stateCount b
   standing-below = omega (arith, k .runnable .task (k .some), count-in b)
 
-  pub standing-task : decode b .task < 16
+  pub standing-task : decode b .task < places
   standing-task = omega (arith, standing-below, k .holds .few)
 
   pub standing-level : decode b .level < levels
@@ -217,7 +217,7 @@ module _ {speeds b l : List ℕ} {count clock : ℕ} (k : Timed speeds b l count
 
   -- every deadline is still to come
   pub choose-next :
-      ((count ≤ 16) × (1 ≤ count)) × ((i : ℕ) → i < count → (clock ≤ deadlineIn (getD l i 0)) × (getD l i 0 < noKey))
+      ((count ≤ places) × (1 ≤ count)) × ((i : ℕ) → i < count → (clock ≤ deadlineIn (getD l i 0)) × (getD l i 0 < noKey))
   choose-next = (
     (omega (arith, k .same, k .holds .few), omega (arith, k .same, k .some)),
     λ i h. (

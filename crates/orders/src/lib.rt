@@ -3,6 +3,7 @@ use plan::Rest;
 use reclaiming::Reply;
 use state::LEVEL_AT;
 use state::LEVEL_WIDTH;
+use state::PLACES;
 use state::TASK_AT;
 use state::TASK_WIDTH;
 use state::WORK_AT;
@@ -21,7 +22,7 @@ ghost use lib.ListN.{length};
 ghost use Rattle.plan.specs.Times.{timeOf};
 ghost use Rattle.plan.specs.Levels.{speedOf};
 ghost use Rattle.levels.specs.Code.{loaded, Table};
-ghost use Rattle.reclaiming.specs.StateBlock.{taskField, levelField, stateLength, stateCount, encode, decode};
+ghost use Rattle.reclaiming.specs.StateBlock.{taskField, levelField, stateLength, stateCount, encode, decode, places};
 ghost use Rattle.reclaiming.specs.Orders.{nextArrival, lowestLevel};
 ghost use Rattle.state.specs.Code.{Holds, headStored, timingIn};
 ghost use Rattle.urgency.specs.Code.{Keyed};
@@ -62,7 +63,7 @@ pub fn level_for(
 
 // A run order of task i, with the time that is left of its job.
 fn running_order(speeds: &[u32; 8], levels: usize, i: usize, level: usize, rest: Rest) -> Choice
-    requires { ⌜ Table (now speeds) levels × (i < 16) × (level < levels) × (rest .work < 16777216) ⌝ }
+    requires { ⌜ Table (now speeds) levels × (i < places) × (level < levels) × (rest .work < 16777216) ⌝ }
     ensures { λ r. ⌜ r ≡ runOf (loaded (now (speeds .entry)) levels) i level rest ⌝ }
 {
     let time = times::time_of(speeds[level], rest);
@@ -78,7 +79,7 @@ pub fn chosen(
     speeds: &[u32; 8],
     levels: usize,
     block: &[u8],
-    keys: &[u64; 16],
+    keys: &[u64; PLACES],
     count: usize,
     highest: usize,
 ) -> Choice
@@ -161,7 +162,7 @@ pub fn choose_until(
     speeds: &[u32; 8],
     levels: usize,
     block: &mut [u8],
-    keys: &[u64; 16],
+    keys: &[u64; PLACES],
     highest: usize,
     next: u32,
 ) -> Reply
@@ -182,7 +183,7 @@ pub fn choose(
     speeds: &[u32; 8],
     levels: usize,
     block: &mut [u8],
-    keys: &[u64; 16],
+    keys: &[u64; PLACES],
     highest: usize,
 ) -> Reply
     requires { ⌜ Table (now speeds) levels × Holds (now block) × (1 ≤ stateCount (now block)) × (encode (decode (now block)) ≡ now block) ⌝ }

@@ -25,7 +25,7 @@ use Rattle.orders.specs.declared.Choice.{Choice}
 use Rattle.soundness.specs.declared.Tested.{Tested}
 use Rattle.reclaiming.specs.declared.Reply.{Reply}
 use Rattle.reclaiming.specs.declared.Reply.the-variants as reply
-use Rattle.reclaiming.specs.StateBlock.{State, noEntry, workOf, remainingOf, planIn, timing, encode, decode, stateCount}
+use Rattle.reclaiming.specs.StateBlock.{State, noEntry, workOf, remainingOf, planIn, timing, encode, decode, stateCount, places}
 use Rattle.reclaiming.specs.Orders.{nextArrival, holdOf, chooseOrder, orderWith}
 use Rattle.arith.specs.Ranges.{someTo}
 use Rattle.reclaiming.specs.Passes.{arrivesAt, movedState, choosesAnew, passedState}
@@ -142,7 +142,7 @@ module _ {s : State} {d : ℕ} {finished : Bool} (k : Letting s d finished) wher
       (pick b (holdOf baseSpeeds τ (pick b (chooseOrder baseSpeeds τ moved) moved)) (holdOf baseSpeeds τ s - d))
 
   -- a pass leaves as many entries
-  passed-few : length (passedState baseSpeeds τ s d finished .entries) ≤ 16
+  passed-few : length (passedState baseSpeeds τ s d finished .entries) ≤ places
   passed-few =
       omega (arith, ap length (passed-entries baseSpeeds τ s d finished), moved-count, entries-few s (k .ok))
 
@@ -269,7 +269,7 @@ module _ {bytes keys : List ℕ} {highest next d : ℕ} {finished : Bool} {c : C
       (λ i h.
       let w : i < stateCount m = omega (arith, same-count, length-planIn start) in
       ap (λ (l : List ℕ). getD l i 0) e
-      ∙ value-at 16 0 count (λ j. pick (dueAt keys clock j) (keyOf (clock + entryIn m j .period) (entryIn m j .period) j) (getD keys j 0)) i (omega (arith, n))
+      ∙ value-at places 0 count (λ j. pick (dueAt keys clock j) (keyOf (clock + entryIn m j .period) (entryIn m j .period) j) (getD keys j 0)) i (omega (arith, n))
       ∙ ap₂ (λ (x y : ℕ). pick (dueAt keys x i) (keyOf (x + y) y i) (getD keys i 0)) (t ∙ clock-then) (period-then i w)))
 
   -- before the next arrival its keys are the old ones, and the arrival is d ticks nearer

@@ -9,6 +9,7 @@ use orders::standing;
 use pass_questions::pass_number;
 use reclaiming::Reply;
 use soundness::test_block;
+use state::PLACES;
 use state::clock_at;
 use state::count_at;
 use ticks::move_on;
@@ -43,7 +44,7 @@ fn chooses_anew(block: &[u8], next: u32, d: u32, finished: bool) -> bool
 // A pass that the questions let through: the state after it, and its order.
 fn passed(
     block: &mut [u8],
-    keys: &[u64; 16],
+    keys: &[u64; PLACES],
     c: Choice,
     highest: usize,
     next: u32,

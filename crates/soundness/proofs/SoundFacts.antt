@@ -16,7 +16,7 @@ use Rattle.plan.specs.Questions.{taskQuestions}
 use Rattle.plan.proofs.Facts.{FineList, InRange, tasks-yes}
 use Rattle.state.specs.Code.{Holds}
 use Rattle.schedule.specs.PlainSchedule.{Timing}
-use Rattle.reclaiming.specs.StateBlock.{State, noEntry, taskOf, workOf, remainingOf, planIn, timing, encode, decode, laidOut, stateLength, stateCount}
+use Rattle.reclaiming.specs.StateBlock.{State, noEntry, taskOf, workOf, remainingOf, planIn, timing, encode, decode, laidOut, stateLength, stateCount, places}
 use Rattle.reclaiming.specs.Orders.{nextArrival}
 use Rattle.reclaiming.specs.Questions.{inTime, sound, stateSound}
 use Rattle.orders.specs.Code.{Runnable}
@@ -37,7 +37,7 @@ module _ (speeds : List ℕ) (rising : Rising speeds) (s : State) (ok : stateSou
   pub sound-facts : Fine speeds (planIn s) s
   sound-facts = sound-fine speeds s ok .1
 
-  pub entries-few : length (s .entries) ≤ 16
+  pub entries-few : length (s .entries) ≤ places
   entries-few = omega (arith, sound-plan .count-high, length-planIn s)
 
   entries-some : 1 ≤ length (s .entries)

@@ -71,8 +71,8 @@ module _ {b : List ℕ} {count : ℕ} {p : Plan} {i : ℕ} (now : Copying b coun
   copy-all h =
       filled-all (now .filled) (omega (arith, all)) h ∙ ap planOf (take-all count (planIn (decode b)) (omega (arith, all)))
 
-pub plan-few : {b : List ℕ} → Holds b → {p : Plan} → p ≡ planOf (planIn (decode b)) → p .count ≤ 16
-plan-few {b} holds e = subst (λ (q : Plan). q .count ≤ 16) (sym e) (omega (arith, holds .few, timing-count b))
+pub plan-few : {b : List ℕ} → Holds b → {p : Plan} → p ≡ planOf (planIn (decode b)) → p .count ≤ places
+plan-few {b} holds e = subst (λ (q : Plan). q .count ≤ places) (sym e) (omega (arith, holds .few, timing-count b))
 
 -- what is left of an entry's job, and a whole job of its task, as they are read, at a speed
 pub record Compared (b : List ℕ) (i speed : ℕ) (rest full : Rest) : Type 0 where
@@ -270,11 +270,11 @@ module _ (speeds b : List ℕ) (yes-all : firstNo (taskQuestions speeds (planIn 
   -- the keys that are found are those of its latest jobs
   keyed-in : stateCount b ≤ places → decode b .clock ≤ largestClock → Keyed (timingIn speeds b) (decode b .clock) (keysIn b (stateCount b) (decode b .clock))
   keyed-in few le = record {
-    few = subst (λ (n : ℕ). n ≤ 16) (sym (timing-count b)) few;
+    few = subst (λ (n : ℕ). n ≤ places) (sym (timing-count b)) few;
     low = λ i h. subst (λ (n : ℕ). 1 ≤ n) (sym (period-is b i (below i h))) (periods-in i (below i h) .0);
     high = λ i h. subst (λ (n : ℕ). n ≤ 65535) (sym (period-is b i (below i h))) (periods-in i (below i h) .1);
     in-range = le;
-    each = λ i h. value-at 16 0 (stateCount b) (λ k. latestKey (decode b .clock) (entryIn b k .period) k) i (below i h)
+    each = λ i h. value-at places 0 (stateCount b) (λ k. latestKey (decode b .clock) (entryIn b k .period) k) i (below i h)
         ∙ ap (λ (p : ℕ). latestKey (decode b .clock) p i) (sym (period-is b i (below i h)));
   }
     where

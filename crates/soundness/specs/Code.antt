@@ -7,7 +7,7 @@ use mathlib.Core.List.{List}
 use lib.ListN.{replicate}
 use Rattle.arith.specs.Choice.{both}
 use Rattle.plan.specs.Levels.{nominal}
-use Rattle.reclaiming.specs.StateBlock.{State, stateCount, decode, planIn}
+use Rattle.reclaiming.specs.StateBlock.{State, stateCount, decode, planIn, places}
 use Rattle.reclaiming.specs.Orders.{openJobs}
 use Rattle.reclaiming.specs.Questions.{inTime, orderSound, stateSound, sound}
 use Rattle.state.specs.Code.{Holds, timingIn}
@@ -31,7 +31,7 @@ timedSound speeds s = both (inTime (s .clock)) (stateSound speeds s)
 
 -- what testing a block finds: that it is sound, its nominal level and its keys; or that it is not, and zeros
 abbrev pub testedBy : List ℕ → Bool → List ℕ → Tested
-testedBy speeds false bytes = record { sound = false; nominal = 0; keys = replicate 16 0 }
+testedBy speeds false bytes = record { sound = false; nominal = 0; keys = replicate places 0 }
 testedBy speeds true bytes = record {
   sound = true;
   nominal = nominal speeds (planIn (decode bytes));

@@ -40,7 +40,7 @@ ghost use Rattle.soundness.specs.Code.{orderIn, timedSound, testedBy};
 pub struct Tested {
     pub sound: bool,
     pub nominal: usize,
-    pub keys: [u64; 16],
+    pub keys: [u64; PLACES],
 }
 
 // The plan in a block.
@@ -96,7 +96,7 @@ fn order_sound(
     speeds: &[u32; 8],
     levels: usize,
     block: &[u8],
-    keys: &[u64; 16],
+    keys: &[u64; PLACES],
     count: usize,
     highest: usize,
 ) -> bool
@@ -131,7 +131,7 @@ fn not_sound() -> Tested
     Tested {
         sound: false,
         nominal: 0,
-        keys: [0; 16],
+        keys: [0; PLACES],
     }
 }
 

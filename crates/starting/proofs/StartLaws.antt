@@ -29,7 +29,7 @@ use Rattle.schedule.specs.PlainSchedule.{Timing}
 use Rattle.reclaiming.specs.declared.Entry.{Entry}
 use Rattle.reclaiming.specs.declared.Reply.{Reply}
 use Rattle.reclaiming.specs.declared.Reply.the-variants as reply
-use Rattle.reclaiming.specs.StateBlock.{State, noEntry, workOf, remainingOf, taskOf, timingAt, timing, planIn, taskField, countField, stateLength, stateCount, encode, decode}
+use Rattle.reclaiming.specs.StateBlock.{State, noEntry, workOf, remainingOf, taskOf, timingAt, timing, planIn, taskField, countField, stateLength, stateCount, encode, decode, places}
 use Rattle.reclaiming.specs.Orders.{chooseOrder, holdOf, orderWith}
 use Rattle.reclaiming.specs.Passes.{newEntry, startState}
 use Rattle.reclaiming.specs.Calls.{repliedBy, startNumber, startOrder}
@@ -253,7 +253,7 @@ module _ {ts : List Task} {image : List ℕ} (new : Newly ts image) where
       in-range = omega arith;
       each = λ i h.
           ap (λ (l : List ℕ). getD l i 0) found
-          ∙ value-at 16 0 count (λ j. latestKey 0 (entryIn image j .period) j) i (omega arith)
+          ∙ value-at places 0 count (λ j. latestKey 0 (entryIn image j .period) j) i (omega arith)
           ∙ ap (λ (e : Entry). latestKey 0 (e .period) i) (new-in i h);
     }
 

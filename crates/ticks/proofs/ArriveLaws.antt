@@ -14,7 +14,7 @@ use Rattle.arith.specs.Choice.{pick}
 use Rattle.arith.specs.Need.{need}
 use Rattle.plan.specs.Levels.{baseSpeeds, speedOf}
 use Rattle.orders.specs.declared.Choice.{Choice}
-use Rattle.reclaiming.specs.StateBlock.{State, noEntry, workOf, remainingOf, encode, workField, remainingField, stateLength}
+use Rattle.reclaiming.specs.StateBlock.{State, noEntry, workOf, remainingOf, encode, workField, remainingField, stateLength, places}
 use Rattle.reclaiming.specs.Passes.{workedOf}
 use Rattle.state.specs.Code.{entryIn, changed, withJobs, entryStored}
 use Rattle.urgency.specs.Code.{keyOf, deadlineIn, dueAt}
@@ -30,7 +30,7 @@ Works b c d finished m =
     b ≡ encode s →
     c .task ≡ s .task →
     c .level ≡ s .level →
-    length (s .entries) ≤ 16 →
+    length (s .entries) ≤ places →
     ((s .task ≡ 255 → ⊥) → (s .task < length (s .entries)) × (workOf s (s .task) ≤ 16777215)) →
     m ≡ encode (withJobs s (workedOf baseSpeeds s d finished) (remainingOf s))
 
@@ -53,7 +53,7 @@ pub record Running (b : List ℕ) (c : Choice) (d : ℕ) (finished : Bool) : Typ
   pub size : length b ≡ stateLength
   pub short : d ≤ 65535
   pub some : c .task ≡ 255 → ⊥
-  pub task : c .task < 16
+  pub task : c .task < places
   pub level : c .level < 8
 
 module _ {b : List ℕ} {c : Choice} {d : ℕ} {finished : Bool} (k : Running b c d finished) where
@@ -199,7 +199,7 @@ leftTo keys clock speed s = upTo (newLeft keys clock speed s) (remainingOf s)
 -- the bytes on the way to that
 pub record Arriving (keys : List ℕ) (count clock speed : ℕ) (b m : List ℕ) (i : ℕ) : Type 0 where
   pub size : length m ≡ stateLength
-  pub few : count ≤ 16
+  pub few : count ≤ places
   pub below : i ≤ count
   pub so-far :
       (s : State) →
@@ -208,7 +208,7 @@ pub record Arriving (keys : List ℕ) (count clock speed : ℕ) (b m : List ℕ)
       ((i : ℕ) → i < count → getD (s .entries) i noEntry .worst ≤ 16777215) →
       m ≡ encode (withJobs s (workTo keys clock s i) (leftTo keys clock speed s i))
 
-pub arrive-none : {keys : List ℕ} {count clock speed : ℕ} {b : List ℕ} → length b ≡ stateLength → count ≤ 16 → Arriving keys count clock speed b b 0
+pub arrive-none : {keys : List ℕ} {count clock speed : ℕ} {b : List ℕ} → length b ≡ stateLength → count ≤ places → Arriving keys count clock speed b b 0
 arrive-none {keys} {count} {clock} {speed} h few = record {
   size = h;
   few = few;
@@ -297,7 +297,7 @@ arrives-not keys count clock speed none b s e n r =
 
 -- the keys of the tasks below n are made
 pub record Renewing (b keys : List ℕ) (count clock : ℕ) (r : List ℕ) (n : ℕ) : Type 0 where
-  pub few : count ≤ 16
+  pub few : count ≤ places
   pub below : n ≤ count
   pub so-far : r ≡ renewedKeys b keys n clock
 
@@ -319,7 +319,7 @@ module _ {b keys : List ℕ} {count clock : ℕ} {r : List ℕ} {n : ℕ} (now :
     renewed-more key g e = record {
       few = now .few;
       below = omega arith;
-      so-far = g ∙ values-more 16 0 keyAfter r n key (omega arith) (now .so-far) e;
+      so-far = g ∙ values-more places 0 keyAfter r n key (omega arith) (now .so-far) e;
     }
 
     -- task n's job stays

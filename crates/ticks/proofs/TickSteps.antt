@@ -15,7 +15,7 @@ use Rattle.plan.specs.Blocks.{noTask}
 use Rattle.schedule.specs.PlainSchedule.{Timing}
 use Rattle.reclaiming.specs.declared.Entry.{Entry}
 use Rattle.orders.specs.declared.Choice.{Choice}
-use Rattle.reclaiming.specs.StateBlock.{State, noEntry, taskOf, workOf, remainingOf, planIn, timing, encode, decode, clockField, stateCount}
+use Rattle.reclaiming.specs.StateBlock.{State, noEntry, taskOf, workOf, remainingOf, planIn, timing, encode, decode, clockField, stateCount, places}
 use Rattle.reclaiming.specs.Orders.{nextArrival}
 use Rattle.reclaiming.specs.Passes.{newEntry, drainedOf, workedOf, arrivesAt, agedEntry, entryAfter, movedState}
 use Rattle.arith.specs.Ranges.{listTo}
@@ -162,7 +162,7 @@ module _ {bytes keys : List ℕ} {highest d : ℕ} {c : Choice} {count : ℕ} (k
   pub moving-short : d ≤ 65535
   moving-short = ticks-short (decode bytes) ok d (k .step .within)
 
-  pub moving-few : count ≤ 16
+  pub moving-few : count ≤ places
   moving-few = omega (arith, k .same, k .step .good .holds .few)
 
   pub order-task : c .task ≡ decode bytes .task
@@ -171,7 +171,7 @@ module _ {bytes keys : List ℕ} {highest d : ℕ} {c : Choice} {count : ℕ} (k
   pub order-level : c .level ≡ decode bytes .level
   order-level = ap (λ (x : Choice). x .level) (k .order)
 
-  pub order-form : (c .task ≡ 255 → ⊥) → (c .task < 16) × (c .level < 8)
+  pub order-form : (c .task ≡ 255 → ⊥) → (c .task < places) × (c .level < 8)
   order-form ne =
       let r : Runnable (decode bytes) = runnable (decode bytes) ok in
       let some : decode bytes .task ≡ 255 → ⊥ = λ e. ne (order-task ∙ e) in

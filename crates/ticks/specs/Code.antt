@@ -7,7 +7,7 @@ use Rattle.arith.specs.Choice.{pick}
 use Rattle.arith.specs.Need.{need}
 use Rattle.arith.specs.Ranges.{listTo}
 use Rattle.arith.specs.Arrays.{padded}
-use Rattle.reclaiming.specs.StateBlock.{State, noEntry, workOf, remainingOf, decode}
+use Rattle.reclaiming.specs.StateBlock.{State, noEntry, workOf, remainingOf, decode, places}
 use Rattle.reclaiming.specs.Orders.{nextArrival}
 use Rattle.reclaiming.specs.Questions.{largestClock}
 use Rattle.state.specs.Code.{entryIn, timingIn, withJobs}
@@ -31,6 +31,6 @@ arrivedState keys clock speed s =
 -- the keys of the first so many tasks at a clock, where each task whose deadline is there has a new job; zeros past them
 abbrev pub renewedKeys : List ℕ → List ℕ → ℕ → ℕ → List ℕ
 renewedKeys bytes keys count clock =
-    padded 16 0
+    padded places 0
     (listTo count
     (λ i. pick (dueAt keys clock i) (keyOf (clock + entryIn bytes i .period) (entryIn bytes i .period) i) (getD keys i 0)))

@@ -3,6 +3,7 @@ use clock::Clock;
 use orders::Choice;
 use state::CLOCK_AT;
 use state::CLOCK_WIDTH;
+use state::PLACES;
 use state::REMAINING_AT;
 use state::REMAINING_WIDTH;
 use state::clock_at;
@@ -49,7 +50,7 @@ fn take_from(block: &mut [u8], i: usize, ticks: u32) -> u32
 }
 
 // Takes d ticks from the queue, most urgent entry first.
-fn drain(block: &mut [u8], keys: &[u64; 16], count: usize, d: u32)
+fn drain(block: &mut [u8], keys: &[u64; PLACES], count: usize, d: u32)
     requires { ⌜ (count ≤ places) × (length (now block) ≡ stateLength) ⌝ }
     requires { ⌜ ((i : ℕ) → i < count → (getD (now keys) i 0 % 16 ≡ i) × (getD (now keys) i 0 < noKey)) ⌝ }
     ensures { λ _. ⌜ ((s : State) → now (block .entry) ≡ encode s → length (s .entries) ≡ count → ((i : ℕ) → i < count → remainingOf s i ≤ 65535) → now (block .exit) ≡ encode (withJobs s (workOf s) (drainedBy (now (keys .entry)) (remainingOf s) count d))) ⌝ }
@@ -77,7 +78,7 @@ fn less(a: u32, b: u32) -> u32
 // The running job's work falls by d ticks at its level, or is 0 if it finished.
 fn work_off(block: &mut [u8], c: Choice, d: u32, finished: bool)
     requires { ⌜ (length (now block) ≡ stateLength) × (d ≤ 65535) × ((c .task ≡ 255 → ⊥) → (c .task < places) × (c .level < 8)) ⌝ }
-    ensures { λ _. ⌜ ((s : State) → now (block .entry) ≡ encode s → c .task ≡ s .task → c .level ≡ s .level → length (s .entries) ≤ 16 → ((s .task ≡ 255 → ⊥) → (s .task < length (s .entries)) × (workOf s (s .task) ≤ 16777215)) → now (block .exit) ≡ encode (withJobs s (workedOf baseSpeeds s d finished) (remainingOf s))) ⌝ }
+    ensures { λ _. ⌜ ((s : State) → now (block .entry) ≡ encode s → c .task ≡ s .task → c .level ≡ s .level → length (s .entries) ≤ places → ((s .task ≡ 255 → ⊥) → (s .task < length (s .entries)) × (workOf s (s .task) ≤ 16777215)) → now (block .exit) ≡ encode (withJobs s (workedOf baseSpeeds s d finished) (remainingOf s))) ⌝ }
 {
     if c.task == 255 {
         return;
@@ -103,7 +104,7 @@ fn renew(block: &mut [u8], i: usize, speed: u32)
 }
 
 // Gives each task whose deadline is the clock a new job.
-fn arrive(block: &mut [u8], keys: &[u64; 16], count: usize, clock: u32, speed: u32)
+fn arrive(block: &mut [u8], keys: &[u64; PLACES], count: usize, clock: u32, speed: u32)
     requires { ⌜ (count ≤ places) × (length (now block) ≡ stateLength) × (0 < speed) ⌝ }
     requires { ⌜ ((i : ℕ) → i < count → getD (now keys) i 0 < noKey) ⌝ }
     ensures { λ _. ⌜ ((s : State) → now (block .entry) ≡ encode s → length (s .entries) ≡ count → ((i : ℕ) → i < count → getD (s .entries) i noEntry .worst ≤ 16777215) → now (block .exit) ≡ encode (arrivedState (now (keys .entry)) clock speed s)) ⌝ }
@@ -118,7 +119,14 @@ fn arrive(block: &mut [u8], keys: &[u64; 16], count: usize, clock: u32, speed: u
 }
 
 // The same where it is known whether some deadline is the clock.
-fn arrive_if(block: &mut [u8], keys: &[u64; 16], count: usize, clock: u32, speed: u32, some: bool)
+fn arrive_if(
+    block: &mut [u8],
+    keys: &[u64; PLACES],
+    count: usize,
+    clock: u32,
+    speed: u32,
+    some: bool,
+)
     requires { ⌜ (count ≤ places) × (length (now block) ≡ stateLength) × (0 < speed) ⌝ }
     requires { ⌜ ((i : ℕ) → i < count → getD (now keys) i 0 < noKey) × (some ≡ false → (i : ℕ) → i < count → dueAt (now keys) clock i ≡ false) ⌝ }
     ensures { λ _. ⌜ ((s : State) → now (block .entry) ≡ encode s → length (s .entries) ≡ count → ((i : ℕ) → i < count → getD (s .entries) i noEntry .worst ≤ 16777215) → now (block .exit) ≡ encode (arrivedState (now (keys .entry)) clock speed s)) ⌝ }
@@ -129,12 +137,12 @@ fn arrive_if(block: &mut [u8], keys: &[u64; 16], count: usize, clock: u32, speed
 }
 
 // The keys at a clock where each task whose deadline is there has a new job.
-pub fn renewed(block: &[u8], keys: &[u64; 16], count: usize, clock: u32) -> [u64; 16]
+pub fn renewed(block: &[u8], keys: &[u64; PLACES], count: usize, clock: u32) -> [u64; PLACES]
     requires { ⌜ (count ≤ places) × (length (now block) ≡ stateLength) × (clock ≤ largestClock) ⌝ }
     requires { ⌜ ((i : ℕ) → i < count → getD (now keys) i 0 < noKey) ⌝ }
     ensures { λ r. ⌜ r ≡ renewedKeys (now (block .entry)) (now (keys .entry)) count clock ⌝ }
 {
-    let mut r = [0u64; 16];
+    let mut r = [0u64; PLACES];
     let mut i: usize = 0;
     while i < count {
         let key = keys[i];
@@ -151,7 +159,7 @@ pub fn renewed(block: &[u8], keys: &[u64; 16], count: usize, clock: u32) -> [u64
 // Moves a state on by d ticks, before an order is chosen.
 pub fn move_on(
     block: &mut [u8],
-    keys: &[u64; 16],
+    keys: &[u64; PLACES],
     c: Choice,
     highest: usize,
     next: u32,

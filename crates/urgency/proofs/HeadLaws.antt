@@ -13,7 +13,7 @@ use Rattle.plan.specs.declared.Rest.{Rest}
 use Rattle.plan.specs.Blocks.{noTask}
 use Rattle.schedule.specs.PlainSchedule.{Timing, Pending}
 use Rattle.reclaiming.specs.declared.Entry.{Entry}
-use Rattle.reclaiming.specs.StateBlock.{State, workOf, remainingOf, restIn, restOf, taskOf, planIn, workField, stateCount, decode}
+use Rattle.reclaiming.specs.StateBlock.{State, workOf, remainingOf, restIn, restOf, taskOf, planIn, workField, stateCount, decode, places}
 use Rattle.reclaiming.specs.Orders.{allowance, openJobs}
 use Rattle.state.specs.Code.{Holds, entryIn, timingIn, numberIn}
 use Rattle.urgency.specs.Code.{Keyed, noKey, leastKey, allowedBy}
@@ -100,7 +100,7 @@ module _ {speeds b l : List ℕ} {count best i : ℕ} (k : Told speeds b l count
   pub first-open : Head speeds b l best i
   first-open = head (k .looked) (k .some) (k .task)
 
-  pub told-task : i < 16
+  pub told-task : i < places
   told-task = omega (arith, first-open .below, k .looked .holds .few)
 
 -- what is left of it and its allowance were read

@@ -20,7 +20,7 @@ use Rattle.schedule.specs.PlainSchedule.{Timing, Job, Pending, moreUrgent, enqu
 use Rattle.schedule.specs.Feasibility.{In}
 use Rattle.schedule.proofs.QueueLaws.{latestPending, Stands, queueOf-in}
 use Rattle.schedule.proofs.Ahead.{left-drain}
-use Rattle.reclaiming.specs.StateBlock.{State, remainingOf}
+use Rattle.reclaiming.specs.StateBlock.{State, remainingOf, places}
 use Rattle.reclaiming.specs.Orders.{nextArrival, allowance}
 use Rattle.arith.specs.Ranges.{leastTo}
 use Rattle.reclaiming.specs.Passes.{drainedOf, arrivesAt}
@@ -38,7 +38,7 @@ abbrev pub queueTasks : List Pending → List ℕ
 queueTasks q = map (λ (e : Pending). e .job .task) q
 
 -- the parts of a key
-module _ (due p i : ℕ) (h : i < 16) where
+module _ (due p i : ℕ) (h : i < places) where
   pub task-of-key : keyOf due p i % 16 ≡ i
   task-of-key = omega arith
 
@@ -47,7 +47,7 @@ module _ (due p i : ℕ) (h : i < 16) where
 
 -- the order of keys is that of deadlines, of arrivals and of tasks
 order-is :
-    (a p i b q j x y : ℕ) → p ≤ 65535 → q ≤ 65535 → i < 16 → j < 16 →
+    (a p i b q j x y : ℕ) → p ≤ 65535 → q ≤ 65535 → i < places → j < places →
     x ≡ keyOf (a + p) p i →
     y ≡ keyOf (b + q) q j →
     ltb x y ≡ lex (a + p) (b + q) (lex a b (ltb i j))

@@ -13,15 +13,16 @@ use lib.ListN.{length, getD, set, length-set}
 use Rattle.arith.specs.Choice.{pick}
 use Rattle.arith.proofs.ArrayLaws.{values-more}
 use Rattle.arith.specs.Ranges.{leastTo}
+use Rattle.reclaiming.specs.StateBlock.{places}
 use Rattle.state.specs.Code.{entryIn}
 use Rattle.urgency.specs.Code.{keyOf, noKey, deadlineIn, latestKey, keysIn, leastKey, allowedBy}
 use Rattle.arith.proofs.RangeLaws.{Attained, least-at}
 
 -- the keys of the first i tasks are filled in
 pub record KeysTo (block : List ℕ) (count clock : ℕ) (keys : List ℕ) (i : ℕ) : Type 0 where
-  pub few : count ≤ 16
+  pub few : count ≤ places
   pub below : i ≤ count
-  pub size : length keys ≡ 16
+  pub size : length keys ≡ places
   pub filled : keys ≡ keysIn block i clock
 
 module _ {block : List ℕ} {count clock : ℕ} {keys : List ℕ} {i : ℕ} (so-far : KeysTo block count clock keys i) where
@@ -32,7 +33,7 @@ module _ {block : List ℕ} {count clock : ℕ} {keys : List ℕ} {i : ℕ} (so-
     below = omega arith;
     size = length-set keys i x ∙ so-far .size;
     filled =
-        values-more 16 0 (λ k. latestKey clock (entryIn block k .period) k) keys i x (omega (arith, so-far .few)) (so-far .filled)
+        values-more places 0 (λ k. latestKey clock (entryIn block k .period) k) keys i x (omega (arith, so-far .few)) (so-far .filled)
         (f ∙ ap (λ (y : ℕ). latestKey clock y i) e);
   }
 
@@ -92,7 +93,7 @@ module _ {keys : List ℕ} {left : ℕ → ℕ} {count key sum j : ℕ} (so-far 
       ap (λ (b : Bool). pick {A = ℕ} b 0 (left j)) (sym (lt-ltb key (getD keys j 0) lt)) in
       record { below = omega arith; total = rw add-one (omega (arith, so-far .total)); small = omega (arith, so-far .small) }
 
-  pub allowed-all : count ≤ 16 → count ≤ j → (sum ≡ allowedBy keys left count key) × (sum ≤ 1048560)
+  pub allowed-all : count ≤ places → count ≤ j → (sum ≡ allowedBy keys left count key) × (sum ≤ 1048560)
   allowed-all few h =
       let e : j ≡ count = omega (arith, so-far .below) in
       (so-far .total ∙ ap (λ (n : ℕ). allowedBy keys left n key) e, omega (arith, so-far .small))

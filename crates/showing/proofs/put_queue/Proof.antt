@@ -5,6 +5,7 @@ use mathlib.Core.Path.{_≡_, refl}
 use native.Mathlib.Omega.{arith}
 use borrow.Author.Needs.{needs}
 use lib.ListN.{length, getD, length-set}
+use Rattle.reclaiming.specs.StateBlock.{places}
 use Rattle.state.proofs.BlockLaws.{remainingIn}
 use Rattle.showing.proofs.ShowLaws.{ShownTo, shown-more, shown-all}
 use Rattle.showing.proofs.put_queue.Statement.{statement}
@@ -19,10 +20,10 @@ abbrev μ-loop : tie.MeasureT-loop
 abbrev start : tie.In-loop Inv-loop μ-loop → tie.Start Inv-loop μ-loop
 start c = c .before .before .before .before
 
-size : (c : tie.Start Inv-loop μ-loop) → length (c .args .t3 .tasks) ≡ 16
+size : (c : tie.Start Inv-loop μ-loop) → length (c .args .t3 .tasks) ≡ places
 size c = search needs
 
-below : (c : tie.In-loop Inv-loop μ-loop) → getD (start c .args .t3 .tasks) (c .before .loop .k) 0 < 16
+below : (c : tie.In-loop Inv-loop μ-loop) → getD (start c .args .t3 .tasks) (c .before .loop .k) 0 < places
 below c = start c .pre .1 (c .before .loop .k) (c .loop-test .taken)
 
 loop-holds : tie.Need-loop-holds Inv-loop μ-loop

@@ -4,6 +4,7 @@ use Prim.Native.Nat.{_<_, _-_}
 use mathlib.Core.Path.{refl}
 use native.Mathlib.Omega.{arith}
 use borrow.Author.Tests.{not-true, not-false}
+use Rattle.reclaiming.specs.StateBlock.{places}
 use Rattle.soundness.proofs.SoundLaws.{Testing, entries-again, entries-stop, entries-end}
 use Rattle.soundness.proofs.entries_sound.Statement.{statement}
 use Rattle.soundness.proofs.entries_sound.Tie as tie
@@ -18,7 +19,7 @@ abbrev start : tie.At-loop Inv-loop μ-loop → tie.Start Inv-loop μ-loop
 start c = c .before .before
 
 -- a turn: the task's number is below 16
-turn-few : (c : tie.In-loop Inv-loop μ-loop) → c .before .loop .i < 16
+turn-few : (c : tie.In-loop Inv-loop μ-loop) → c .before .loop .i < places
 turn-few c = omega (arith, c .loop-test .taken, c .before .loop .inv .same, c .before .loop .inv .holds .few)
 
 loop-holds : tie.Need-loop-holds Inv-loop μ-loop

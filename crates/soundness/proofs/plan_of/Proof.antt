@@ -5,6 +5,7 @@ use mathlib.Core.Path.{refl, ap}
 use native.Mathlib.Omega.{arith}
 use borrow.Author.Needs.{needs}
 use Rattle.plan.specs.declared.Plan.{Plan}
+use Rattle.reclaiming.specs.StateBlock.{places}
 use Rattle.soundness.proofs.SoundLaws.{Copying, copy-more, copy-all}
 use Rattle.soundness.proofs.plan_of.Statement.{statement}
 use Rattle.soundness.proofs.plan_of.Tie as tie
@@ -28,7 +29,7 @@ loop-holds c =
     }
 
 -- a turn: the task's number is below 16
-turn-few : (c : tie.In-loop Inv-loop μ-loop) → c .before .loop .i < 16
+turn-few : (c : tie.In-loop Inv-loop μ-loop) → c .before .loop .i < places
 turn-few c = omega (arith, c .loop-test .taken, c .before .loop .inv .holds .few, c .before .loop .inv .same)
 
 task-at-requires : tie.Need-task-at-requires Inv-loop μ-loop
