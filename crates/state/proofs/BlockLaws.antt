@@ -80,6 +80,10 @@ pub field-remaining :
     (bytes : List ℕ) (i : ℕ) → numberIn bytes remainingField i ≡ entryIn bytes i .remaining
 field-remaining bytes i = field-in bytes remainingField i
 
+-- bytes past a place are bytes
+pub bytes-past : (at : ℕ) (l : List ℕ) → ((k : ℕ) → getD l k 0 < 256) → (k : ℕ) → getD (drop at l) k 0 < 256
+bytes-past at l b k = subst (λ (x : ℕ). x < 256) (sym (getD-drop at l k 0)) (b (at + k))
+
 -- what is read there is in its range
 pub field-read :
     (bytes : List ℕ) (i k : ℕ) {r : ℕ} →
@@ -90,7 +94,7 @@ field-read bytes i k b h =
     let at : ℕ = fieldPlace k + entryLength * i in
     let n : ℕ = widthOf entryFields k in
     let fits : number 256 n (drop at bytes) < 256 ^ n =
-    number-below 256 n (drop at bytes) (λ j q. subst (λ (x : ℕ). x < 256) (sym (getD-drop at bytes j 0)) (b (at + j))) in
+    number-below 256 n (drop at bytes) (λ j q. bytes-past at bytes b j) in
     (h ∙ field-in bytes k i, omega arith)
 
 -- the numbers of an entry, stored one after the other

@@ -1,7 +1,7 @@
 -- A block is laid out exactly if the zero bytes in front of the entries, past the numbers of each entry, and past the entries are zero.
 -- Assumes nothing.
 use Prim.Native.Nat.{ℕ, zero, suc, _+_, _-_, _*_, _<_, _≤_}
-use mathlib.Core.Path.{_≡_, refl, sym, subst, ap, ap₂, _∙_}
+use mathlib.Core.Path.{_≡_, refl, sym, ap, ap₂, _∙_}
 use mathlib.Core.Bool.{Bool, true, false}
 use mathlib.Core.List.{List, [], _∷_, _++_, append-nil, append-assoc}
 use native.Mathlib.Nat.{one-le-pow}
@@ -11,7 +11,7 @@ use native.Mathlib.Decide.{decLe}
 use borrow.Author.Tests.{eqb-true, eq-eqb, ne-eqb}
 use lib.Dec.{eqb}
 use lib.ListN.{length, getD, take, drop, replicate, length-drop, length-replicate, take-append-drop}
-use lib.Seq.{drop-cons, drop-drop, drop-length, drop-at, getD-drop, getD-take, length-take-le, take-add}
+use lib.Seq.{drop-cons, drop-drop, drop-length, drop-at, getD-take, length-take-le, take-add}
 use Rattle.arith.specs.Choice.{both, every}
 use Rattle.arith.specs.Sum.{sumOf}
 use Rattle.arith.specs.Digits.{number, digits}
@@ -22,7 +22,7 @@ use Rattle.reclaiming.specs.StateBlock.{State, headFields, zeroField, entryFiel
 use Rattle.reclaiming.specs.StateBlock.{entryBytes, entriesBytes, encode, entryFrom, entriesFrom, stateCount, decode, sameBytes, laidOut}
 use Rattle.state.specs.Code.{entryAt, numberIn, zerosIn, pairsZero}
 use Rattle.reclaiming.proofs.StateCodec.{pastHead, length-entriesFrom, same-bytes, bytes-same}
-use Rattle.state.proofs.BlockLaws.{count-in, byte-field, field-in}
+use Rattle.state.proofs.BlockLaws.{count-in, byte-field, field-in, bytes-past}
 
 -- two tests, of which the second passes, or of which there are three
 both-yes : (b : Bool) → both b true ≡ b
@@ -177,9 +177,6 @@ numbersAt (zeros n ∷ fs) at bytes = numbersAt fs (at + n) bytes
 
 -- bytes are those of the numbers read off them exactly if the zero bytes are zero
 module _ {X : Type 0} (x : X) (l rest : List ℕ) (small : (k : ℕ) → getD l k 0 < 256) where
-  small-from : (at k : ℕ) → getD (drop at l) k 0 < 256
-  small-from at k = subst (λ (y : ℕ). y < 256) (sym (getD-drop at l k 0)) (small (at + k))
-
   same-fields :
       (fs : List (Field X)) (at : ℕ) →
       at + fieldsLength fs ≤ length l →
@@ -196,7 +193,7 @@ module _ {X : Type 0} (x : X) (l rest : List ℕ) (small : (k : ℕ) → getD l 
       ∙ same-front n front (fieldsBytes fs x ++ rest) (drop at l) (length-digits 256 n (value x)) long
       ∙ ap (λ (t : Bool). both t (sameBytes (fieldsBytes fs x ++ rest) (drop n (drop at l))))
       (ap (λ (y : ℕ). sameBytes (digits 256 n y) (take n (drop at l))) (ap (λ (ns : List ℕ). getD ns 0 0) e)
-      ∙ same-number n (drop at l) long (small-from at))
+      ∙ same-number n (drop at l) long (bytes-past at l small))
       ∙ ap (λ (y : List ℕ). sameBytes (fieldsBytes fs x ++ rest) y) (drop-drop n at l)
       ∙ same-fields fs (at + n) (omega arith) (ap (λ (ns : List ℕ). drop 1 ns) e)
       ∙ ap (λ (k : ℕ). both (zerosIn fs (at + n) l) (sameBytes rest (drop k l))) z
@@ -206,7 +203,7 @@ module _ {X : Type 0} (x : X) (l rest : List ℕ) (small : (k : ℕ) → getD l 
       let zero-here : Bool = eqb (number 256 n (drop at l)) 0 in
       ap (λ (y : List ℕ). sameBytes y (drop at l)) (append-assoc (digits 256 n 0) (fieldsBytes fs x) rest)
       ∙ same-front n (digits 256 n 0) (fieldsBytes fs x ++ rest) (drop at l) (length-digits 256 n 0) long
-      ∙ ap₂ (λ (t : Bool) (y : List ℕ). both t (sameBytes (fieldsBytes fs x ++ rest) y)) (same-zero n (drop at l) long (small-from at))
+      ∙ ap₂ (λ (t : Bool) (y : List ℕ). both t (sameBytes (fieldsBytes fs x ++ rest) y)) (same-zero n (drop at l) long (bytes-past at l small))
       (drop-drop n at l)
       ∙ ap (λ (t : Bool). both zero-here t)
       (same-fields fs (at + n) (omega arith) e ∙ ap (λ (k : ℕ). both (zerosIn fs (at + n) l) (sameBytes rest (drop k l))) z)
@@ -232,7 +229,7 @@ same-entries (suc n) m l rest h b =
     ap (λ (y : List ℕ). sameBytes y l) (append-assoc (entryBytes (entryFrom l)) (entriesBytes (entriesFrom n d)) (replicate m 0 ++ rest))
     ∙ same-fields (entryFrom l) l after b entryFields 0 (omega arith) refl
     ∙ ap (λ (t : Bool). both zeros-here t)
-    (same-entries n m d rest (omega (arith, length-drop entryLength l)) (λ k. subst (λ (x : ℕ). x < 256) (sym (getD-drop entryLength l k 0)) (b (entryLength + k)))
+    (same-entries n m d rest (omega (arith, length-drop entryLength l)) (bytes-past entryLength l b)
     ∙ ap₂ (λ (x y : List ℕ). both (pairsZero n d) (both (every (eqb 0) (take m x)) (sameBytes rest y)))
     (drop-drop (entryLength * n) entryLength l ∙ ap (λ (k : ℕ). drop k l) p)
     (drop-drop (entryLength * n + m) entryLength l ∙ ap (λ (k : ℕ). drop k l) q))
@@ -261,33 +258,38 @@ module _ {block : List ℕ} (known : BlockBytes block) where
   abbrev s : State
   s = decode block
 
-  tail-same : sameBytes (fieldsBytes tailFields s) (drop tailAt block) ≡ zerosIn tailFields tailAt block
-  tail-same =
-      let z : tailAt + fieldsLength tailFields ≡ length block = sym (known .size) in
-      ap (λ (l : List ℕ). sameBytes l (drop tailAt block)) (sym (append-nil (fieldsBytes tailFields s)))
-      ∙ same-fields s block [] (known .bytes) tailFields tailAt (omega (arith, known .size)) refl
-      ∙ ap (λ (l : List ℕ). both (zerosIn tailFields tailAt block) (sameBytes [] l)) (ap (λ (k : ℕ). drop k block) z ∙ drop-length block)
-      ∙ both-yes (zerosIn tailFields tailAt block)
+  -- what stands past the places
+  abbrev tail : List ℕ
+  tail = drop tailAt block
 
-  entries-same : sameBytes (pastHead s) (drop headLength block) ≡ both (pairsIn block) (both (zerosPast block) (zerosIn tailFields tailAt block))
+  tail-same : sameBytes (fieldsBytes tailFields s) tail ≡ zerosIn tailFields 0 tail
+  tail-same =
+      let size : length tail ≡ fieldsLength tailFields = omega (arith, length-drop tailAt block, known .size) in
+      let z : 0 + fieldsLength tailFields ≡ length tail = omega arith in
+      ap (λ (l : List ℕ). sameBytes l tail) (sym (append-nil (fieldsBytes tailFields s)))
+      ∙ same-fields s tail [] (bytes-past tailAt block (known .bytes)) tailFields 0 (omega arith) refl
+      ∙ ap (λ (l : List ℕ). both (zerosIn tailFields 0 tail) (sameBytes [] l)) (ap (λ (k : ℕ). drop k tail) z ∙ drop-length tail)
+      ∙ both-yes (zerosIn tailFields 0 tail)
+
+  entries-same : sameBytes (pastHead s) (drop headLength block) ≡ both (pairsIn block) (both (zerosPast block) (zerosIn tailFields 0 tail))
   entries-same =
       let n : ℕ = stateCount block in
       let m : ℕ = entryLength * (places - n) in
       let l : List ℕ = drop headLength block in
-      let tail : List ℕ = fieldsBytes tailFields s in
+      let last : List ℕ = fieldsBytes tailFields s in
       let p : headLength + (entryLength * n + m) ≡ tailAt = omega (arith, known .few) in
       let q : entryAt n + m ≡ tailAt = omega (arith, known .few) in
-      ap (λ (k : ℕ). sameBytes (entriesBytes (entriesFrom n l) ++ (replicate (entryLength * (places - k)) 0 ++ tail)) l) (count-in block)
-      ∙ same-entries n m l tail (omega (arith, length-drop headLength block, known .size, known .few))
-      (λ k. subst (λ (x : ℕ). x < 256) (sym (getD-drop headLength block k 0)) (known .bytes (headLength + k)))
-      ∙ ap₂ (λ (x y : List ℕ). both (pairsIn block) (both (every (eqb 0) x) (sameBytes tail y)))
+      ap (λ (k : ℕ). sameBytes (entriesBytes (entriesFrom n l) ++ (replicate (entryLength * (places - k)) 0 ++ last)) l) (count-in block)
+      ∙ same-entries n m l last (omega (arith, length-drop headLength block, known .size, known .few))
+      (bytes-past headLength block (known .bytes))
+      ∙ ap₂ (λ (x y : List ℕ). both (pairsIn block) (both (every (eqb 0) x) (sameBytes last y)))
       (ap (λ (x : List ℕ). take m x) (drop-drop (entryLength * n) headLength block)
       ∙ sym (drop-take (entryAt n) m block (omega (arith, known .size)))
       ∙ ap (λ (k : ℕ). drop (entryAt n) (take k block)) q)
       (drop-drop (entryLength * n + m) headLength block ∙ ap (λ (k : ℕ). drop k block) p)
       ∙ ap (λ (t : Bool). both (pairsIn block) (both (zerosPast block) t)) tail-same
 
-  layout : laidOut block ≡ both (zerosIn headFields 0 block) (both (pairsIn block) (both (zerosPast block) (zerosIn tailFields tailAt block)))
+  layout : laidOut block ≡ both (zerosIn headFields 0 block) (both (pairsIn block) (both (zerosPast block) (zerosIn tailFields 0 tail)))
   layout =
       ap (λ (t : Bool). both t (sameBytes (encode s) block)) (eq-eqb (length block) stateLength (known .size))
       ∙ same-fields s block (pastHead s) (known .bytes) headFields 0 (omega (arith, known .size)) (simp length-entriesFrom)
