@@ -88,6 +88,7 @@ unsafe extern "C" fn fast_start(
     // SAFETY: the caller lends two slices that don't overlap.
     unsafe {
         fast::start(
+            fast::BASE,
             from_raw_parts(block, block_len),
             from_raw_parts_mut(state, state_len),
         )
@@ -96,7 +97,14 @@ unsafe extern "C" fn fast_start(
 
 unsafe extern "C" fn fast_pass(state: *mut u8, state_len: usize, d: u32, finished: u8) -> u64 {
     // SAFETY: the caller lends a slice.
-    unsafe { fast::pass(from_raw_parts_mut(state, state_len), d, finished != 0) }
+    unsafe {
+        fast::pass(
+            fast::BASE,
+            from_raw_parts_mut(state, state_len),
+            d,
+            finished != 0,
+        )
+    }
 }
 
 unsafe extern "C" fn fast_show(
@@ -108,6 +116,7 @@ unsafe extern "C" fn fast_show(
     // SAFETY: the caller lends two slices that don't overlap.
     unsafe {
         fast::show(
+            fast::BASE,
             from_raw_parts(state, state_len),
             from_raw_parts_mut(buffer, buffer_len),
         )

@@ -2,11 +2,12 @@
 //! passes that are accepted there. The same every time.
 
 use crate::calls::PROVED;
+use sim::levels::Levels;
 use sim::plan::{judge_list, Task};
 use sim::random::blocks::block_of;
 use sim::random::Random;
 
-pub const STATE_BYTES: usize = 200;
+pub use sim::layout::STATE_BYTES;
 pub const QUEUE_BYTES: usize = 48;
 
 const PLANS: usize = 8;
@@ -46,7 +47,7 @@ fn accepted_plan(random: &mut Random, count: usize) -> Vec<Task> {
             worst: (period * units / count as u64).max(1),
         };
         let plan: Vec<Task> = (0..count).map(|_| task(random.pick(&PERIODS))).collect();
-        if judge_list(&plan).is_ok() {
+        if judge_list(&Levels::base(), &plan).is_ok() {
             return plan;
         }
     }

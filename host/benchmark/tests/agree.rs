@@ -2,17 +2,19 @@
 //! the same calls, and must give the same replies and leave the same bytes.
 
 use benchmark::calls::{BY_HAND, PROVED};
+use benchmark::fast;
 use benchmark::inputs::{inputs, QUEUE_BYTES};
 use sim::dispatch::Order;
+use sim::layout::{self, STATE_BYTES};
+use sim::levels::Levels;
 use sim::plan::Task;
 use sim::random::blocks::{block_of, damaged_block};
 use sim::random::passes::any_pass;
 use sim::random::plans;
 use sim::random::states::{forged_state, invented_state, late_state};
+use sim::random::tables::some_levels;
 use sim::random::Random;
 use std::collections::BTreeMap;
-
-const STATE_BYTES: usize = 200;
 
 /// How often each reply was given: 0 for an accepted call, else the refusal's number.
 #[derive(Default)]
@@ -60,24 +62,26 @@ fn show_agrees(state: &[u8], room: usize, seen: &mut Seen) {
 
 /// Plans of all kinds, most of them accepted.
 fn any_plan(random: &mut Random) -> Vec<Task> {
-    let level = random.place(8);
+    let levels = Levels::base();
+    let level = random.place(levels.count());
     match random.below(8) {
-        0 => plans::plan_at_largest_hyperperiod(random),
+        0 => plans::plan_at_largest_hyperperiod(random, &levels),
         1 => plans::plan_above_largest_hyperperiod(random),
-        2 => plans::plan_one_over(random, level),
-        3 => plans::edge_list(random),
-        4 => plans::full_plan(random, level),
-        _ => plans::plan_at_level(random, level),
+        2 => plans::plan_one_over(random, &levels, level),
+        3 => plans::edge_list(random, &levels),
+        4 => plans::full_plan(random, &levels, level),
+        _ => plans::plan_at_level(random, &levels, level),
     }
 }
 
 /// An accepted plan.
 fn good_plan(random: &mut Random) -> Vec<Task> {
-    let level = random.place(8);
+    let levels = Levels::base();
+    let level = random.place(levels.count());
     if random.one_in(2) {
-        plans::full_plan(random, level)
+        plans::full_plan(random, &levels, level)
     } else {
-        plans::plan_at_level(random, level)
+        plans::plan_at_level(random, &levels, level)
     }
 }
 
@@ -103,7 +107,8 @@ fn starts_agree() {
         if random.one_in(2) {
             block = damaged_block(&mut random, &block);
         }
-        let room = random.pick(&[0, 199, 200, 200, 200, 201, 240]);
+        let exact = STATE_BYTES;
+        let room = random.pick(&[0, exact - 1, exact, exact, exact, exact + 1, exact + 40]);
         start_agrees(&block, room, &mut seen);
     }
     seen.were("start", &[0, 1, 2, 3, 4, 5, 6, 7, 8, 9]);
@@ -132,15 +137,16 @@ fn runs_agree() {
 /// Would catch a state called sound by one and not by the other, or changed in another way.
 #[test]
 fn invented_and_forged_states_agree() {
+    let levels = Levels::base();
     let mut random = Random::new(3);
     let (mut passes, mut shows) = (Seen::default(), Seen::default());
     for _ in 0..6_000 {
         let plan = good_plan(&mut random);
-        let sound = invented_state(&mut random, &plan);
+        let sound = invented_state(&mut random, &levels, &plan);
         let mut state = match random.below(4) {
             0 => sound.to_vec(),
-            1 => late_state(&mut random, &sound).to_vec(),
-            _ => forged_state(&mut random, &sound),
+            1 => late_state(&mut random, &levels, &sound).to_vec(),
+            _ => forged_state(&mut random, &levels, &sound),
         };
         let room = random.place(QUEUE_BYTES + 9);
         show_agrees(&state, room, &mut shows);
@@ -165,7 +171,7 @@ fn the_largest_worst_case_agrees() {
     };
     let mut state = start_agrees(&block_of(&[task]), STATE_BYTES, &mut seen);
     show_agrees(&state, QUEUE_BYTES, &mut seen);
-    state[10..13].copy_from_slice(&[0x10, 0, 0]);
+    layout::of_task(0, layout::WORST).put(&mut state, 1_048_576);
     show_agrees(&state, QUEUE_BYTES, &mut seen);
     pass_agrees(&mut state, 1, false, &mut seen);
     seen.were("the largest worst case", &[0, 10]);
@@ -184,4 +190,144 @@ fn measured_inputs_agree() {
     starts.were("start, measured", &[0]);
     passes.were("pass, measured", &[0]);
     shows.were("show, measured", &[0]);
+}
+
+/// The table as the calls written by hand take it: zeros past the count.
+fn speeds_of(levels: &Levels) -> [u32; 8] {
+    let mut speeds = [0; 8];
+    for (place, speed) in speeds.iter_mut().zip(levels.speeds()) {
+        *place = *speed as u32;
+    }
+    speeds
+}
+
+/// What the simulator answers, as a call's reply has it: 0 or a refusal's number in the lowest byte.
+fn reply_of(simulated: Result<Order, u32>) -> u64 {
+    match simulated {
+        Err(number) => u64::from(number),
+        Ok(Order::Idle { hold }) => u64::from(hold) << 32 | 2 << 8,
+        Ok(Order::Run { task, level, hold }) => {
+            u64::from(hold) << 32 | u64::from(level) << 24 | u64::from(task) << 16 | 1 << 8
+        }
+    }
+}
+
+/// The calls written by hand with some table, beside the simulator with the same.
+struct WithTable {
+    levels: Levels,
+    speeds: [u32; 8],
+}
+
+impl WithTable {
+    fn hand(&self) -> fast::Levels<'_> {
+        fast::Levels {
+            speeds: &self.speeds,
+            count: self.levels.count(),
+        }
+    }
+
+    fn start(&self, block: &[u8], seen: &mut Seen) -> (Vec<u8>, u64) {
+        let (mut wanted, mut state) = (vec![0xa5; STATE_BYTES], vec![0xa5; STATE_BYTES]);
+        let reply = reply_of(sim::start(&self.levels, block, &mut wanted));
+        let hand = fast::start(self.hand(), block, &mut state);
+        assert_eq!(hand, reply, "{:?} {block:02x?}", self.levels);
+        assert_eq!(state, wanted, "{:?} {block:02x?}", self.levels);
+        seen.add(reply);
+        (state, reply)
+    }
+
+    fn pass(&self, state: &mut [u8], d: u32, finished: bool, seen: &mut Seen) -> u64 {
+        let (before, mut wanted) = (state.to_vec(), state.to_vec());
+        let reply = reply_of(sim::pass(&self.levels, &mut wanted, d, finished));
+        let told = format!("{:?}: {d} {finished} in {before:02x?}", self.levels);
+        let hand = fast::pass(self.hand(), state, d, finished);
+        assert_eq!(hand, reply, "{told}");
+        assert_eq!(state, wanted, "{told}");
+        seen.add(reply);
+        reply
+    }
+
+    fn show(&self, state: &[u8], seen: &mut Seen) {
+        let (mut wanted, mut buffer) = ([0xa5; QUEUE_BYTES], [0xa5; QUEUE_BYTES]);
+        let reply = match sim::show(&self.levels, state, &mut wanted) {
+            Ok(length) => 256 * length as u64,
+            Err(number) => u64::from(number),
+        };
+        let hand = fast::show(self.hand(), state, &mut buffer);
+        assert_eq!(hand, reply, "{:?} {state:02x?}", self.levels);
+        assert_eq!(buffer, wanted, "{:?} {state:02x?}", self.levels);
+        seen.add(reply);
+    }
+}
+
+/// Would catch a speed or a count of levels that the calls written by hand have in themselves, and a
+/// product that isn't the quotient for some speed. The proved calls have no other table than 01's, so
+/// the simulator says what is right.
+#[test]
+fn other_tables_agree_with_the_simulator() {
+    let mut random = Random::new(5);
+    let (mut starts, mut passes, mut shows) = Default::default();
+    for _ in 0..1_500 {
+        let levels = some_levels(&mut random);
+        let both = WithTable {
+            speeds: speeds_of(&levels),
+            levels,
+        };
+        let level = random.place(both.levels.count());
+        let plan = match random.below(4) {
+            0 => plans::full_plan(&mut random, &both.levels, level),
+            1 => plans::plan_one_over(&mut random, &both.levels, level),
+            _ => plans::plan_at_level(&mut random, &both.levels, level),
+        };
+        let (mut state, first) = both.start(&block_of(&plan), &mut starts);
+        if first % 256 != 0 {
+            continue;
+        }
+        let mut order = order_in(first);
+        for _ in 0..12 {
+            let (d, finished) = any_pass(&mut random, order);
+            let reply = both.pass(&mut state, d, finished, &mut passes);
+            if reply % 256 == 0 {
+                order = order_in(reply);
+            }
+            both.show(&state, &mut shows);
+        }
+        let mut made = invented_state(&mut random, &both.levels, &plan).to_vec();
+        if random.one_in(2) {
+            let sound = made[..].try_into().expect("it has the state's length");
+            made = forged_state(&mut random, &both.levels, sound);
+        }
+        both.show(&made, &mut shows);
+        both.pass(&mut made, 1, random.one_in(2), &mut passes);
+    }
+    starts.were("start, other tables", &[0, 8]);
+    passes.were("pass, other tables", &[0, 10, 11, 12, 13, 14, 15]);
+    shows.were("show, other tables", &[0, 10]);
+}
+
+/// Would catch a reciprocal that is off for one of the speeds that a table can have: the time of a
+/// job stands in the state as its plain ticks, and both its edges are tried.
+#[test]
+fn every_speed_divides_exactly() {
+    let mut starts = Seen::default();
+    for speed in 1..=1_000 {
+        let levels = Levels::new(&[speed]);
+        let both = WithTable {
+            speeds: speeds_of(&levels),
+            levels,
+        };
+        let most = (1_048_575 / speed).min(65_535);
+        for ticks in [1, 2, most / 2, most - 1, most] {
+            for worst in [(ticks - 1) * speed + 1, ticks * speed] {
+                let plan = [Task {
+                    period: 65_535,
+                    worst,
+                }];
+                let (state, _) = both.start(&block_of(&plan), &mut starts);
+                let left = layout::of_task(0, layout::PLAIN_LEFT).get(&state);
+                assert_eq!(left, ticks, "{worst} at {speed}");
+            }
+        }
+    }
+    starts.were("start, every speed", &[0]);
 }

@@ -3,7 +3,8 @@
 
 // Brings the archives in.
 use differ as _;
-use sim::plan::{judge_list, Judged, Task, LARGEST_PERIOD, LARGEST_WORST, SPEEDS};
+use sim::levels::Levels;
+use sim::plan::{judge_list, Judged, Task, LARGEST_PERIOD, LARGEST_WORST};
 use sim::random::plans::{
     edge_list, full_plan, plan_above_largest_hyperperiod, plan_at_largest_hyperperiod,
     plan_at_level, plan_one_over, plan_one_unit_over,
@@ -39,15 +40,23 @@ const fn entry(period: u32, worst: u32) -> Entry {
 }
 
 /// Puts lists to both sides, and counts the answers on which they agreed.
-#[derive(Default)]
 struct Both {
+    /// The speeds that the simulator is handed.
+    levels: Levels,
     seen: BTreeMap<u32, u64>,
 }
 
 impl Both {
+    fn new(levels: &Levels) -> Both {
+        Both {
+            levels: levels.clone(),
+            seen: BTreeMap::new(),
+        }
+    }
+
     #[track_caller]
     fn judge(&mut self, list: &[Entry]) -> Result<Judged, u32> {
-        let wanted = judge_list(&as_tasks(list));
+        let wanted = judge_list(&self.levels, &as_tasks(list));
         let lists: u64 = self.seen.values().sum();
         let around = AROUND[(lists % 3) as usize];
         let mut lent = vec![around; list.len() + 4];
@@ -106,7 +115,8 @@ fn as_entries(tasks: &[Task]) -> Vec<Entry> {
 /// entries, one whose length is cut to fewer bits, and fields asked about before the count.
 #[test]
 fn lists_of_every_length() {
-    let mut both = Both::default();
+    let levels = Levels::base();
+    let mut both = Both::new(&levels);
     let mut lengths: Vec<usize> = (0..=40).collect();
     lengths.extend([255, 256, 257, 272, 999, 1_000, 1_001]);
     lengths.extend([65_535, 65_536, 65_537, 65_552, 1 << 18]);
@@ -134,7 +144,8 @@ fn lists_of_every_length() {
 /// asked about after a field was cut to fewer bits.
 #[test]
 fn fields_at_and_past_their_ranges() {
-    let mut both = Both::default();
+    let levels = Levels::base();
+    let mut both = Both::new(&levels);
     let periods = edges(LARGEST_PERIOD as u32, 16);
     let worsts = edges(LARGEST_WORST as u32, 20);
     for length in [1, 2, 15, 16, 17, 1_000] {
@@ -177,24 +188,25 @@ fn edges(largest: u32, bits: u32) -> Vec<u32> {
 /// entry left out, and one looked at past the end.
 #[test]
 fn lists_of_every_kind() {
-    let mut both = Both::default();
+    let levels = Levels::base();
+    let mut both = Both::new(&levels);
     let mut random = Random::new(1_001);
-    let mut levels = [0; 8];
+    let mut nominal = vec![0; levels.count()];
     for round in 0..2_000 {
-        let level = round % SPEEDS.len();
+        let level = round % levels.count();
         let lists = [
-            plan_at_level(&mut random, level),
-            full_plan(&mut random, level),
-            plan_one_over(&mut random, level),
-            plan_one_unit_over(&mut random, level),
-            plan_at_largest_hyperperiod(&mut random),
+            plan_at_level(&mut random, &levels, level),
+            full_plan(&mut random, &levels, level),
+            plan_one_over(&mut random, &levels, level),
+            plan_one_unit_over(&mut random, &levels, level),
+            plan_at_largest_hyperperiod(&mut random, &levels),
             plan_above_largest_hyperperiod(&mut random),
-            edge_list(&mut random),
+            edge_list(&mut random, &levels),
         ];
         for tasks in lists {
             let mut list = as_entries(&tasks);
             if let Ok(judged) = both.judge(&list) {
-                levels[judged.nominal] += 1;
+                nominal[judged.nominal] += 1;
             }
             // One field a little off.
             if let Some(last) = list.last_mut() {
@@ -204,19 +216,20 @@ fn lists_of_every_kind() {
         }
     }
     both.saw("lists of every kind");
-    println!("levels {levels:?}");
+    println!("levels {nominal:?}");
     both.wants(ACCEPTED, 12_000);
     both.wants(3, 30);
     both.wants(6, 500);
     both.wants(7, 3_000);
     both.wants(8, 1_000);
-    assert!(levels.iter().all(|times| *times > 300), "{levels:?}");
+    assert!(nominal.iter().all(|times| *times > 300), "{nominal:?}");
 }
 
 /// Would catch a question asked before its turn: each list is refused for two reasons.
 #[test]
 fn the_first_no_decides() {
-    let mut both = Both::default();
+    let levels = Levels::base();
+    let mut both = Both::new(&levels);
     let cases = [
         (vec![entry(0, 0); 17], 3),
         (vec![entry(1_000, 1); 17], 3),

@@ -3,9 +3,10 @@
 //! `cargo run --release --offline -p sim --example inputs`
 
 use sim::dispatch::{pass, start, Order};
-use sim::listing;
-use sim::plan::{pack_block, Task, SPEEDS};
-use sim::state::STATE_BYTES;
+use sim::layout::STATE_BYTES;
+use sim::plan::Task;
+use sim::random::blocks::block_of;
+use sim::{listing, Levels};
 use std::fs;
 use std::path::Path;
 
@@ -21,7 +22,7 @@ fn block(pairs: &[(u64, u64)]) -> Vec<u8> {
         worst: *worst,
     };
     let tasks: Vec<Task> = pairs.iter().map(task).collect();
-    pack_block(1, tasks.len() as u64, &tasks)
+    block_of(&tasks)
 }
 
 fn bench_block() -> Vec<u8> {
@@ -39,18 +40,18 @@ fn bench_with(passes: &[(u32, bool)]) -> Vec<u8> {
 
 /// A run that follows the orders. Up to `early_from` each job takes its worst case; from then on
 /// each ends when this part of its hold is over.
-fn run(pairs: &[(u64, u64)], early_from: u64, part: u32, until: u64) -> Vec<u8> {
+fn run(levels: &Levels, pairs: &[(u64, u64)], early_from: u64, part: u32, until: u64) -> Vec<u8> {
     let mut input = block(pairs);
     let mut state = [0; STATE_BYTES];
-    let mut order = start(&input, &mut state).expect("the plan is an accepted one");
+    let mut order = start(levels, &input, &mut state).expect("the plan is an accepted one");
     let mut clock = 0;
     while clock < until {
         let (d, finished) = match order {
             Order::Idle { hold } => (hold, false),
             Order::Run { hold, .. } if clock >= early_from => ((hold + part - 1) / part, true),
-            Order::Run { hold, .. } => (hold, worst_case_is_used(&state, hold)),
+            Order::Run { hold, .. } => (hold, worst_case_is_used(levels, &state, hold)),
         };
-        order = pass(&mut state, d, finished).expect("the pass follows the order");
+        order = pass(levels, &mut state, d, finished).expect("the pass follows the order");
         input.extend(packed(d, finished));
         clock += u64::from(d);
     }
@@ -58,8 +59,8 @@ fn run(pairs: &[(u64, u64)], early_from: u64, part: u32, until: u64) -> Vec<u8> 
 }
 
 /// After so many ticks, the running job can't be said to go on.
-fn worst_case_is_used(state: &[u8; STATE_BYTES], ticks: u32) -> bool {
-    pass(&mut state.clone(), ticks, false) == Err(14)
+fn worst_case_is_used(levels: &Levels, state: &[u8; STATE_BYTES], ticks: u32) -> bool {
+    pass(levels, &mut state.clone(), ticks, false) == Err(14)
 }
 
 /// 01's passes up to the tick at which the processor idles.
@@ -103,18 +104,18 @@ fn refused_later() -> Vec<(u32, Vec<u8>)> {
     ]
 }
 
-fn all() -> Vec<(String, Vec<u8>)> {
+fn all(levels: &Levels) -> Vec<(String, Vec<u8>)> {
     let mut bench = TO_TICK_18.to_vec();
     bench.push((2, false));
     let mut inputs = vec![("bench".to_string(), bench_with(&bench))];
-    for (level, speed) in SPEEDS.into_iter().enumerate() {
+    for (level, speed) in levels.speeds().iter().enumerate() {
         // 38 of 40 ticks at this level, and more than 40 at the one below.
         let plan = [(10, 4 * speed), (20, 6 * speed), (40, 10 * speed)];
-        inputs.push((format!("level-{level}"), run(&plan, 40, 2, 80)));
+        inputs.push((format!("level-{level}"), run(levels, &plan, 40, 2, 80)));
     }
     // The first task's job most often ends long before its 24 ticks are over.
     let plan = [(40, 2_400), (40, 600), (80, 600)];
-    inputs.push(("reclaiming".to_string(), run(&plan, 0, 8, 160)));
+    inputs.push(("reclaiming".to_string(), run(levels, &plan, 0, 8, 160)));
     for (number, input) in refused_plans().into_iter().chain(refused_later()) {
         inputs.push((format!("refused-{number:02}"), input));
     }
@@ -122,10 +123,11 @@ fn all() -> Vec<(String, Vec<u8>)> {
 }
 
 fn main() {
+    let levels = Levels::base();
     let folder = Path::new(env!("CARGO_MANIFEST_DIR")).join("../../examples");
     fs::create_dir_all(&folder).expect("the folder can be made");
-    for (name, input) in all() {
-        let listed = listing(&input);
+    for (name, input) in all(&levels) {
+        let listed = listing(&levels, &input);
         fs::write(folder.join(format!("{name}.in")), &input).expect("it can be written");
         fs::write(folder.join(format!("{name}.out")), &listed).expect("it can be written");
     }

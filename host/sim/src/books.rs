@@ -2,6 +2,7 @@
 //! comes from the state block.
 
 use crate::dispatch::Order;
+use crate::levels::Levels;
 use crate::plan::{judge_list, Task};
 use crate::schedule::{deadline, PlainJob, Schedule};
 
@@ -105,7 +106,8 @@ fn running_task(order: Order) -> Option<usize> {
     }
 }
 
-/// The plain schedule's book, "fed the plan and the d of each accepted pass".
+/// The plain schedule's book, "fed the plan and the d of each accepted pass". The speeds say how
+/// long the allotments are.
 #[derive(Clone, Debug)]
 pub struct PlainBook {
     schedule: Schedule,
@@ -113,10 +115,10 @@ pub struct PlainBook {
 
 impl PlainBook {
     /// Opened with an accepted plan.
-    pub fn new(plan: &[Task]) -> PlainBook {
-        let judged = judge_list(plan).expect("a book is kept for an accepted plan only");
+    pub fn new(levels: &Levels, plan: &[Task]) -> PlainBook {
+        let judged = judge_list(levels, plan).expect("a book is kept for an accepted plan only");
         PlainBook {
-            schedule: Schedule::new(plan, judged.nominal),
+            schedule: Schedule::new(levels, plan, judged.nominal),
         }
     }
 

@@ -1,8 +1,12 @@
 //! 01, "Orders and passes", and the questions that starting, passing and showing put.
 
-use crate::plan::{judge_list, read_plan, time_needed, Judged, Task, SPEEDS};
+use crate::clock::{clock_after, LARGEST_CLOCK};
+use crate::job::{left_after, time_needed, Left};
+use crate::layout::STATE_BYTES;
+use crate::levels::Levels;
+use crate::plan::{judge_list, read_plan, Judged, Task};
 use crate::schedule::{allotment, Urgency};
-use crate::state::{pack, unpack, Entry, Running, State, LARGEST_CLOCK, STATE_BYTES};
+use crate::state::{pack, unpack, Entry, Running, State};
 
 #[derive(Clone, Copy, PartialEq, Eq, Debug)]
 pub enum Order {
@@ -10,10 +14,10 @@ pub enum Order {
     Idle { hold: u32 },
 }
 
-/// Starting: reads the block (1 to 8), then asks for 200 bytes (9). Of a longer buffer the bytes
-/// past the 200 stay as they were.
-pub fn start(block: &[u8], state: &mut [u8]) -> Result<Order, u32> {
-    let (tasks, judged) = read_plan(block)?;
+/// Starting: reads the block (1 to 8), then asks for the state's 200 bytes (9). Of a longer buffer
+/// the bytes past them stay as they were.
+pub fn start(levels: &Levels, block: &[u8], state: &mut [u8]) -> Result<Order, u32> {
+    let (tasks, judged) = read_plan(levels, block)?;
     if state.len() < STATE_BYTES {
         return Err(9);
     }
@@ -22,61 +26,67 @@ pub fn start(block: &[u8], state: &mut [u8]) -> Result<Order, u32> {
         running: None,
         entries: Vec::new(),
     };
+    let nominal = levels.speed(judged.nominal);
     for task in tasks {
-        fresh.entries.push(new_job(task, judged.nominal));
+        fresh.entries.push(new_job(task, nominal));
     }
-    fresh.running = choose(&fresh);
+    fresh.running = choose(levels, &fresh);
     state[..STATE_BYTES].copy_from_slice(&pack(&fresh));
-    Ok(order_now(&fresh))
+    Ok(order_now(levels, &fresh))
 }
 
 /// Passing: asks whether the state is sound (10), then 11 to 15, and only then changes it.
-pub fn pass(state: &mut [u8], d: u32, finished: bool) -> Result<Order, u32> {
-    let (mut now, judged) = sound(state).ok_or(10u32)?;
+pub fn pass(levels: &Levels, state: &mut [u8], d: u32, finished: bool) -> Result<Order, u32> {
+    let (mut now, judged) = sound(levels, state).ok_or(10u32)?;
     let d = u64::from(d);
+    ask_about_pass(levels, &now, d, finished)?;
+
+    // "In this order": the queue, the running job, the clock, the arrivals, the order.
+    take_from_queue(&mut now, d);
+    if let Some(running) = now.running {
+        let entry = &mut now.entries[running.task];
+        entry.left = if finished {
+            Left::NOTHING
+        } else {
+            left_after(entry.left, d, levels.speed(running.level))
+        };
+    }
+    now.clock = clock_after(now.clock, d);
+    let arrived = let_jobs_arrive(&mut now, levels.speed(judged.nominal));
+    if finished || arrived {
+        now.running = choose(levels, &now);
+    }
+    state.copy_from_slice(&pack(&now));
+    Ok(order_now(levels, &now))
+}
+
+/// Questions 11 to 15, put to a sound state.
+fn ask_about_pass(levels: &Levels, now: &State, d: u64, finished: bool) -> Result<(), u32> {
     if d < 1 {
         return Err(11);
     }
-    if d > ticks_to_next_arrival(&now) {
+    if d > ticks_to_next_arrival(now) {
         return Err(12);
     }
     if finished && now.running.is_none() {
         return Err(13);
     }
     if let Some(running) = now.running {
-        let needed = time_needed(now.entries[running.task].work_left, running.level);
+        let needed = time_of_order(levels, now, running);
         if d > needed || (!finished && d == needed) {
             return Err(14);
         }
     }
-    if now.clock + d > LARGEST_CLOCK {
+    if clock_after(now.clock, d) > LARGEST_CLOCK {
         return Err(15);
     }
-
-    // "In this order": the queue, the running job, the clock, the arrivals, the order.
-    take_from_queue(&mut now, d);
-    if let Some(running) = now.running {
-        let entry = &mut now.entries[running.task];
-        if finished {
-            entry.work_left = 0;
-        } else {
-            // Below the time needed (14), so some work is left.
-            entry.work_left -= d * SPEEDS[running.level];
-        }
-    }
-    now.clock += d;
-    let arrived = let_jobs_arrive(&mut now, judged.nominal);
-    if finished || arrived {
-        now.running = choose(&now);
-    }
-    state.copy_from_slice(&pack(&now));
-    Ok(order_now(&now))
+    Ok(())
 }
 
 /// Showing the queue: asks whether the state is sound (10), then for room (9). "3 bytes an entry,
 /// task then plain ticks left, most urgent first, entries with plain ticks left only".
-pub fn show(state: &[u8], buffer: &mut [u8]) -> Result<usize, u32> {
-    let (now, _) = sound(state).ok_or(10u32)?;
+pub fn show(levels: &Levels, state: &[u8], buffer: &mut [u8]) -> Result<usize, u32> {
+    let (now, _) = sound(levels, state).ok_or(10u32)?;
     let mut shown = Vec::new();
     for task in by_urgency(&now) {
         let left = now.entries[task].plain_left;
@@ -94,23 +104,24 @@ pub fn show(state: &[u8], buffer: &mut [u8]) -> Result<usize, u32> {
 }
 
 /// The state and what its plan is judged to be, or nothing if 01's "Sound means ..." fails.
-pub fn sound(block: &[u8]) -> Option<(State, Judged)> {
+pub fn sound(levels: &Levels, block: &[u8]) -> Option<(State, Judged)> {
     // "exactly 200 bytes, laid out as above"
     let state = unpack(block)?;
     // "a plan that passes 3, 6, 7, 8"
-    let judged = judge_list(&tasks_of(&state)).ok()?;
+    let judged = judge_list(levels, &state.tasks()).ok()?;
     // "a clock in range"
     if state.clock > LARGEST_CLOCK {
         return None;
     }
+    let nominal = levels.speed(judged.nominal);
     if !state
         .entries
         .iter()
-        .all(|entry| entry_is_sound(entry, judged.nominal))
+        .all(|entry| entry_is_sound(entry, nominal))
     {
         return None;
     }
-    if !order_is_sound(&state, judged.nominal) {
+    if !order_is_sound(levels, &state, judged.nominal) {
         return None;
     }
     Some((state, judged))
@@ -118,38 +129,41 @@ pub fn sound(block: &[u8]) -> Option<(State, Judged)> {
 
 /// "for each task, work left at most the worst case, plain ticks left at most the allotment, and
 /// the time needed for the work left at the nominal level at most the plain ticks left"
-fn entry_is_sound(entry: &Entry, nominal: usize) -> bool {
-    entry.work_left <= entry.task.worst
+fn entry_is_sound(entry: &Entry, nominal: u64) -> bool {
+    entry.left.is_within(entry.task.whole_job())
         && entry.plain_left <= allotment(&entry.task, nominal)
-        && time_needed(entry.work_left, nominal) <= entry.plain_left
+        && time_needed(entry.left, nominal) <= entry.plain_left
 }
 
 /// "an idle order exactly if no job is open, else the most urgent open job at a level no higher
 /// than nominal that meets its allowance"
-fn order_is_sound(state: &State, nominal: usize) -> bool {
+fn order_is_sound(levels: &Levels, state: &State, nominal: usize) -> bool {
     match (most_urgent_open(state), state.running) {
         (None, None) => true,
         (Some(urgent), Some(running)) => {
             running.task == urgent
                 && running.level <= nominal
-                && time_needed(state.entries[urgent].work_left, running.level)
-                    <= allowance(state, urgent)
+                && time_of_order(levels, state, running) <= allowance(state, urgent)
         }
         _ => false,
     }
 }
 
-fn tasks_of(state: &State) -> Vec<Task> {
-    state.entries.iter().map(|entry| entry.task).collect()
-}
-
 /// An entry just after an arrival: "a new job with full worst case and allotment".
-fn new_job(task: Task, nominal: usize) -> Entry {
+fn new_job(task: Task, nominal: u64) -> Entry {
     Entry {
         task,
-        work_left: task.worst,
+        left: task.whole_job(),
         plain_left: allotment(&task, nominal),
     }
+}
+
+/// What the job of a run order needs at the order's level.
+fn time_of_order(levels: &Levels, state: &State, running: Running) -> u64 {
+    time_needed(
+        state.entries[running.task].left,
+        levels.speed(running.level),
+    )
 }
 
 /// An entry stands for the task's latest job, because each arrival replaces what stood there. So
@@ -184,11 +198,10 @@ fn by_urgency(state: &State) -> Vec<usize> {
     order
 }
 
-/// A job is open in the dispatcher while it has work left: "work left (3; 0 once finished)".
 fn most_urgent_open(state: &State) -> Option<usize> {
     by_urgency(state)
         .into_iter()
-        .find(|task| state.entries[*task].work_left > 0)
+        .find(|task| state.entries[*task].left.is_open())
 }
 
 /// "the sum of the plain ticks left of all jobs at least as urgent as it, itself included,
@@ -205,24 +218,21 @@ fn allowance(state: &State, task: usize) -> u64 {
 }
 
 /// "The level is the lowest at which the work left needs no more than the allowance."
-fn lowest_level(state: &State, task: usize) -> usize {
+fn lowest_level(levels: &Levels, state: &State, task: usize) -> usize {
     let allowance = allowance(state, task);
-    for level in 0..SPEEDS.len() {
-        if time_needed(state.entries[task].work_left, level) <= allowance {
-            return level;
-        }
-    }
+    let left = state.entries[task].left;
+    let level = levels.lowest(|speed| time_needed(left, speed) <= allowance);
     // Every entry keeps the time needed at the nominal level within its own plain ticks, and
     // those are part of the allowance.
-    unreachable!("the nominal level always meets the allowance")
+    level.expect("the nominal level always meets the allowance")
 }
 
 /// The task and level of a new order: the most urgent open job, or idle if there is none.
-pub fn choose(state: &State) -> Option<Running> {
+pub fn choose(levels: &Levels, state: &State) -> Option<Running> {
     let task = most_urgent_open(state)?;
     Some(Running {
         task,
-        level: lowest_level(state, task),
+        level: lowest_level(levels, state, task),
     })
 }
 
@@ -233,25 +243,22 @@ pub fn choose(state: &State) -> Option<Running> {
 /// doesn't keep the hold. It needn't: the same rule, put to the state after the pass, gives it.
 /// - The work left fell by d whole ticks' worth at the order's level, so the time needed for it at
 ///   that level fell by exactly d: (work - d * speed) / speed is work / speed - d, and taking away
-///   the whole number d doesn't change the rounding.
+///   the whole number d doesn't change the rounding. That is so for any speed.
 /// - The clock rose by d and nothing arrived, so the ticks to the next arrival fell by exactly d.
 ///
 /// If both fall by d, so does the smaller of them. Pass by pass, the hold of an order that stays
 /// is therefore always what this rule gives for the state as it stands.
-fn order_now(state: &State) -> Order {
+fn order_now(levels: &Levels, state: &State) -> Order {
     let arrival = ticks_to_next_arrival(state);
     match state.running {
         None => Order::Idle {
             hold: arrival as u32,
         },
-        Some(running) => {
-            let needed = time_needed(state.entries[running.task].work_left, running.level);
-            Order::Run {
-                task: running.task as u8,
-                level: running.level as u8,
-                hold: needed.min(arrival) as u32,
-            }
-        }
+        Some(running) => Order::Run {
+            task: running.task as u8,
+            level: running.level as u8,
+            hold: time_of_order(levels, state, running).min(arrival) as u32,
+        },
     }
 }
 
@@ -272,7 +279,7 @@ fn take_from_queue(state: &mut State, d: u64) {
 
 /// "tasks whose period divides the clock get a new job with full worst case and allotment,
 /// replacing what stood there". Says whether there was one.
-fn let_jobs_arrive(state: &mut State, nominal: usize) -> bool {
+fn let_jobs_arrive(state: &mut State, nominal: u64) -> bool {
     let mut arrived = false;
     for entry in &mut state.entries {
         if state.clock % entry.task.period == 0 {

@@ -1,10 +1,12 @@
-//! A small generator of pseudo-random numbers, and the plans, passes, blocks and states made with it.
+//! A small generator of pseudo-random numbers, and the tables of speeds, plans, passes, blocks and
+//! states made with it.
 //! The same seed always gives the same numbers.
 
 pub mod blocks;
 pub mod passes;
 pub mod plans;
 pub mod states;
+pub mod tables;
 
 /// Splitmix64.
 #[derive(Clone, Debug)]

@@ -1,7 +1,9 @@
 //! The plain schedule: "each tick goes to the most urgent open job, and a job closes when it has
 //! had its allotment." No job is replaced here.
 
-use crate::plan::{time_needed, Task};
+use crate::job::time_needed;
+use crate::levels::Levels;
+use crate::plan::Task;
 
 /// Deadline, arrival, task number: "The more urgent of two jobs has the earlier deadline, then
 /// the earlier arrival, then the lower task number". So the smaller of two is the more urgent.
@@ -16,9 +18,9 @@ pub fn urgency(tasks: &[Task], task: usize, arrival: u64) -> Urgency {
     (deadline(tasks, task, arrival), arrival, task)
 }
 
-/// "A task's allotment is its worst case's time at the nominal level."
-pub fn allotment(task: &Task, nominal: usize) -> u64 {
-    time_needed(task.worst, nominal)
+/// "A task's allotment is its worst case's time at the nominal level", of which this is the speed.
+pub fn allotment(task: &Task, nominal: u64) -> u64 {
+    time_needed(task.whole_job(), nominal)
 }
 
 /// A job with the ticks that it has still to get; it is open while there are some.
@@ -32,17 +34,18 @@ pub struct PlainJob {
 #[derive(Clone, Debug)]
 pub struct Schedule {
     tasks: Vec<Task>,
-    nominal: usize,
+    /// The nominal level's speed.
+    nominal: u64,
     clock: u64,
     jobs: Vec<PlainJob>,
 }
 
 impl Schedule {
     /// At tick 0, with every task's first job just arrived.
-    pub fn new(tasks: &[Task], nominal: usize) -> Schedule {
+    pub fn new(levels: &Levels, tasks: &[Task], nominal: usize) -> Schedule {
         let mut schedule = Schedule {
             tasks: tasks.to_vec(),
-            nominal,
+            nominal: levels.speed(nominal),
             clock: 0,
             jobs: Vec::new(),
         };

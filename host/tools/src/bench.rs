@@ -1,15 +1,16 @@
 //! The bench input: a plan block, then two bytes a pass.
 
-use crate::script::{largest, Pass, Script, COUNT_BITS, D_BITS, PERIOD_BITS, WORST_BITS};
+use crate::script::{largest, Pass, Script, D_BITS};
 use sim::bits::Bits;
-use sim::plan::{block_bytes, judge_list, pack_block, Task};
+use sim::block::{block_bytes, head, pack_block, take_head, Edition};
+use sim::block::{COUNT_BITS, PERIOD_BITS, WORST_BITS};
+use sim::levels::Levels;
+use sim::plan::{judge_list, Task};
 use std::fmt;
 
 /// The bench program takes no more bytes than this.
 pub const LARGEST_INPUT: usize = 65_536;
 
-const EDITION_BITS: u32 = 4;
-const EDITION: u64 = 1;
 const FINISHED: u16 = 1 << D_BITS;
 
 /// Why a bench input can't be said in text.
@@ -36,7 +37,9 @@ impl fmt::Display for Why {
                 out,
                 "the input ends here, before the count: length {length}, at least 2 needed"
             ),
-            Why::Edition(edition) => write!(out, "the edition is {edition}, not {EDITION}"),
+            Why::Edition(edition) => {
+                write!(out, "the edition is {edition}, not {}", accepted_editions())
+            }
             Why::CutBlock { count, needed } => write!(
                 out,
                 "the input ends here, within the plan block: its count is {count}, so it needs \
@@ -57,7 +60,8 @@ impl fmt::Display for BytesError {
 /// The bench input that says this. Every number must fit its field.
 pub fn to_bytes(script: &Script) -> Vec<u8> {
     debug_assert!(fits(script));
-    let mut bytes = pack_block(EDITION, script.tasks.len() as u64, &script.tasks);
+    let edition = Edition::of_tasks(&script.tasks);
+    let mut bytes = pack_block(edition, script.tasks.len() as u64, &script.tasks);
     for pass in &script.passes {
         bytes.extend(pack_pass(*pass));
     }
@@ -80,18 +84,18 @@ pub fn from_bytes(input: &[u8]) -> Result<Script, BytesError> {
 }
 
 /// The number that the bench program refuses the whole input with, if it does.
-pub fn refusal(script: &Script) -> Option<u32> {
+pub fn refusal(levels: &Levels, script: &Script) -> Option<u32> {
     if to_bytes(script).len() > LARGEST_INPUT {
         return Some(17);
     }
-    judge_list(&script.tasks).err()
+    judge_list(levels, &script.tasks).err()
 }
 
 /// The plan block, as far as it is there, and what follows it.
 pub fn split(input: &[u8]) -> (&[u8], &[u8]) {
-    let length = match input {
-        [_, _, ..] => block_bytes(edition_and_count(input).1),
-        _ => input.len(),
+    let length = match head(input) {
+        Some((edition, count)) => block_bytes(edition, count),
+        None => input.len(),
     };
     input.split_at(length.min(input.len()))
 }
@@ -121,12 +125,13 @@ fn fits(script: &Script) -> bool {
             .all(|pass| u64::from(pass.d) <= largest(D_BITS))
 }
 
-/// The first two fields of an input of at least two bytes.
-fn edition_and_count(input: &[u8]) -> (u64, u64) {
-    let mut bits = Bits::unpack(&input[..2]);
-    let edition = bits.take(EDITION_BITS as usize);
-    let count = bits.take(COUNT_BITS as usize);
-    (edition, count)
+/// `1`; several would be `1 or 2`.
+fn accepted_editions() -> String {
+    let numbers: Vec<String> = Edition::ACCEPTED
+        .iter()
+        .map(|edition| edition.0.to_string())
+        .collect();
+    numbers.join(" or ")
 }
 
 /// Takes a plan block apart, in the order of document 01's questions.
@@ -136,21 +141,18 @@ fn unpack_block(block: &[u8]) -> Result<Vec<Task>, BytesError> {
     if length < 2 {
         return at(length, Why::TooShort { length });
     }
-    let (edition, count) = edition_and_count(block);
-    if edition != EDITION {
-        return at(0, Why::Edition(edition));
+    let mut bits = Bits::unpack(block);
+    let (edition, count) = take_head(&mut bits);
+    if !edition.is_accepted() {
+        return at(0, Why::Edition(edition.0));
     }
-    let needed = block_bytes(count);
+    let needed = block_bytes(edition, count);
     if length < needed {
         return at(length, Why::CutBlock { count, needed });
     }
-    let mut bits = Bits::unpack(block);
-    bits.take((EDITION_BITS + COUNT_BITS) as usize);
     let mut tasks = Vec::new();
     for _ in 0..count {
-        let period = bits.take(PERIOD_BITS as usize);
-        let worst = bits.take(WORST_BITS as usize);
-        tasks.push(Task { period, worst });
+        tasks.push(edition.take_task(&mut bits));
     }
     if !bits.all_zero() {
         return at(length - 1, Why::ClosingBits);

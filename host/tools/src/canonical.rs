@@ -1,7 +1,9 @@
 //! The canonical ("plain") schedule as stretches of ticks, from the simulator's schedule.
 
 use crate::run::Span;
-use sim::plan::{div_ceil, Judged, Task};
+use sim::levels::Levels;
+use sim::numbers::div_ceil;
+use sim::plan::{Judged, Task};
 use sim::schedule::Schedule;
 
 /// A job getting ticks of the canonical schedule without a break.
@@ -16,9 +18,10 @@ pub struct Turn {
 ///
 /// At each multiple of the hyperperiod all jobs so far are closed, as their deadlines have come,
 /// and every task has an arrival, as at tick 0. So one hyperperiod tells all the others.
-pub fn turns_within(tasks: &[Task], judged: Judged, window: Span) -> Vec<Turn> {
+pub fn turns_within(levels: &Levels, tasks: &[Task], judged: Judged, window: Span) -> Vec<Turn> {
     let round = judged.hyperperiod;
-    let pattern = turns_from_start(tasks, judged.nominal, round.min(window.to));
+    let schedule = Schedule::new(levels, tasks, judged.nominal);
+    let pattern = first_turns(schedule, round.min(window.to));
     let mut turns = Vec::new();
     for shift in (window.from / round..div_ceil(window.to, round)).map(|nth| nth * round) {
         for turn in &pattern {
@@ -39,9 +42,8 @@ pub fn turns_within(tasks: &[Task], judged: Judged, window: Span) -> Vec<Turn> {
     turns
 }
 
-/// The turns of the first so many ticks.
-fn turns_from_start(tasks: &[Task], nominal: usize, ticks: u64) -> Vec<Turn> {
-    let mut schedule = Schedule::new(tasks, nominal);
+/// The turns of the first so many ticks, from a schedule at tick 0.
+fn first_turns(mut schedule: Schedule, ticks: u64) -> Vec<Turn> {
     let mut turns: Vec<Turn> = Vec::new();
     for tick in 0..ticks {
         // "Each tick goes to the most urgent open job".

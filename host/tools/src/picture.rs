@@ -52,7 +52,7 @@ pub fn draw(run: &Run, window: Span, name: Option<&str>) -> String {
         run,
         window,
         scale: Scale::new(window, LEFT),
-        turns: turns_within(&run.tasks, run.judged, window),
+        turns: turns_within(&run.levels, &run.tasks, run.judged, window),
     };
     let refused = refusals::Layout::new(&view);
     let width = (axis::right(&view).max(refused.right()) + MARGIN).ceil();
@@ -71,7 +71,7 @@ pub fn draw(run: &Run, window: Span, name: Option<&str>) -> String {
     rows::draw(&view, rows_top, &mut body);
     body.add(refused.draw(refusals_top));
     body.add(axis::draw(&view, rows_bottom));
-    let (legend, legend_height) = legend::draw(MARGIN, legend_top, width - MARGIN);
+    let (legend, legend_height) = legend::draw(&run.levels, MARGIN, legend_top, width - MARGIN);
     body.add(legend);
     page(width, (legend_top + legend_height + MARGIN).ceil(), body)
 }

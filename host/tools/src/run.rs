@@ -4,8 +4,11 @@
 use crate::bench::{split, unpack_pass, LARGEST_INPUT};
 use crate::script::Pass;
 use sim::dispatch::{pass, start, Order};
-use sim::plan::{read_plan, time_needed, Judged, Task};
-use sim::state::{unpack, STATE_BYTES};
+use sim::job::time_needed;
+use sim::layout::STATE_BYTES;
+use sim::levels::Levels;
+use sim::plan::{read_plan, Judged, Task};
+use sim::state::unpack;
 
 /// The ticks from one clock reading up to another.
 #[derive(Clone, Copy, PartialEq, Eq, Debug)]
@@ -48,6 +51,7 @@ pub struct Refusal {
 
 #[derive(Clone, Debug)]
 pub struct Run {
+    pub levels: Levels,
     pub tasks: Vec<Task>,
     pub judged: Judged,
     pub stretches: Vec<Stretch>,
@@ -61,14 +65,15 @@ pub struct Run {
 }
 
 /// The run of a bench input, or the number that the whole input is refused with.
-pub fn follow(input: &[u8]) -> Result<Run, u32> {
+pub fn follow(levels: &Levels, input: &[u8]) -> Result<Run, u32> {
     if input.len() > LARGEST_INPUT {
         return Err(17);
     }
     let (block, rest) = split(input);
-    let (tasks, judged) = read_plan(block)?;
+    let (tasks, judged) = read_plan(levels, block)?;
     let mut state = [0; STATE_BYTES];
     let mut run = Run {
+        levels: levels.clone(),
         tasks,
         judged,
         stretches: Vec::new(),
@@ -76,7 +81,7 @@ pub fn follow(input: &[u8]) -> Result<Run, u32> {
         refusals: Vec::new(),
         accepted: 0,
         clock: 0,
-        order: start(block, &mut state)?,
+        order: start(levels, block, &mut state)?,
     };
     let mut pairs = rest.chunks_exact(2);
     for pair in &mut pairs {
@@ -111,7 +116,7 @@ impl Run {
     /// Puts a pass to the simulator and enters what came of it.
     fn put(&mut self, told: Pass, state: &mut [u8]) {
         let needed = self.ticks_needed(state);
-        let next = match pass(state, told.d, told.finished) {
+        let next = match pass(&self.levels, state, told.d, told.finished) {
             Ok(next) => next,
             Err(number) => return self.refuse(number),
         };
@@ -134,14 +139,14 @@ impl Run {
         self.order = next;
     }
 
-    /// The ticks that the running job's work left needs at its level; 0 if none is running.
+    /// The ticks that what is left of the running job needs at its level; 0 if none is running.
     fn ticks_needed(&self, state: &[u8]) -> u64 {
         let (task, level) = match self.order {
             Order::Run { task, level, .. } => (usize::from(task), usize::from(level)),
             Order::Idle { .. } => return 0,
         };
         let state = unpack(state).expect("the simulator leaves a state that can be unpacked");
-        time_needed(state.entries[task].work_left, level)
+        time_needed(state.entries[task].left, self.levels.speed(level))
     }
 
     /// A stretch that goes on where the last one stopped, of the same job at the same level,

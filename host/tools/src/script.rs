@@ -2,14 +2,11 @@
 
 use sim::plan::Task;
 
-/// The widths of the fields, in bits.
-pub const COUNT_BITS: u32 = 5;
-pub const PERIOD_BITS: u32 = 16;
-pub const WORST_BITS: u32 = 20;
-pub const D_BITS: u32 = 15;
+/// How many bits a pass has for its ticks.
+pub const D_BITS: usize = 15;
 
 /// The largest number that a field of so many bits can hold.
-pub const fn largest(bits: u32) -> u64 {
+pub const fn largest(bits: usize) -> u64 {
     (1 << bits) - 1
 }
 

@@ -1,7 +1,8 @@
 //! The text form: `task PERIOD WORST` lines, then `pass D` and `finish D` lines. `#` starts a
 //! comment, and blank lines say nothing.
 
-use crate::script::{largest, Pass, Script, COUNT_BITS, D_BITS, PERIOD_BITS, WORST_BITS};
+use crate::script::{largest, Pass, Script, D_BITS};
+use sim::block::{COUNT_BITS, PERIOD_BITS, WORST_BITS};
 use sim::plan::Task;
 use std::fmt;
 
@@ -11,7 +12,7 @@ pub enum Mistake {
     UnknownWord(String),
     Missing(&'static str),
     NotANumber(&'static str, String),
-    OutOfRange(&'static str, String, u32),
+    OutOfRange(&'static str, String, usize),
     LeftOver(String),
     TooManyTasks,
     TaskAfterPass,
@@ -134,7 +135,7 @@ fn enter_pass<'a>(
 fn number<'a>(
     words: &mut impl Iterator<Item = &'a str>,
     field: &'static str,
-    bits: u32,
+    bits: usize,
 ) -> Result<u64, Mistake> {
     let word = words.next().ok_or(Mistake::Missing(field))?;
     if !word.bytes().all(|byte| byte.is_ascii_digit()) {

@@ -2,7 +2,7 @@
 //! must the simulator.
 
 use crate::program::{examples, from_file, text};
-use sim::listing;
+use sim::{listing, Levels};
 use std::collections::BTreeSet;
 use std::fs;
 use std::path::PathBuf;
@@ -42,7 +42,12 @@ fn every_example_lists_as_stored() {
 fn the_simulator_lists_every_example_as_stored() {
     for (input, listed) in stored() {
         let bytes = fs::read(&input).expect("the input is there");
-        assert_eq!(text(&listing(&bytes)), listed, "{}", input.display());
+        assert_eq!(
+            text(&listing(&Levels::base(), &bytes)),
+            listed,
+            "{}",
+            input.display()
+        );
     }
 }
 
@@ -83,7 +88,9 @@ fn every_level_and_every_refusal_is_stored() {
             }
         }
     }
-    let all_levels = (0..8).map(|level: u32| level.to_string()).collect();
+    let all_levels = (0..Levels::base().count())
+        .map(|level| level.to_string())
+        .collect();
     assert_eq!(levels, all_levels);
     let all_refusals = REFUSALS.iter().map(u32::to_string).collect();
     assert_eq!(refusals, all_refusals);

@@ -1,7 +1,9 @@
 //! Inputs of every kind.
 
 use crate::program::Both;
-use sim::plan::{block_bytes, Task, SPEEDS};
+use sim::block::{block_bytes, Edition};
+use sim::levels::Levels;
+use sim::plan::Task;
 use sim::random::blocks::{bench_input, block_of, damaged_block};
 use sim::random::plans::{
     edge_list, full_plan, plan_above_largest_hyperperiod, plan_at_largest_hyperperiod,
@@ -22,8 +24,8 @@ fn one_task(period: u64, worst: u64) -> Vec<Task> {
 }
 
 /// An input with so many bytes and a run as long as fits.
-fn input_of_length(random: &mut Random, tasks: &[Task], length: usize) -> Vec<u8> {
-    let mut input = bench_input(random, tasks, length / 2);
+fn input_of_length(random: &mut Random, levels: &Levels, tasks: &[Task], length: usize) -> Vec<u8> {
+    let mut input = bench_input(random, levels, tasks, length / 2);
     input.resize(length, 0);
     input
 }
@@ -32,20 +34,21 @@ fn input_of_length(random: &mut Random, tasks: &[Task], length: usize) -> Vec<u8
 /// passes at every level; a refused pass that ends the listing or moves the clock.
 #[test]
 fn runs_at_every_level() {
-    let mut both = Both::default();
+    let levels = Levels::base();
+    let mut both = Both::new(&levels);
     let mut random = Random::new(2_101);
     for round in 0..1_200 {
-        let level = round % SPEEDS.len();
+        let level = round % levels.count();
         let plan = match round % 3 {
-            0 => plan_at_level(&mut random, level),
-            1 => full_plan(&mut random, level),
+            0 => plan_at_level(&mut random, &levels, level),
+            1 => full_plan(&mut random, &levels, level),
             _ => {
                 let base = random.pick(&SMALL_BASES);
-                plan_at_level_within(&mut random, level, base)
+                plan_at_level_within(&mut random, &levels, level, base)
             }
         };
         let passes = random.between(0, 120) as usize;
-        let listed = both.list(&bench_input(&mut random, &plan, passes));
+        let listed = both.list(&bench_input(&mut random, &levels, &plan, passes));
         assert!(listed.lines().count() >= 2 + passes);
     }
     both.saw("runs at every level", 1_200);
@@ -63,17 +66,18 @@ fn runs_at_every_level() {
 /// and an odd byte that is let go.
 #[test]
 fn every_cut() {
-    let mut both = Both::default();
+    let levels = Levels::base();
+    let mut both = Both::new(&levels);
     let mut random = Random::new(2_102);
     for length in 0..=EXAMPLE.len() {
         both.list(&EXAMPLE[..length]);
     }
-    let mut longest = plan_at_level(&mut random, 3);
+    let mut longest = plan_at_level(&mut random, &levels, 3);
     while longest.len() < 16 {
-        longest = plan_at_level(&mut random, 3);
+        longest = plan_at_level(&mut random, &levels, 3);
     }
     for count in [1, 2, 9, 16] {
-        let input = bench_input(&mut random, &longest[..count], 6);
+        let input = bench_input(&mut random, &levels, &longest[..count], 6);
         for length in 0..=input.len() {
             both.list(&input[..length]);
         }
@@ -88,7 +92,8 @@ fn every_cut() {
 /// Would catch a bit of the input that is not looked at or is taken for another.
 #[test]
 fn every_flipped_bit() {
-    let mut both = Both::default();
+    let levels = Levels::base();
+    let mut both = Both::new(&levels);
     let mut input = EXAMPLE;
     for place in 0..8 * input.len() {
         input[place / 8] ^= 0x80 >> (place % 8);
@@ -107,16 +112,17 @@ fn every_flipped_bit() {
 /// Would catch a refused plan that doesn't end the listing, or that is refused with another number.
 #[test]
 fn damaged_plans() {
-    let mut both = Both::default();
+    let levels = Levels::base();
+    let mut both = Both::new(&levels);
     let mut random = Random::new(2_103);
     for round in 0..900 {
-        let level = round % SPEEDS.len();
+        let level = round % levels.count();
         let plan = match round % 5 {
-            0 => plan_one_over(&mut random, level),
-            1 => plan_at_largest_hyperperiod(&mut random),
+            0 => plan_one_over(&mut random, &levels, level),
+            1 => plan_at_largest_hyperperiod(&mut random, &levels),
             2 => plan_above_largest_hyperperiod(&mut random),
-            3 => edge_list(&mut random),
-            _ => plan_at_level(&mut random, level),
+            3 => edge_list(&mut random, &levels),
+            _ => plan_at_level(&mut random, &levels, level),
         };
         let mut input = block_of(&plan);
         if round % 2 == 0 {
@@ -138,7 +144,8 @@ fn damaged_plans() {
 /// Would catch an end on some bytes, and a count or an edition let through.
 #[test]
 fn rubbish() {
-    let mut both = Both::default();
+    let levels = Levels::base();
+    let mut both = Both::new(&levels);
     let mut random = Random::new(2_104);
     for first in 0..=255 {
         both.list(&[first]);
@@ -162,20 +169,21 @@ fn rubbish() {
 /// is read.
 #[test]
 fn the_largest_inputs() {
-    let mut both = Both::default();
+    let levels = Levels::base();
+    let mut both = Both::new(&levels);
     let mut random = Random::new(2_105);
     let plan_of_15 = &EXAMPLE[..15];
-    let bench: Vec<Task> = sim::read_plan(plan_of_15).unwrap().0;
+    let bench: Vec<Task> = sim::read_plan(&levels, plan_of_15).unwrap().0;
     // The bench plan's block leaves an odd byte, a single task's doesn't.
     for plan in [bench, one_task(40, 300), one_task(12, 600)] {
         for length in [LARGEST_INPUT - 1, LARGEST_INPUT] {
-            let odd = (length - block_bytes(plan.len() as u64)) % 2 == 1;
-            let listed = both.list(&input_of_length(&mut random, &plan, length));
+            let odd = (length - block_bytes(Edition::FIRST, plan.len() as u64)) % 2 == 1;
+            let listed = both.list(&input_of_length(&mut random, &levels, &plan, length));
             assert_eq!(listed.ends_with("refused 16\n"), odd);
             assert!(listed.lines().count() > 32_000);
         }
         for length in [LARGEST_INPUT + 1, LARGEST_INPUT + 2, 2 * LARGEST_INPUT] {
-            let listed = both.list(&input_of_length(&mut random, &plan, length));
+            let listed = both.list(&input_of_length(&mut random, &levels, &plan, length));
             assert_eq!(listed, "refused 17\n");
         }
     }
@@ -193,7 +201,8 @@ fn the_largest_inputs() {
 /// Would catch a clock or a hold that is printed wrong from some count of digits on.
 #[test]
 fn long_clocks() {
-    let mut both = Both::default();
+    let levels = Levels::base();
+    let mut both = Both::new(&levels);
     // A tick of work, then idle until the next arrival: 65,535 ticks with three passes.
     let mut input = block_of(&one_task(65_535, 10));
     let period: [u16; 3] = [0x8001, 0x7fff, 0x7fff];
@@ -216,15 +225,16 @@ fn long_clocks() {
 /// Would catch a program that takes the first piece of its input for all of it.
 #[test]
 fn inputs_in_pieces() {
-    let mut both = Both::default();
+    let levels = Levels::base();
+    let mut both = Both::new(&levels);
     let mut random = Random::new(2_106);
     for size in 1..=EXAMPLE.len() {
         both.list_in_pieces(&EXAMPLE, size);
     }
-    let bench: Vec<Task> = sim::read_plan(&EXAMPLE[..15]).unwrap().0;
+    let bench: Vec<Task> = sim::read_plan(&levels, &EXAMPLE[..15]).unwrap().0;
     for size in [4_095, 4_096, 10_000, 65_535, 65_536] {
         for length in [LARGEST_INPUT, LARGEST_INPUT + 1] {
-            let input = input_of_length(&mut random, &bench, length);
+            let input = input_of_length(&mut random, &levels, &bench, length);
             both.list_in_pieces(&input, size);
         }
     }

@@ -1,6 +1,6 @@
 //! Runs the bench program, and holds what it writes to the simulator's listing.
 
-use sim::listing;
+use sim::{listing, Levels};
 use std::collections::BTreeMap;
 use std::fs::File;
 use std::io::{ErrorKind, Write};
@@ -78,13 +78,22 @@ pub fn text(bytes: &[u8]) -> String {
 }
 
 /// Counts the inputs put to both sides, and the lines on which they agreed, by what they say.
-#[derive(Default)]
 pub struct Both {
+    /// The speeds that the simulator is handed.
+    levels: Levels,
     inputs: u64,
     lines: BTreeMap<String, u64>,
 }
 
 impl Both {
+    pub fn new(levels: &Levels) -> Both {
+        Both {
+            levels: levels.clone(),
+            inputs: 0,
+            lines: BTreeMap::new(),
+        }
+    }
+
     /// The program's listing of the input, which must be the simulator's byte by byte.
     #[track_caller]
     pub fn list(&mut self, input: &[u8]) -> String {
@@ -93,7 +102,7 @@ impl Both {
 
     #[track_caller]
     pub fn list_in_pieces(&mut self, input: &[u8], size: usize) -> String {
-        let wanted = text(&listing(input));
+        let wanted = text(&listing(&self.levels, input));
         let got = text(&from_pipe(input, size));
         if got != wanted {
             panic!("{}", first_difference(input, &got, &wanted));

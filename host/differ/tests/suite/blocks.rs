@@ -2,24 +2,34 @@
 
 use crate::both::{Both, Call, ACCEPTED};
 use crate::made::{plan_of_count, put_block, tasks};
-use sim::plan::{block_bytes, pack_block, SPEEDS};
+use sim::block::{block_bytes, pack_block, Edition, COUNT_BITS, EDITION_BITS, HEAD_BITS};
+use sim::levels::Levels;
 use sim::random::blocks::{block_of, damaged_block};
 use sim::random::plans::plan_at_level;
 use sim::random::Random;
 
+/// The edition that the blocks are of.
+const EDITION: Edition = Edition::FIRST;
+
+/// How many bits the head and so many tasks have.
+fn used_bits(count: usize) -> usize {
+    HEAD_BITS + EDITION.task_bits() * count
+}
+
 /// The bits between the last task and the end of a block of so many tasks.
 fn closing_bits(count: usize) -> usize {
-    8 * block_bytes(count as u64) - (9 + 36 * count)
+    8 * block_bytes(EDITION, count as u64) - used_bits(count)
 }
 
 /// Would catch a length that is not asked about exactly, and a block read past its end.
 #[test]
 fn every_cut_and_every_tail() {
-    let mut both = Both::new();
+    let levels = Levels::base();
+    let mut both = Both::new(&levels);
     let mut random = Random::new(201);
     for count in 1..=16 {
         for _ in 0..8 {
-            let block = block_of(&plan_of_count(&mut random, count));
+            let block = block_of(&plan_of_count(&mut random, &levels, count));
             for length in 0..block.len() {
                 let wanted = if length < 2 { 1 } else { 4 };
                 let cut = put_block(&mut both, &mut random, &block[..length]);
@@ -42,19 +52,20 @@ fn every_cut_and_every_tail() {
 /// Would catch any bit that is not looked at, or is taken for another.
 #[test]
 fn every_single_flipped_bit() {
-    let mut both = Both::new();
+    let levels = Levels::base();
+    let mut both = Both::new(&levels);
     let mut random = Random::new(202);
     for count in 1..=16 {
         for _ in 0..8 {
-            let mut block = block_of(&plan_of_count(&mut random, count));
+            let mut block = block_of(&plan_of_count(&mut random, &levels, count));
             for place in 0..8 * block.len() {
                 block[place / 8] ^= 0x80 >> (place % 8);
                 let flipped = put_block(&mut both, &mut random, &block);
-                if place < 4 {
+                if place < EDITION_BITS {
                     assert_eq!(flipped, Err(2));
-                } else if place < 9 {
+                } else if place < HEAD_BITS {
                     assert!(matches!(flipped, Err(3 | 4)));
-                } else if place >= 9 + 36 * count {
+                } else if place >= used_bits(count) {
                     assert_eq!(flipped, Err(5));
                 }
                 block[place / 8] ^= 0x80 >> (place % 8);
@@ -73,11 +84,12 @@ fn every_single_flipped_bit() {
 /// Would catch a closing bit that is not asked about, and one asked about after the fields.
 #[test]
 fn every_pattern_of_closing_bits() {
-    let mut both = Both::new();
+    let levels = Levels::base();
+    let mut both = Both::new(&levels);
     let mut random = Random::new(203);
     let mut singles = 0;
     for count in 1..=16 {
-        let good = block_of(&plan_of_count(&mut random, count));
+        let good = block_of(&plan_of_count(&mut random, &levels, count));
         let bad = block_of(&tasks(&vec![(0, 0); count]));
         for pattern in 0u8..1 << closing_bits(count) {
             singles += u32::from(pattern.is_power_of_two());
@@ -102,11 +114,12 @@ fn every_pattern_of_closing_bits() {
 /// asked before its turn.
 #[test]
 fn every_edition_count_and_length() {
-    let mut both = Both::new();
+    let levels = Levels::base();
+    let mut both = Both::new(&levels);
     let mut random = Random::new(204);
     let sixteen = tasks(&[(1_000, 37); 16]);
-    for edition in 0..16 {
-        for count in 0..32 {
+    for edition in (0..1 << EDITION_BITS).map(Edition) {
+        for count in 0..1 << COUNT_BITS {
             let mut whole = pack_block(edition, count, &sixteen);
             whole.extend([0, 0]);
             for length in 0..=whole.len() {
@@ -114,7 +127,7 @@ fn every_edition_count_and_length() {
             }
             let own = count.clamp(1, 16);
             let block = pack_block(edition, count, &sixteen[..own as usize]);
-            let right = edition == 1 && own == count;
+            let right = edition == EDITION && own == count;
             let read = put_block(&mut both, &mut random, &block);
             assert_eq!(read.is_ok(), right);
         }
@@ -133,12 +146,13 @@ fn every_edition_count_and_length() {
 /// of the first period.
 #[test]
 fn every_pair_of_first_bytes() {
-    let mut both = Both::new();
+    let levels = Levels::base();
+    let mut both = Both::new(&levels);
     let rest = block_of(&tasks(&[(60_000, 37); 16]));
     for first in 0..=u16::MAX {
         let count = first >> 7 & 0x1f;
         let length = match count {
-            1..=16 => block_bytes(u64::from(count)),
+            1..=16 => block_bytes(EDITION, u64::from(count)),
             _ => rest.len(),
         };
         let mut block = rest[..length].to_vec();
@@ -160,10 +174,11 @@ fn every_pair_of_first_bytes() {
 /// number.
 #[test]
 fn damaged_blocks() {
-    let mut both = Both::new();
+    let levels = Levels::base();
+    let mut both = Both::new(&levels);
     let mut random = Random::new(205);
     for round in 0..4_000 {
-        let tasks = plan_at_level(&mut random, round % SPEEDS.len());
+        let tasks = plan_at_level(&mut random, &levels, round % levels.count());
         let block = block_of(&tasks);
         for _ in 0..8 {
             let damaged = damaged_block(&mut random, &block);

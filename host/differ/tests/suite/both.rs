@@ -2,6 +2,7 @@
 //! the same bytes.
 
 use differ::proved::{self, Judged};
+use sim::levels::Levels;
 use sim::plan::{self, Task};
 use std::collections::BTreeMap;
 use std::fmt::Arguments;
@@ -30,20 +31,24 @@ pub enum Call {
 }
 
 /// Puts calls to both sides, and counts the answers on which they agreed.
-#[derive(Default)]
 pub struct Both {
+    /// The speeds that the simulator is handed.
+    pub levels: Levels,
     seen: BTreeMap<(Call, u32), u64>,
 }
 
 impl Both {
-    pub fn new() -> Both {
-        Both::default()
+    pub fn new(levels: &Levels) -> Both {
+        Both {
+            levels: levels.clone(),
+            seen: BTreeMap::new(),
+        }
     }
 
     /// Judges the plan of this count and these numbers.
     #[track_caller]
     pub fn judge(&mut self, count: usize, numbers: &[u32]) -> Result<Judged, u32> {
-        let wanted = plan::judge(count as u64, &tasks_in(numbers)).map(as_judged);
+        let wanted = plan::judge(&self.levels, count as u64, &tasks_in(numbers)).map(as_judged);
         let answer = proved::judge(count, numbers);
         assert_eq!(answer, wanted, "judging {count} tasks, {numbers:?}");
         self.count(Call::Judge, &answer);
@@ -53,7 +58,7 @@ impl Both {
     /// Reads the block.
     #[track_caller]
     pub fn read(&mut self, block: &[u8]) -> Result<Judged, u32> {
-        let wanted = plan::read_plan(block).map(|(_, judged)| as_judged(judged));
+        let wanted = plan::read_plan(&self.levels, block).map(|(_, judged)| as_judged(judged));
         let answer = proved::read(block);
         assert_eq!(answer, wanted, "reading {block:02x?}");
         self.count(Call::Read, &answer);
@@ -67,7 +72,7 @@ impl Both {
         let answer = same_bytes(
             room,
             |buffer| proved::write(count, numbers, buffer),
-            |buffer| plan::write_plan(count as u64, &tasks, buffer),
+            |buffer| plan::write_plan(&self.levels, count as u64, &tasks, buffer),
             &format_args!("writing {count} tasks, {numbers:?}"),
         );
         self.count(Call::Write, &answer);
@@ -82,8 +87,8 @@ impl Both {
             room,
             |buffer| proved::copy(block, buffer),
             |buffer| {
-                let (tasks, _) = plan::read_plan(block)?;
-                plan::write_plan(tasks.len() as u64, &tasks, buffer)
+                let (tasks, _) = plan::read_plan(&self.levels, block)?;
+                plan::write_plan(&self.levels, tasks.len() as u64, &tasks, buffer)
             },
             &format_args!("copying {block:02x?}"),
         );

@@ -2,6 +2,7 @@
 
 use crate::both::{Both, Call, ACCEPTED};
 use crate::made::{numbers_of, plan_of_count, tasks};
+use sim::levels::Levels;
 use sim::random::blocks::block_of;
 use sim::random::Random;
 
@@ -9,11 +10,12 @@ use sim::random::Random;
 /// buffer, a buffer half filled before 9 is said, and an old byte that shines through.
 #[test]
 fn buffers_of_every_length() {
-    let mut both = Both::new();
+    let levels = Levels::base();
+    let mut both = Both::new(&levels);
     let mut random = Random::new(301);
     for count in 1..=16 {
         for _ in 0..8 {
-            let tasks = plan_of_count(&mut random, count);
+            let tasks = plan_of_count(&mut random, &levels, count);
             let numbers = numbers_of(&tasks);
             let block = block_of(&tasks);
             assert_eq!(both.judge(count, &numbers), both.read(&block));
@@ -37,7 +39,8 @@ fn buffers_of_every_length() {
 /// Would catch 9 said before another refusal, and a byte changed on the way to one.
 #[test]
 fn refused_plans_with_buffers_of_every_length() {
-    let mut both = Both::new();
+    let levels = Levels::base();
+    let mut both = Both::new(&levels);
     let refused = [
         (tasks(&[(1_000, 1); 17]), 3),
         (tasks(&[(10, 400), (10, 0)]), 6),

@@ -4,14 +4,16 @@ use crate::both::{Both, Call, ACCEPTED};
 use crate::dispatch::STATE_BYTES;
 use crate::made::{bench_plan, tasks};
 use crate::view::{told, View};
-use sim::plan::{judge_list, Task, SPEEDS};
+use sim::clock::LARGEST_CLOCK;
+use sim::layout;
+use sim::levels::Levels;
+use sim::plan::{judge_list, Task};
 use sim::random::blocks::block_of;
 use sim::random::plans::{plan_at_level_within, SMALL_BASES};
 use sim::random::Random;
-use sim::state::LARGEST_CLOCK;
 
 fn clock_in(state: &[u8]) -> u64 {
-    u64::from(u32::from_be_bytes([state[0], state[1], state[2], state[3]]))
+    layout::CLOCK.get(state)
 }
 
 /// A fresh start moved to the last arrival of all tasks together that is at least so many ticks
@@ -19,9 +21,9 @@ fn clock_in(state: &[u8]) -> u64 {
 fn started_late(both: &mut Both, plan: &[Task], before: u64) -> [u8; STATE_BYTES] {
     let mut state = [0; STATE_BYTES];
     both.start(&block_of(plan), &mut state).unwrap();
-    let hyperperiod = judge_list(plan).unwrap().hyperperiod;
+    let hyperperiod = judge_list(&both.levels, plan).unwrap().hyperperiod;
     let clock = (LARGEST_CLOCK - before) / hyperperiod * hyperperiod;
-    state[..4].copy_from_slice(&(clock as u32).to_be_bytes());
+    layout::CLOCK.put(&mut state, clock);
     state
 }
 
@@ -29,16 +31,17 @@ fn started_late(both: &mut Both, plan: &[Task], before: u64) -> [u8; STATE_BYTES
 /// there: each run goes on until only 15 is left, which is at the largest clock or a hold before it.
 #[test]
 fn runs_up_to_the_largest_clock() {
-    let mut both = Both::new();
+    let levels = Levels::base();
+    let mut both = Both::new(&levels);
     let mut random = Random::new(701);
     let mut at_the_end = 0;
     for round in 0..120 {
         let base = random.pick(&SMALL_BASES);
-        let plan = plan_at_level_within(&mut random, round % SPEEDS.len(), base);
+        let plan = plan_at_level_within(&mut random, &levels, round % levels.count(), base);
         let before = random.below(40);
         let mut state = started_late(&mut both, &plan, before);
         loop {
-            let (d, finished) = View::of(&state).some_pass(&mut random);
+            let (d, finished) = View::of(&levels, &state).some_pass(&mut random);
             let reply = both.pass(&mut state, d, told(&mut random, finished));
             assert!(both.show(&state, 48).is_ok());
             if reply == Err(15) {
@@ -48,11 +51,11 @@ fn runs_up_to_the_largest_clock() {
         }
         // From here one tick at a time.
         while clock_in(&state) < LARGEST_CLOCK {
-            let (d, finished) = View::of(&state).one_tick(&mut random);
+            let (d, finished) = View::of(&levels, &state).one_tick(&mut random);
             both.pass(&mut state, d, told(&mut random, finished))
                 .unwrap();
         }
-        let (d, finished) = View::of(&state).whole_hold();
+        let (d, finished) = View::of(&levels, &state).whole_hold();
         let reply = both.pass(&mut state, d, told(&mut random, finished));
         assert_eq!(reply, Err(15));
         assert!(both.show(&state, 48).is_ok());
@@ -67,14 +70,15 @@ fn runs_up_to_the_largest_clock() {
 /// Would catch a clock past the largest that is let through, or one cut to fewer bits.
 #[test]
 fn clocks_around_the_largest() {
-    let mut both = Both::new();
+    let levels = Levels::base();
+    let mut both = Both::new(&levels);
     // Period 1 arrives at every clock, so the same state is sound at each.
     let state = started_late(&mut both, &tasks(&[(1, 10)]), 0);
     let largest = LARGEST_CLOCK as u32;
     let clocks = (largest - 300..=largest + 300).chain(u32::MAX - 300..=u32::MAX);
     for clock in clocks {
         let mut at = state;
-        at[..4].copy_from_slice(&clock.to_be_bytes());
+        layout::CLOCK.put(&mut at, u64::from(clock));
         let shown = both.show(&at, 48);
         assert_eq!(shown.is_ok(), clock <= largest, "{clock}");
         let wanted = match clock {
@@ -93,7 +97,8 @@ fn clocks_around_the_largest() {
 /// Would catch 15 asked before its turn: at the largest clock every other question still comes first.
 #[test]
 fn fifteen_is_asked_last() {
-    let mut both = Both::new();
+    let levels = Levels::base();
+    let mut both = Both::new(&levels);
     // 4,000,000,000 is 10 ticks past a multiple of 30.
     let mut state = started_late(&mut both, &bench_plan(), 10);
     for _ in 0..2 {

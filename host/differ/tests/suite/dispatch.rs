@@ -4,7 +4,7 @@
 use crate::both::{Both, Call, MARGIN, MARKS};
 use differ::dispatcher::{self, Order};
 
-pub const STATE_BYTES: usize = sim::state::STATE_BYTES;
+pub use sim::layout::STATE_BYTES;
 
 /// Bytes to lend, with marked ones around them.
 struct Lent {
@@ -62,7 +62,7 @@ impl Both {
         let room = state.len();
         let what = || format!("starting {block:02x?} in {room} bytes");
         let mut wanted = state.to_vec();
-        let simulated = sim::start(block, &mut wanted).map(as_order);
+        let simulated = sim::start(&self.levels, block, &mut wanted).map(as_order);
         let mut lent_block = Lent::new(nth + 3, block);
         let mut lent_state = Lent::new(nth, state);
         let answer = dispatcher::start(lent_block.slice(), lent_state.slice());
@@ -84,7 +84,7 @@ impl Both {
         let before = state.to_vec();
         let what = || format!("passing {d}, finished {finished}, in {before:02x?}");
         let mut lent = Lent::new(self.times(Call::Pass), state);
-        let simulated = sim::pass(state, d, finished != 0).map(as_order);
+        let simulated = sim::pass(&self.levels, state, d, finished != 0).map(as_order);
         let answer = dispatcher::pass(lent.slice(), d, finished);
         assert_eq!(answer, simulated, "{}", what());
         lent.wants(state, what);
@@ -102,7 +102,7 @@ impl Both {
         let what = || format!("showing {state:02x?} in {room} bytes");
         let before = vec![MARKS[(nth % 2) as usize]; room];
         let mut wanted = before.clone();
-        let simulated = sim::show(state, &mut wanted).map(|length| length as u64);
+        let simulated = sim::show(&self.levels, state, &mut wanted).map(|length| length as u64);
         let mut lent_state = Lent::new(nth + 3, state);
         let mut lent_buffer = Lent::new(nth, &before);
         let answer = dispatcher::show(lent_state.slice(), lent_buffer.slice());

@@ -3,7 +3,8 @@
 use crate::both::Both;
 use crate::made::{bench_plan, fits_block, numbers_of, tasks};
 use differ::proved::Judged;
-use sim::plan::{Task, SPEEDS};
+use sim::levels::Levels;
+use sim::plan::Task;
 use sim::random::blocks::block_of;
 
 /// 01, "Blocks": period 40 and worst case 300.
@@ -17,7 +18,8 @@ fn accepted(level: u64, hyperperiod: u64) -> Result<Judged, u32> {
 /// copying.
 #[track_caller]
 fn wants(tasks: &[Task], answer: Result<Judged, u32>) {
-    let mut both = Both::new();
+    let levels = Levels::base();
+    let mut both = Both::new(&levels);
     let numbers = numbers_of(tasks);
     assert_eq!(both.judge(tasks.len(), &numbers), answer, "{tasks:?}");
     let written = both.write(tasks.len(), &numbers, 80);
@@ -33,7 +35,8 @@ fn wants(tasks: &[Task], answer: Result<Judged, u32>) {
 /// the wrong place.
 #[test]
 fn the_example_block_both_ways() {
-    let mut both = Both::new();
+    let levels = Levels::base();
+    let mut both = Both::new(&levels);
     assert_eq!(both.write(1, &[40, 300], 8).as_deref(), Ok(&EXAMPLE[..]));
     assert_eq!(both.copy(&EXAMPLE, 8).as_deref(), Ok(&EXAMPLE[..]));
     // 300 units at 10 a tick are 30 of 40 ticks.
@@ -47,7 +50,8 @@ fn blocks_have_6_to_74_bytes() {
     let sizes = [
         6, 11, 15, 20, 24, 29, 33, 38, 42, 47, 51, 56, 60, 65, 69, 74,
     ];
-    let mut both = Both::new();
+    let levels = Levels::base();
+    let mut both = Both::new(&levels);
     for (before, size) in sizes.into_iter().enumerate() {
         let list = vec![(1_000, 37); before + 1];
         let numbers = numbers_of(&tasks(&list));
@@ -128,10 +132,14 @@ fn hyperperiods_around_a_million() {
 /// lowest.
 #[test]
 fn one_tick_holds_a_levels_speed_and_no_more() {
-    for (level, speed) in SPEEDS.into_iter().enumerate() {
-        let next = level as u64 + 1;
-        wants(&tasks(&[(1, speed)]), accepted(level as u64, 1));
-        let over = if next < 8 { accepted(next, 1) } else { Err(8) };
+    let levels = Levels::base();
+    for (level, speed) in levels.speeds().iter().enumerate() {
+        wants(&tasks(&[(1, *speed)]), accepted(level as u64, 1));
+        let over = if level < levels.top() {
+            accepted(level as u64 + 1, 1)
+        } else {
+            Err(8)
+        };
         wants(&tasks(&[(1, speed + 1)]), over);
     }
 }
@@ -149,7 +157,8 @@ fn the_bench_plan_fills_30_of_30() {
 /// and tasks past the count that are asked about.
 #[test]
 fn numbers_that_are_not_there_are_zero() {
-    let mut both = Both::new();
+    let levels = Levels::base();
+    let mut both = Both::new(&levels);
     assert_eq!(both.judge(1, &[]), Err(6));
     assert_eq!(both.judge(1, &[40]), Err(6));
     assert_eq!(both.judge(2, &[40, 300]), Err(6));

@@ -2,7 +2,9 @@
 
 use crate::both::{Both, PLACES};
 use differ::proved::Judged;
-use sim::plan::{block_bytes, judge_list, Task, LARGEST_PERIOD, LARGEST_WORST, SPEEDS};
+use sim::block::{block_bytes, Edition};
+use sim::levels::Levels;
+use sim::plan::{judge_list, Task, LARGEST_PERIOD, LARGEST_WORST};
 use sim::random::blocks::block_of;
 use sim::random::plans::plan_at_level;
 use sim::random::Random;
@@ -36,14 +38,14 @@ pub fn fits_block(tasks: &[Task]) -> bool {
 }
 
 /// Any level, any bases, and exactly so many tasks: accepted.
-pub fn plan_of_count(random: &mut Random, count: usize) -> Vec<Task> {
+pub fn plan_of_count(random: &mut Random, levels: &Levels, count: usize) -> Vec<Task> {
     loop {
-        let level = random.place(SPEEDS.len());
-        let mut tasks = plan_at_level(random, level);
+        let level = random.place(levels.count());
+        let mut tasks = plan_at_level(random, levels, level);
         if tasks.len() >= count {
             // With fewer tasks the hyperperiod and the sum are no greater.
             tasks.truncate(count);
-            assert!(judge_list(&tasks).is_ok());
+            assert!(judge_list(levels, &tasks).is_ok());
             return tasks;
         }
     }
@@ -96,7 +98,7 @@ pub fn some_room(random: &mut Random, needed: usize) -> usize {
 pub fn put_tasks(both: &mut Both, random: &mut Random, tasks: &[Task]) -> Result<Judged, u32> {
     let numbers = numbers_of(tasks);
     let judged = both.judge(tasks.len(), &numbers);
-    let needed = block_bytes(tasks.len().min(PLACES) as u64);
+    let needed = block_bytes(Edition::of_tasks(tasks), tasks.len().min(PLACES) as u64);
     let _ = both.write(tasks.len(), &numbers, some_room(random, needed));
     if fits_block(tasks) {
         assert_eq!(put_block(both, random, &block_of(tasks)), judged);

@@ -5,6 +5,7 @@ use crate::dispatch::STATE_BYTES;
 use crate::made::{bench_plan, tasks};
 use crate::view::queue_bytes;
 use differ::dispatcher::Order;
+use sim::levels::Levels;
 use sim::random::blocks::block_of;
 
 /// The passes of 01's listing, and what they are answered.
@@ -40,7 +41,8 @@ fn led(both: &mut Both, passes: usize) -> [u8; STATE_BYTES] {
 /// names.
 #[test]
 fn the_listing() {
-    let mut both = Both::new();
+    let levels = Levels::base();
+    let mut both = Both::new(&levels);
     for passes in 0..=LISTING.len() {
         led(&mut both, passes);
     }
@@ -49,7 +51,8 @@ fn the_listing() {
 /// Would catch a field at another place of the state, or with its bytes in another order.
 #[test]
 fn the_state_byte_by_byte() {
-    let mut both = Both::new();
+    let levels = Levels::base();
+    let mut both = Both::new(&levels);
     let mut state = led(&mut both, 1);
     let mut wanted = [0; STATE_BYTES];
     // Clock 1, task 1, level 5, three entries.
@@ -75,7 +78,8 @@ fn the_state_byte_by_byte() {
 /// Would catch an edge of 11 to 14 that is off by one.
 #[test]
 fn passes_of_the_bench_plan_at_tick_0() {
-    let mut both = Both::new();
+    let levels = Levels::base();
+    let mut both = Both::new(&levels);
     let state = led(&mut both, 0);
     let mut answer = |d, finished| both.pass(&mut state.clone(), d, finished);
     assert_eq!(answer(3, 0), Ok(run(0, 7, 1)));
@@ -91,7 +95,8 @@ fn passes_of_the_bench_plan_at_tick_0() {
 /// Would catch a finish that is taken though no job runs.
 #[test]
 fn finishing_while_idle_at_tick_18() {
-    let mut both = Both::new();
+    let levels = Levels::base();
+    let mut both = Both::new(&levels);
     let mut state = led(&mut both, 5);
     assert_eq!(both.pass(&mut state, 2, 1), Err(13));
     assert_eq!(both.pass(&mut state, 3, 1), Err(12));
@@ -102,7 +107,8 @@ fn finishing_while_idle_at_tick_18() {
 /// Would catch a queue that is sorted by deadline and number alone, and one byte too few asked for.
 #[test]
 fn queues_at_ticks_1_and_20() {
-    let mut both = Both::new();
+    let levels = Levels::base();
+    let mut both = Both::new(&levels);
     let first = led(&mut both, 1);
     let queue = [0, 0, 3, 1, 0, 4, 2, 0, 6];
     assert_eq!(both.show(&first, 9).as_deref(), Ok(&queue[..]));
@@ -115,7 +121,8 @@ fn queues_at_ticks_1_and_20() {
 /// Would catch a wrong answer where the plan has no room at all: every tick starts a new job.
 #[test]
 fn period_1() {
-    let mut both = Both::new();
+    let levels = Levels::base();
+    let mut both = Both::new(&levels);
     for (work, level) in [(10, 0), (11, 1), (60, 5), (61, 6), (100, 7)] {
         let mut state = [0; STATE_BYTES];
         let first = both.start(&block_of(&tasks(&[(1, work)])), &mut state);

@@ -2,7 +2,8 @@
 
 use crate::both::{Both, Call, ACCEPTED};
 use crate::made::{loose_plan, nearby, numbers_of, put_tasks, some_room};
-use sim::plan::{block_bytes, SPEEDS};
+use sim::block::{block_bytes, Edition};
+use sim::levels::Levels;
 use sim::random::plans::{
     edge_count_and_entries, full_plan, plan_above_largest_hyperperiod, plan_at_largest_hyperperiod,
     plan_at_level, plan_one_over, plan_one_unit_over,
@@ -14,11 +15,12 @@ use sim::random::Random;
 /// edge that is off by one.
 #[test]
 fn accepted_plans_at_every_level_and_their_neighbours() {
-    let mut both = Both::new();
+    let levels = Levels::base();
+    let mut both = Both::new(&levels);
     let mut random = Random::new(101);
-    for level in 0..SPEEDS.len() {
+    for level in 0..levels.count() {
         for _ in 0..1_000 {
-            let tasks = plan_at_level(&mut random, level);
+            let tasks = plan_at_level(&mut random, &levels, level);
             let judged = put_tasks(&mut both, &mut random, &tasks);
             assert_eq!(judged.map(|judged| judged.level), Ok(level as u64));
             for _ in 0..4 {
@@ -43,10 +45,11 @@ fn accepted_plans_at_every_level_and_their_neighbours() {
 /// least, and a limit that depends on the order of the tasks.
 #[test]
 fn plans_around_the_largest_hyperperiod() {
-    let mut both = Both::new();
+    let levels = Levels::base();
+    let mut both = Both::new(&levels);
     let mut random = Random::new(102);
     for _ in 0..1_500 {
-        let at = plan_at_largest_hyperperiod(&mut random);
+        let at = plan_at_largest_hyperperiod(&mut random, &levels);
         let judged = put_tasks(&mut both, &mut random, &at);
         assert_eq!(judged.map(|judged| judged.hyperperiod), Ok(1_000_000));
         let above = plan_above_largest_hyperperiod(&mut random);
@@ -61,19 +64,20 @@ fn plans_around_the_largest_hyperperiod() {
 /// and a speed that is wrong at one level.
 #[test]
 fn plans_around_the_full_sum() {
-    let mut both = Both::new();
+    let levels = Levels::base();
+    let mut both = Both::new(&levels);
     let mut random = Random::new(103);
-    for level in 0..SPEEDS.len() {
+    for level in 0..levels.count() {
         for _ in 0..400 {
-            let full = full_plan(&mut random, level);
+            let full = full_plan(&mut random, &levels, level);
             let judged = put_tasks(&mut both, &mut random, &full);
             assert!(judged.map_or(false, |judged| judged.level <= level as u64));
-            let over = plan_one_over(&mut random, level);
+            let over = plan_one_over(&mut random, &levels, level);
             let judged = put_tasks(&mut both, &mut random, &over);
             assert_ne!(judged.map(|judged| judged.level), Ok(level as u64));
-            let unit = plan_one_unit_over(&mut random, level);
+            let unit = plan_one_unit_over(&mut random, &levels, level);
             let judged = put_tasks(&mut both, &mut random, &unit);
-            if level == 7 {
+            if level == levels.top() {
                 assert_eq!(judged, Err(8));
             } else {
                 assert_eq!(judged.map(|judged| judged.level), Ok(level as u64 + 1));
@@ -89,14 +93,15 @@ fn plans_around_the_full_sum() {
 /// that are looked at.
 #[test]
 fn fields_and_counts_at_their_edges() {
-    let mut both = Both::new();
+    let levels = Levels::base();
+    let mut both = Both::new(&levels);
     let mut random = Random::new(104);
     for _ in 0..15_000 {
-        let (count, entries) = edge_count_and_entries(&mut random);
+        let (count, entries) = edge_count_and_entries(&mut random, &levels);
         let count = count as usize;
         let mut numbers = numbers_of(&entries);
         let _ = both.judge(count, &numbers);
-        let needed = block_bytes(count.min(16) as u64);
+        let needed = block_bytes(Edition::FIRST, count.min(16) as u64);
         let _ = both.write(count, &numbers, some_room(&mut random, needed));
         // The same with some numbers missing.
         numbers.truncate(random.place(numbers.len()));
@@ -116,7 +121,8 @@ fn fields_and_counts_at_their_edges() {
 /// read up to it, and a count that some list lets through.
 #[test]
 fn every_count_with_a_list_of_every_length() {
-    let mut both = Both::new();
+    let levels = Levels::base();
+    let mut both = Both::new(&levels);
     let mut random = Random::new(105);
     for count in 0..=31 {
         for length in 0..=40 {
@@ -143,7 +149,8 @@ fn every_count_with_a_list_of_every_length() {
 /// Would catch a wrong least common multiple or sum where nothing was chosen to come out even.
 #[test]
 fn loose_plans() {
-    let mut both = Both::new();
+    let levels = Levels::base();
+    let mut both = Both::new(&levels);
     let mut random = Random::new(106);
     for _ in 0..20_000 {
         let tasks = loose_plan(&mut random);

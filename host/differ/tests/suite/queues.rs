@@ -2,7 +2,7 @@
 
 use crate::both::{Both, Call, ACCEPTED};
 use crate::made::plan_of_count;
-use sim::plan::SPEEDS;
+use sim::levels::Levels;
 use sim::random::plans::plan_at_level;
 use sim::random::states::{invented_state, reached_state};
 use sim::random::Random;
@@ -12,18 +12,19 @@ use sim::random::Random;
 /// or past the buffer, and a buffer half filled before 9 is said.
 #[test]
 fn queues_into_buffers_of_every_length() {
-    let mut both = Both::new();
+    let levels = Levels::base();
+    let mut both = Both::new(&levels);
     let mut random = Random::new(801);
     let mut of_count = [0; 17];
     for round in 0..1_200 {
         let plan = match round % 3 {
-            0 => plan_of_count(&mut random, 1 + round / 3 % 16),
-            _ => plan_at_level(&mut random, round % SPEEDS.len()),
+            0 => plan_of_count(&mut random, &levels, 1 + round / 3 % 16),
+            _ => plan_at_level(&mut random, &levels, round % levels.count()),
         };
         let state = if random.one_in(3) {
-            reached_state(&mut random, &plan, round % 20).0
+            reached_state(&mut random, &levels, &plan, round % 20).0
         } else {
-            invented_state(&mut random, &plan)
+            invented_state(&mut random, &levels, &plan)
         };
         let queue = both.show(&state, 48).unwrap();
         assert_eq!(queue.len() % 3, 0);
@@ -45,10 +46,11 @@ fn queues_into_buffers_of_every_length() {
 /// Would catch a length that is cut to fewer bits.
 #[test]
 fn queues_into_large_buffers() {
-    let mut both = Both::new();
+    let levels = Levels::base();
+    let mut both = Both::new(&levels);
     let mut random = Random::new(802);
-    let plan = plan_of_count(&mut random, 16);
-    let (state, _) = reached_state(&mut random, &plan, 0);
+    let plan = plan_of_count(&mut random, &levels, 16);
+    let (state, _) = reached_state(&mut random, &levels, &plan, 0);
     let queue = both.show(&state, 48).unwrap();
     assert_eq!(queue.len(), 48);
     for room in [255, 256, 257, 65_535, 65_536, 65_537, 1 << 20] {

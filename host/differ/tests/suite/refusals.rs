@@ -3,7 +3,9 @@
 
 use crate::both::{Both, Call, ACCEPTED};
 use crate::made::{bench_plan, numbers_of, tasks};
-use sim::plan::{pack_block, Task};
+use sim::block::{pack_block, Edition};
+use sim::levels::Levels;
+use sim::plan::Task;
 use sim::random::blocks::block_of;
 
 /// Reading and copying refuse the block so, however long the buffer.
@@ -30,7 +32,7 @@ fn refusals_1_and_2(both: &mut Both) {
     for short in [&[][..], &[0x10], &[0x1f], &[0xff], &[0x00]] {
         refuses_block(both, short, 1);
     }
-    for edition in (0..16).filter(|edition| *edition != 1) {
+    for edition in (0..16).filter(|edition| *edition != 1).map(Edition) {
         refuses_block(both, &pack_block(edition, 3, &bench_plan()), 2);
         // Before a bad count, a bad length and a bad field.
         refuses_block(both, &pack_block(edition, 0, &[]), 2);
@@ -41,8 +43,8 @@ fn refusals_1_and_2(both: &mut Both) {
 fn refusals_3_and_4(both: &mut Both) {
     for count in [0].into_iter().chain(17..32) {
         // Before a bad length and a bad field.
-        refuses_block(both, &pack_block(1, count, &[]), 3);
-        refuses_block(both, &pack_block(1, count, &bench_plan()), 3);
+        refuses_block(both, &pack_block(Edition::FIRST, count, &[]), 3);
+        refuses_block(both, &pack_block(Edition::FIRST, count, &bench_plan()), 3);
         refuses_tasks(both, &tasks(&vec![(1_000, 1); count as usize]), 3);
         refuses_tasks(both, &tasks(&vec![(0, 0); count as usize]), 3);
     }
@@ -53,7 +55,11 @@ fn refusals_3_and_4(both: &mut Both) {
     // Before a closing bit and a bad field.
     refuses_block(both, &[&block[..], &[0]].concat(), 4);
     refuses_block(both, &[&block[..], &[1]].concat(), 4);
-    refuses_block(both, &pack_block(1, 3, &tasks(&[(0, 0), (0, 0)])), 4);
+    refuses_block(
+        both,
+        &pack_block(Edition::FIRST, 3, &tasks(&[(0, 0), (0, 0)])),
+        4,
+    );
 }
 
 fn refusals_5_and_6(both: &mut Both) {
@@ -93,7 +99,8 @@ fn refusals_7_to_9(both: &mut Both) {
 /// Would catch a question left out, two in the wrong order, and a wrong number.
 #[test]
 fn every_number_from_every_call_that_gives_it() {
-    let mut both = Both::new();
+    let levels = Levels::base();
+    let mut both = Both::new(&levels);
     refusals_1_and_2(&mut both);
     refusals_3_and_4(&mut both);
     refusals_5_and_6(&mut both);
@@ -117,7 +124,8 @@ fn every_number_from_every_call_that_gives_it() {
 /// past its places.
 #[test]
 fn counts_far_out_of_range() {
-    let mut both = Both::new();
+    let levels = Levels::base();
+    let mut both = Both::new(&levels);
     let numbers = numbers_of(&tasks(&[(1_000, 1); 20]));
     for width in [5, 8, 16, 32, 63] {
         for low in 0..=16 {

@@ -8,7 +8,8 @@ use crate::made::bench_plan;
 use crate::view::{queue_bytes, told, View};
 use differ::dispatcher::Order;
 use sim::books::{demand3_holds, ActualBook, PlainBook};
-use sim::plan::{judge_list, Task, SPEEDS};
+use sim::levels::Levels;
+use sim::plan::{judge_list, Task};
 use sim::random::blocks::block_of;
 use sim::random::passes::any_pass;
 use sim::random::plans::{full_plan, plan_at_level, plan_at_level_within, SMALL_BASES};
@@ -37,7 +38,16 @@ struct Tally {
     stayed: u64,
     below_nominal: u64,
     idle: u64,
-    levels: [u64; 8],
+    levels: Vec<u64>,
+}
+
+impl Tally {
+    fn new(levels: &Levels) -> Tally {
+        Tally {
+            levels: vec![0; levels.count()],
+            ..Tally::default()
+        }
+    }
 }
 
 struct Run {
@@ -56,9 +66,9 @@ impl Run {
             .start(&block_of(&plan), &mut state)
             .expect("the plan is an accepted one");
         let run = Run {
-            nominal: judge_list(&plan).unwrap().nominal as u8,
+            nominal: judge_list(&both.levels, &plan).unwrap().nominal as u8,
             actual: ActualBook::new(&plan, as_simulated(order)),
-            plain: PlainBook::new(&plan),
+            plain: PlainBook::new(&both.levels, &plan),
             plan,
             state,
             order,
@@ -67,8 +77,7 @@ impl Run {
         run
     }
 
-    fn choose(&self, random: &mut Random, style: Style) -> (u32, bool) {
-        let view = View::of(&self.state);
+    fn choose(&self, view: View, random: &mut Random, style: Style) -> (u32, bool) {
         match style {
             Style::Worst => view.whole_hold(),
             Style::Early => view.early_end(random),
@@ -79,8 +88,8 @@ impl Run {
 
     /// One pass, with everything checked after it.
     fn step(&mut self, both: &mut Both, random: &mut Random, style: Style, tally: &mut Tally) {
-        let (d, finished) = self.choose(random, style);
-        let view = View::of(&self.state);
+        let view = View::of(&both.levels, &self.state);
+        let (d, finished) = self.choose(view, random, style);
         let reply = both.pass(&mut self.state, d, told(random, finished));
         assert_eq!(reply.err().unwrap_or(0), view.refusal(d, finished));
         let entered = reply.map(as_simulated);
@@ -145,13 +154,14 @@ fn run(
 /// pushed twice; a queue that stands still; a level always nominal; and any deadline missed.
 #[test]
 fn long_runs_at_every_level() {
-    let mut both = Both::new();
+    let levels = Levels::base();
+    let mut both = Both::new(&levels);
     let mut random = Random::new(401);
-    let mut tally = Tally::default();
-    for level in 0..SPEEDS.len() {
+    let mut tally = Tally::new(&levels);
+    for level in 0..levels.count() {
         for round in 0..48 {
             let base = random.pick(&SMALL_BASES);
-            let plan = plan_at_level_within(&mut random, level, base);
+            let plan = plan_at_level_within(&mut random, &levels, level, base);
             let style = STYLES[round % STYLES.len()];
             run(&mut both, &mut random, &plan, style, 160, &mut tally);
         }
@@ -175,17 +185,18 @@ fn long_runs_at_every_level() {
 /// or a tick lent twice, as a job that is late.
 #[test]
 fn long_runs_of_full_plans() {
-    let mut both = Both::new();
+    let levels = Levels::base();
+    let mut both = Both::new(&levels);
     let mut random = Random::new(402);
-    let mut tally = Tally::default();
+    let mut tally = Tally::new(&levels);
     let mut runs = 0;
     while runs < 128 {
-        let plan = full_plan(&mut random, runs % SPEEDS.len());
+        let plan = full_plan(&mut random, &levels, runs % levels.count());
         // The books go tick by tick.
         if plan.iter().any(|task| task.period > 3_000) {
             continue;
         }
-        let style = STYLES[runs / SPEEDS.len() % STYLES.len()];
+        let style = STYLES[runs / levels.count() % STYLES.len()];
         run(&mut both, &mut random, &plan, style, 120, &mut tally);
         runs += 1;
     }
@@ -199,12 +210,13 @@ fn long_runs_of_full_plans() {
 /// Would catch a number of ticks, of work or of plain ticks that is cut to fewer bits.
 #[test]
 fn runs_with_long_periods() {
-    let mut both = Both::new();
+    let levels = Levels::base();
+    let mut both = Both::new(&levels);
     let mut random = Random::new(403);
-    let mut tally = Tally::default();
-    for level in 0..SPEEDS.len() {
+    let mut tally = Tally::new(&levels);
+    for level in 0..levels.count() {
         for round in 0..6 {
-            let plan = plan_at_level(&mut random, level);
+            let plan = plan_at_level(&mut random, &levels, level);
             // A pass for every tick would not come far.
             let style = [Style::Worst, Style::Early, Style::Any][round % 3];
             run(&mut both, &mut random, &plan, style, 50, &mut tally);
@@ -219,9 +231,10 @@ fn runs_with_long_periods() {
 /// Would catch what builds up over many hyperperiods.
 #[test]
 fn the_bench_plan_for_thousands_of_passes() {
-    let mut both = Both::new();
+    let levels = Levels::base();
+    let mut both = Both::new(&levels);
     let mut random = Random::new(404);
-    let mut tally = Tally::default();
+    let mut tally = Tally::new(&levels);
     for style in STYLES {
         let plan = bench_plan();
         run(&mut both, &mut random, &plan, style, 4_000, &mut tally);

@@ -4,7 +4,8 @@ use crate::both::{Both, Call, ACCEPTED};
 use crate::dispatch::STATE_BYTES;
 use crate::made::{plan_of_count, tasks};
 use differ::dispatcher::Order;
-use sim::plan::{pack_block, SPEEDS};
+use sim::block::{pack_block, Edition};
+use sim::levels::Levels;
 use sim::random::blocks::{block_of, damaged_block};
 use sim::random::plans::{
     edge_list, full_plan, plan_above_largest_hyperperiod, plan_at_largest_hyperperiod,
@@ -31,22 +32,32 @@ fn put_start(
 
 /// A buffer's length: exact, one byte off, empty, or longer.
 fn some_room(random: &mut Random) -> usize {
-    random.pick(&[0, 199, 200, 200, 200, 200, 201, 212, 400])
+    let exact = STATE_BYTES;
+    let longer = [exact + 1, exact + 12, 2 * exact];
+    match random.below(9) {
+        0 => 0,
+        1 => exact - 1,
+        2..=5 => exact,
+        other => longer[other as usize - 6],
+    }
 }
 
 /// Would catch a buffer that must have exactly 200 bytes, a byte written past the 200 or past the
 /// buffer, a buffer half filled before 9 is said, and an old byte that shines through.
 #[test]
 fn starts_in_buffers_of_every_length() {
-    let mut both = Both::new();
+    let levels = Levels::base();
+    let mut both = Both::new(&levels);
     let mut random = Random::new(901);
     for count in 1..=16 {
-        let block = block_of(&plan_of_count(&mut random, count));
-        for room in 0..=260 {
+        let block = block_of(&plan_of_count(&mut random, &levels, count));
+        for room in 0..=STATE_BYTES + 60 {
             let reply = put_start(&mut both, &mut random, &block, room);
             assert_eq!(reply.is_ok(), room >= STATE_BYTES);
         }
-        for room in [456, 65_536, 65_735, 65_736, 1 << 18] {
+        // With the high bits of the length left out, some of these would be too short.
+        let (high, exact) = (1 << 16, STATE_BYTES);
+        for room in [exact + 256, high, high + exact - 1, high + exact, 1 << 18] {
             assert!(put_start(&mut both, &mut random, &block, room).is_ok());
         }
     }
@@ -58,7 +69,8 @@ fn starts_in_buffers_of_every_length() {
 /// Would catch 9 said before another refusal, and a byte changed on the way to one.
 #[test]
 fn refused_blocks_in_buffers_of_every_length() {
-    let mut both = Both::new();
+    let levels = Levels::base();
+    let mut both = Both::new(&levels);
     let mut random = Random::new(902);
     let bench = block_of(&tasks(&[(10, 400), (10, 400), (30, 600)]));
     let mut closed = bench.clone();
@@ -67,7 +79,7 @@ fn refused_blocks_in_buffers_of_every_length() {
         (vec![], 1),
         (bench[..1].to_vec(), 1),
         (bench[1..].to_vec(), 2),
-        (pack_block(1, 0, &[]), 3),
+        (pack_block(Edition::FIRST, 0, &[]), 3),
         (block_of(&tasks(&[(1_000, 1); 17])), 3),
         (bench[..14].to_vec(), 4),
         ([&bench[..], &[0]].concat(), 4),
@@ -77,7 +89,7 @@ fn refused_blocks_in_buffers_of_every_length() {
         (block_of(&tasks(&[(10, 400), (10, 400), (30, 601)])), 8),
     ];
     for (block, number) in refused {
-        for room in 0..=240 {
+        for room in 0..=STATE_BYTES + 40 {
             let reply = put_start(&mut both, &mut random, &block, room);
             assert_eq!(reply, Err(number));
         }
@@ -91,17 +103,18 @@ fn refused_blocks_in_buffers_of_every_length() {
 /// Would catch a first order or a fresh state that is wrong for some plan.
 #[test]
 fn starts_of_plans_of_every_kind() {
-    let mut both = Both::new();
+    let levels = Levels::base();
+    let mut both = Both::new(&levels);
     let mut random = Random::new(903);
     for round in 0..1_500 {
-        let level = round % SPEEDS.len();
+        let level = round % levels.count();
         let lists = [
-            plan_at_level(&mut random, level),
-            full_plan(&mut random, level),
-            plan_one_over(&mut random, level),
-            plan_at_largest_hyperperiod(&mut random),
+            plan_at_level(&mut random, &levels, level),
+            full_plan(&mut random, &levels, level),
+            plan_one_over(&mut random, &levels, level),
+            plan_at_largest_hyperperiod(&mut random, &levels),
             plan_above_largest_hyperperiod(&mut random),
-            edge_list(&mut random),
+            edge_list(&mut random, &levels),
         ];
         for list in lists {
             let room = some_room(&mut random);
@@ -118,10 +131,11 @@ fn starts_of_plans_of_every_kind() {
 /// Would catch damage that starting lets through though reading doesn't, or the other way round.
 #[test]
 fn starts_of_damaged_blocks() {
-    let mut both = Both::new();
+    let levels = Levels::base();
+    let mut both = Both::new(&levels);
     let mut random = Random::new(904);
     for round in 0..1_500 {
-        let block = block_of(&plan_at_level(&mut random, round % SPEEDS.len()));
+        let block = block_of(&plan_at_level(&mut random, &levels, round % levels.count()));
         for _ in 0..6 {
             let damaged = damaged_block(&mut random, &block);
             let room = some_room(&mut random);

@@ -6,16 +6,18 @@ use crate::dispatch::STATE_BYTES;
 use crate::made::bench_plan;
 use crate::view::{told, View};
 use sim::dispatch::sound;
-use sim::plan::SPEEDS;
+use sim::layout::{entry_at, of_task};
+use sim::layout::{CLOCK, COUNT, ENTRIES, ENTRY_ZERO, HEAD_ZERO, LEVEL, TASK};
+use sim::levels::Levels;
 use sim::random::plans::{plan_at_level, plan_at_level_within, SMALL_BASES};
 use sim::random::states::{forged_state, invented_state, late_state, reached_state};
 use sim::random::Random;
 
 /// Puts a state to passing and showing. Says whether it was taken for a sound one.
 fn put_state(both: &mut Both, random: &mut Random, state: &[u8]) -> bool {
-    let (d, finished) = match sound(state) {
-        Some(_) if random.one_in(2) => View::of(state).whole_hold(),
-        Some(_) => View::of(state).one_tick(random),
+    let (d, finished) = match sound(&both.levels, state) {
+        Some(_) if random.one_in(2) => View::of(&both.levels, state).whole_hold(),
+        Some(_) => View::of(&both.levels, state).one_tick(random),
         None => (random.pick(&[0, 1, 2, 100]), random.one_in(2)),
     };
     let mut after = state.to_vec();
@@ -26,22 +28,22 @@ fn put_state(both: &mut Both, random: &mut Random, state: &[u8]) -> bool {
 }
 
 /// Sound states of each kind, from plans of each kind.
-fn some_sound_state(random: &mut Random, round: usize) -> [u8; STATE_BYTES] {
-    let level = round % SPEEDS.len();
+fn some_sound_state(random: &mut Random, levels: &Levels, round: usize) -> [u8; STATE_BYTES] {
+    let level = round % levels.count();
     let plan = if random.one_in(2) {
-        plan_at_level(random, level)
+        plan_at_level(random, levels, level)
     } else {
         let base = random.pick(&SMALL_BASES);
-        plan_at_level_within(random, level, base)
+        plan_at_level_within(random, levels, level, base)
     };
     let passes = random.pick(&[0, 1, 3, 10, 30]);
     match random.below(3) {
-        0 => reached_state(random, &plan, passes).0,
+        0 => reached_state(random, levels, &plan, passes).0,
         1 => {
-            let (reached, _) = reached_state(random, &plan, passes);
-            late_state(random, &reached)
+            let (reached, _) = reached_state(random, levels, &plan, passes);
+            late_state(random, levels, &reached)
         }
-        _ => invented_state(random, &plan),
+        _ => invented_state(random, levels, &plan),
     }
 }
 
@@ -49,11 +51,12 @@ fn some_sound_state(random: &mut Random, round: usize) -> [u8; STATE_BYTES] {
 /// tail is not looked at.
 #[test]
 fn states_of_every_length() {
-    let mut both = Both::new();
+    let levels = Levels::base();
+    let mut both = Both::new(&levels);
     let mut random = Random::new(601);
     for round in 0..16 {
-        let state = some_sound_state(&mut random, round);
-        for length in 0..=420 {
+        let state = some_sound_state(&mut random, &levels, round);
+        for length in 0..=2 * STATE_BYTES + 20 {
             let filler = random.pick(&[0x00, 0xff]);
             let mut other = state.to_vec();
             other.resize(length, filler);
@@ -73,11 +76,12 @@ fn states_of_every_length() {
 /// at though it may be either.
 #[test]
 fn every_flipped_bit_of_sound_states() {
-    let mut both = Both::new();
+    let levels = Levels::base();
+    let mut both = Both::new(&levels);
     let mut random = Random::new(602);
     let mut sound_still = 0;
     for round in 0..16 {
-        let mut state = some_sound_state(&mut random, round);
+        let mut state = some_sound_state(&mut random, &levels, round);
         for place in 0..8 * STATE_BYTES {
             state[place / 8] ^= 0x80 >> (place % 8);
             sound_still += u32::from(put_state(&mut both, &mut random, &state));
@@ -93,23 +97,25 @@ fn every_flipped_bit_of_sound_states() {
 /// Would catch an order or a count that is let through though no sound state has it.
 #[test]
 fn every_value_of_the_head() {
-    let mut both = Both::new();
+    let levels = Levels::base();
+    let mut both = Both::new(&levels);
     let mut random = Random::new(603);
     let mut sound_still = 0;
     for round in 0..24 {
-        let state = some_sound_state(&mut random, round);
-        for place in 4..8 {
+        let state = some_sound_state(&mut random, &levels, round);
+        for field in [TASK, LEVEL, COUNT, HEAD_ZERO] {
             for value in 0..=255 {
                 let mut other = state;
-                other[place] = value;
+                field.put(&mut other, value);
                 sound_still += u32::from(put_state(&mut both, &mut random, &other));
             }
         }
         // The task and the level together, as far as they can mean something.
         for task in (0..=16).chain([254, 255]) {
-            for level in 0..=8 {
+            for level in 0..=levels.count() {
                 let mut other = state;
-                other[4..6].copy_from_slice(&[task, level]);
+                TASK.put(&mut other, task);
+                LEVEL.put(&mut other, level as u64);
                 sound_still += u32::from(put_state(&mut both, &mut random, &other));
             }
         }
@@ -123,13 +129,14 @@ fn every_value_of_the_head() {
 /// edges of what is sound, and some are sound still.
 #[test]
 fn forged_states() {
-    let mut both = Both::new();
+    let levels = Levels::base();
+    let mut both = Both::new(&levels);
     let mut random = Random::new(604);
     let mut sound_still = 0;
     for round in 0..2_500 {
-        let state = some_sound_state(&mut random, round);
+        let state = some_sound_state(&mut random, &levels, round);
         for _ in 0..8 {
-            let forged = forged_state(&mut random, &state);
+            let forged = forged_state(&mut random, &levels, &state);
             sound_still += u32::from(put_state(&mut both, &mut random, &forged));
         }
     }
@@ -144,19 +151,24 @@ fn forged_states() {
 /// first bytes.
 #[test]
 fn rubbish() {
-    let mut both = Both::new();
+    let levels = Levels::base();
+    let mut both = Both::new(&levels);
     let mut random = Random::new(605);
     for round in 0..4_000 {
         let mut state = [0; STATE_BYTES];
         state.fill_with(|| random.number() as u8);
         // Some look more like a state.
         if round % 2 == 0 {
-            state[0] &= 0x7f;
-            state[4..8].copy_from_slice(&[random.place(16) as u8, random.place(8) as u8, 16, 0]);
+            let clock = CLOCK.get(&state);
+            CLOCK.put(&mut state, clock & 0x7fff_ffff);
+            TASK.put(&mut state, random.below(ENTRIES as u64));
+            LEVEL.put(&mut state, random.place(levels.count()) as u64);
+            COUNT.put(&mut state, ENTRIES as u64);
+            HEAD_ZERO.put(&mut state, 0);
         }
         if round % 4 == 0 {
-            for entry in state[8..].chunks_mut(12) {
-                entry[10..].fill(0);
+            for task in 0..ENTRIES {
+                of_task(task, ENTRY_ZERO).put(&mut state, 0);
             }
         }
         let _ = put_state(&mut both, &mut random, &state);
@@ -173,10 +185,20 @@ fn rubbish() {
 /// would be refused as well.
 #[test]
 fn soundness_is_asked_first() {
-    let mut both = Both::new();
+    let levels = Levels::base();
+    let mut both = Both::new(&levels);
     let mut random = Random::new(606);
-    let (good, _) = reached_state(&mut random, &bench_plan(), 0);
-    for place in [7, 18, 19, 44, 199] {
+    let (good, _) = reached_state(&mut random, &levels, &bench_plan(), 0);
+    // Places that hold zeros: in the head, in the first entry, past the third, and at the end.
+    let zeros = of_task(0, ENTRY_ZERO).range();
+    let empty = [
+        HEAD_ZERO.at,
+        zeros.start,
+        zeros.end - 1,
+        entry_at(3),
+        STATE_BYTES - 1,
+    ];
+    for place in empty {
         let mut bad = good;
         bad[place] = 1;
         for d in [0, 1, 4, 5, 11, u32::MAX] {

@@ -1,9 +1,11 @@
 //! What a sound state says about the next pass, worked out from 01's words once more, so that tests
 //! can aim at each question and know the number beforehand.
 
-use sim::plan::time_needed;
+use sim::clock::LARGEST_CLOCK;
+use sim::job::time_needed;
+use sim::levels::Levels;
 use sim::random::Random;
-use sim::state::{unpack, LARGEST_CLOCK};
+use sim::state::unpack;
 
 /// A state as the questions of passing see it, all in ticks.
 #[derive(Clone, Copy, Debug)]
@@ -16,7 +18,7 @@ pub struct View {
 }
 
 impl View {
-    pub fn of(state: &[u8]) -> View {
+    pub fn of(levels: &Levels, state: &[u8]) -> View {
         let state = unpack(state).expect("the state is a sound one");
         let clock = state.clock;
         let to_arrival = state
@@ -27,7 +29,7 @@ impl View {
             .expect("a plan has a task");
         let needed = state
             .running
-            .map(|order| time_needed(state.entries[order.task].work_left, order.level));
+            .map(|order| time_needed(state.entries[order.task].left, levels.speed(order.level)));
         View {
             clock,
             to_arrival,

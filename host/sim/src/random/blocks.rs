@@ -2,13 +2,16 @@
 
 use super::passes::any_pass;
 use super::Random;
+use crate::block::{head, pack_block, Edition};
+use crate::block::{COUNT_BITS, EDITION_BITS, HEAD_BITS, PERIOD_BITS, WORST_BITS};
 use crate::dispatch::{pass, start};
-use crate::plan::{pack_block, Task};
-use crate::state::STATE_BYTES;
+use crate::layout::STATE_BYTES;
+use crate::levels::Levels;
+use crate::plan::Task;
 
-/// The block of a plan, nothing being asked of it.
+/// The block of a plan as the writer packs it, nothing being asked of it.
 pub fn block_of(tasks: &[Task]) -> Vec<u8> {
-    pack_block(1, tasks.len() as u64, tasks)
+    pack_block(Edition::of_tasks(tasks), tasks.len() as u64, tasks)
 }
 
 /// The block cut, made longer, with bits flipped, with closing bits set, with another edition or
@@ -30,8 +33,8 @@ pub fn damaged_block(random: &mut Random, block: &[u8]) -> Vec<u8> {
         2 => flip_bits(random, &mut damaged, 1),
         3 => flip_bits(random, &mut damaged, 3),
         4 => set_closing_bit(random, &mut damaged),
-        5 => put_bits(&mut damaged, 0, 4, random.number()),
-        6 => put_bits(&mut damaged, 4, 5, random.number()),
+        5 => put_bits(&mut damaged, 0, EDITION_BITS, random.number()),
+        6 => put_bits(&mut damaged, EDITION_BITS, COUNT_BITS, random.number()),
         _ => clear_field(random, &mut damaged),
     }
     damaged
@@ -61,46 +64,52 @@ fn put_bits(block: &mut [u8], from: usize, width: usize, number: u64) {
     }
 }
 
+/// How many bits the block's tasks have each, and how many bits there are for them and past them;
+/// nothing if the block ends before its count.
+fn bits_for_tasks(block: &[u8]) -> Option<(usize, usize)> {
+    let (edition, _) = head(block)?;
+    Some((edition.task_bits(), 8 * block.len() - HEAD_BITS))
+}
+
 /// Sets one of the bits between the last task and the end of the block.
 fn set_closing_bit(random: &mut Random, block: &mut [u8]) {
-    let bits = 8 * block.len();
-    if bits < 9 {
-        return;
-    }
-    let closing = (bits - 9) % 36;
+    let closing = match bits_for_tasks(block) {
+        Some((each, all)) => all % each,
+        None => return,
+    };
     if closing > 0 {
-        let place = bits - 1 - random.place(closing);
+        let place = 8 * block.len() - 1 - random.place(closing);
         put_bits(block, place, 1, 1);
     }
 }
 
 /// Sets a period or a worst case to zero.
 fn clear_field(random: &mut Random, block: &mut [u8]) {
-    let count = (8 * block.len()).saturating_sub(9) / 36;
-    if count == 0 {
-        return;
-    }
-    let from = 9 + 36 * random.place(count);
+    let (each, all) = match bits_for_tasks(block) {
+        Some((each, all)) if all >= each => (each, all),
+        _ => return,
+    };
+    let from = HEAD_BITS + each * random.place(all / each);
     if random.one_in(2) {
-        put_bits(block, from, 16, 0);
+        put_bits(block, from, PERIOD_BITS, 0);
     } else {
-        put_bits(block, from + 16, 20, 0);
+        put_bits(block, from + PERIOD_BITS, WORST_BITS, 0);
     }
 }
 
 /// An input for the bench program: the plan, then passes that follow a run of the simulator, so
 /// that many are accepted and some refused; now and then an odd byte at the end.
-pub fn bench_input(random: &mut Random, tasks: &[Task], passes: usize) -> Vec<u8> {
+pub fn bench_input(random: &mut Random, levels: &Levels, tasks: &[Task], passes: usize) -> Vec<u8> {
     let mut input = block_of(tasks);
     let mut state = [0; STATE_BYTES];
-    if let Ok(first) = start(&input, &mut state) {
+    if let Ok(first) = start(levels, &input, &mut state) {
         let mut order = first;
         for _ in 0..passes {
             let (d, finished) = any_pass(random, order);
             let d = d & 0x7fff;
             let packed = (d as u16) | if finished { 0x8000 } else { 0 };
             input.extend(packed.to_be_bytes());
-            if let Ok(next) = pass(&mut state, d, finished) {
+            if let Ok(next) = pass(levels, &mut state, d, finished) {
                 order = next;
             }
         }

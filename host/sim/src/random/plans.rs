@@ -2,9 +2,11 @@
 //! fields at and past their ranges.
 
 use super::Random;
+use crate::job::time_needed;
+use crate::levels::Levels;
 use crate::plan::{
-    admission_sum, hyperperiod, judge_list, time_needed, Task, LARGEST_COUNT, LARGEST_HYPERPERIOD,
-    LARGEST_PERIOD, LARGEST_WORST, SPEEDS,
+    admission_sum, hyperperiod, judge_list, Task, LARGEST_COUNT, LARGEST_HYPERPERIOD,
+    LARGEST_PERIOD, LARGEST_WORST,
 };
 
 /// The periods of a random plan are divisors of one of these numbers, so that the hyperperiod
@@ -24,32 +26,38 @@ pub const FULL_BASES: [u64; 9] = [1, 2, 6, 30, 120, 840, 2_520, 5_040, 1_000_000
 const TRIES: u32 = 50_000;
 
 /// An accepted plan whose nominal level is the given one, with any of the bases.
-pub fn plan_at_level(random: &mut Random, level: usize) -> Vec<Task> {
+pub fn plan_at_level(random: &mut Random, levels: &Levels, level: usize) -> Vec<Task> {
     let base = random.pick(&BASES);
-    plan_at_level_within(random, level, base)
+    plan_at_level_within(random, levels, level, base)
 }
 
 /// An accepted plan whose nominal level is the given one and whose periods divide the base.
-pub fn plan_at_level_within(random: &mut Random, level: usize, base: u64) -> Vec<Task> {
+pub fn plan_at_level_within(
+    random: &mut Random,
+    levels: &Levels,
+    level: usize,
+    base: u64,
+) -> Vec<Task> {
     let usable = usable_periods(base);
+    let speed = levels.speed(level);
     until_found(|| {
         let count = random.between(1, LARGEST_COUNT);
         let periods: Vec<u64> = (0..count).map(|_| random.pick(&usable)).collect();
-        let allotments = random_allotments(random, &periods, level)?;
-        let tasks = tasks_with(random, &periods, &allotments, level);
-        let judged = judge_list(&tasks).ok()?;
+        let allotments = random_allotments(random, &periods, speed)?;
+        let tasks = tasks_with(random, &periods, &allotments, speed);
+        let judged = judge_list(levels, &tasks).ok()?;
         (judged.nominal == level).then_some(tasks)
     })
 }
 
 /// A plan with hyperperiod 1,000,000 exactly, accepted.
-pub fn plan_at_largest_hyperperiod(random: &mut Random) -> Vec<Task> {
+pub fn plan_at_largest_hyperperiod(random: &mut Random, levels: &Levels) -> Vec<Task> {
     until_found(|| {
         let periods = periods_with_hyperperiod(random, LARGEST_HYPERPERIOD)?;
-        let level = random.place(SPEEDS.len());
-        let allotments = random_allotments(random, &periods, level)?;
-        let tasks = tasks_with(random, &periods, &allotments, level);
-        judge_list(&tasks).is_ok().then_some(tasks)
+        let speed = random.pick(levels.speeds());
+        let allotments = random_allotments(random, &periods, speed)?;
+        let tasks = tasks_with(random, &periods, &allotments, speed);
+        judge_list(levels, &tasks).is_ok().then_some(tasks)
     })
 }
 
@@ -73,21 +81,22 @@ pub fn plan_above_largest_hyperperiod(random: &mut Random) -> Vec<Task> {
 }
 
 /// A plan whose admission sum at the level is the hyperperiod exactly.
-pub fn full_plan(random: &mut Random, level: usize) -> Vec<Task> {
-    plan_with_sum(random, level, 0)
+pub fn full_plan(random: &mut Random, levels: &Levels, level: usize) -> Vec<Task> {
+    plan_with_sum(random, levels.speed(level), 0)
 }
 
 /// A plan whose admission sum at the level is one more than the hyperperiod.
-pub fn plan_one_over(random: &mut Random, level: usize) -> Vec<Task> {
-    plan_with_sum(random, level, 1)
+pub fn plan_one_over(random: &mut Random, levels: &Levels, level: usize) -> Vec<Task> {
+    plan_with_sum(random, levels.speed(level), 1)
 }
 
 /// A full plan at the level with all its ticks fully used, and one unit of work more in the last
 /// task, which costs that task a whole tick.
-pub fn plan_one_unit_over(random: &mut Random, level: usize) -> Vec<Task> {
-    let mut tasks = full_plan(random, level);
+pub fn plan_one_unit_over(random: &mut Random, levels: &Levels, level: usize) -> Vec<Task> {
+    let speed = levels.speed(level);
+    let mut tasks = full_plan(random, levels, level);
     for task in &mut tasks {
-        task.worst = time_needed(task.worst, level) * SPEEDS[level];
+        task.worst = time_needed(task.whole_job(), speed) * speed;
     }
     let last = tasks.len() - 1;
     tasks[last].worst += 1;
@@ -95,9 +104,9 @@ pub fn plan_one_unit_over(random: &mut Random, level: usize) -> Vec<Task> {
 }
 
 /// A list of 0 to 18 tasks, many of them with fields at and past their ranges.
-pub fn edge_list(random: &mut Random) -> Vec<Task> {
-    let level = random.place(SPEEDS.len());
-    let mut tasks = plan_at_level(random, level);
+pub fn edge_list(random: &mut Random, levels: &Levels) -> Vec<Task> {
+    let level = random.place(levels.count());
+    let mut tasks = plan_at_level(random, levels, level);
     if random.one_in(8) {
         let length = random.between(0, 18) as usize;
         tasks.resize(
@@ -124,8 +133,8 @@ pub fn edge_list(random: &mut Random) -> Vec<Task> {
 
 /// A count with 18 entries beside it. Entries past the count may be anything, and the count may be
 /// out of range.
-pub fn edge_count_and_entries(random: &mut Random) -> (u64, Vec<Task>) {
-    let mut tasks = edge_list(random);
+pub fn edge_count_and_entries(random: &mut Random, levels: &Levels) -> (u64, Vec<Task>) {
+    let mut tasks = edge_list(random, levels);
     let count = match random.below(8) {
         0 => random.pick(&[0, 1, 16, 17, 18, 255, 256, 65_537, 1 << 32, u64::MAX]),
         _ => tasks.len() as u64,
@@ -195,14 +204,14 @@ fn hyperperiod_of(periods: &[u64]) -> Option<u64> {
     hyperperiod(&tasks)
 }
 
-/// The longest allotment at a level that a worst case in range can have.
-fn longest_allotment(level: usize) -> u64 {
-    LARGEST_WORST / SPEEDS[level]
+/// The longest allotment at a speed that a worst case in range can have, its last tick fully used.
+fn longest_allotment(speed: u64) -> u64 {
+    LARGEST_WORST / speed
 }
 
-/// Ticks for each task, with a sum that the level admits; or nothing if even one tick each is too
-/// much.
-fn random_allotments(random: &mut Random, periods: &[u64], level: usize) -> Option<Vec<u64>> {
+/// Ticks for each task, with a sum that a level of this speed admits; or nothing if even one tick
+/// each is too much.
+fn random_allotments(random: &mut Random, periods: &[u64], speed: u64) -> Option<Vec<u64>> {
     let hyperperiod = hyperperiod_of(periods)?;
     let least: u64 = periods.iter().map(|period| hyperperiod / period).sum();
     let mut room = hyperperiod.checked_sub(least)?;
@@ -210,7 +219,7 @@ fn random_allotments(random: &mut Random, periods: &[u64], level: usize) -> Opti
     for _ in 0..random.below(60) {
         let place = random.place(periods.len());
         let weight = hyperperiod / periods[place];
-        let most = (room / weight).min(longest_allotment(level) - allotments[place]);
+        let most = (room / weight).min(longest_allotment(speed) - allotments[place]);
         if most > 0 {
             let more = random.between(1, most);
             allotments[place] += more;
@@ -220,19 +229,19 @@ fn random_allotments(random: &mut Random, periods: &[u64], level: usize) -> Opti
     Some(allotments)
 }
 
-/// Tasks that take exactly these ticks at the level.
-fn tasks_with(random: &mut Random, periods: &[u64], ticks: &[u64], level: usize) -> Vec<Task> {
+/// Tasks that take exactly these ticks at the speed.
+fn tasks_with(random: &mut Random, periods: &[u64], ticks: &[u64], speed: u64) -> Vec<Task> {
     let mut tasks = Vec::new();
     for (period, ticks) in periods.iter().zip(ticks) {
         // A last tick that is only partly used is a tick all the same.
         let unused = if random.one_in(2) {
             0
         } else {
-            random.below(SPEEDS[level])
+            random.below(speed)
         };
         tasks.push(Task {
             period: *period,
-            worst: ticks * SPEEDS[level] - unused,
+            worst: ticks * speed - unused,
         });
     }
     tasks
@@ -278,41 +287,51 @@ fn prime_powers(number: u64) -> Vec<u64> {
     powers
 }
 
-/// A plan whose admission sum at the level is the hyperperiod plus the extra ticks.
-fn plan_with_sum(random: &mut Random, level: usize, extra: u64) -> Vec<Task> {
+/// A plan whose admission sum at the speed is the hyperperiod plus the extra ticks.
+fn plan_with_sum(random: &mut Random, speed: u64, extra: u64) -> Vec<Task> {
     let base = random.pick(&FULL_BASES);
     let usable = usable_periods(base);
     until_found(|| {
-        let count = random.between(0, 14);
-        let mut periods: Vec<u64> = (0..count).map(|_| random.pick(&usable)).collect();
-        let mut ticks = Vec::new();
-        // The first tasks take some of the base, the last ones exactly what is left.
-        let mut left = base + extra;
-        for period in &periods {
-            let most = (left / 2 / (base / period)).min(longest_allotment(level));
-            let own = random.between(1, most.max(1));
-            ticks.push(own);
-            left = left.checked_sub(own * (base / period))?;
-        }
-        if base <= LARGEST_PERIOD {
-            periods.push(base);
-            ticks.push(left);
-        } else {
-            let (a, b) = split_in_two(left, longest_allotment(level))?;
-            periods.extend([62_500, 40_000]);
-            ticks.extend([a, b]);
-        }
-        if ticks
-            .iter()
-            .any(|own| *own < 1 || *own > longest_allotment(level))
-        {
+        let (periods, ticks) = shares(random, &usable, base, base + extra, speed)?;
+        let longest = longest_allotment(speed);
+        if !ticks.iter().all(|own| (1..=longest).contains(own)) {
             return None;
         }
-        let tasks = tasks_with(random, &periods, &ticks, level);
-        let is_right =
-            hyperperiod(&tasks) == Some(base) && admission_sum(&tasks, base, level) == base + extra;
-        is_right.then_some(tasks)
+        let tasks = tasks_with(random, &periods, &ticks, speed);
+        let sum = admission_sum(&tasks, base, speed);
+        (hyperperiod(&tasks) == Some(base) && sum == base + extra).then_some(tasks)
     })
+}
+
+/// Periods, and ticks for each that come to the given sum over a hyperperiod of the base: the first
+/// tasks take some of it, the last ones exactly what is left.
+fn shares(
+    random: &mut Random,
+    usable: &[u64],
+    base: u64,
+    sum: u64,
+    speed: u64,
+) -> Option<(Vec<u64>, Vec<u64>)> {
+    let longest = longest_allotment(speed);
+    let count = random.between(0, 14);
+    let mut periods: Vec<u64> = (0..count).map(|_| random.pick(usable)).collect();
+    let mut ticks = Vec::new();
+    let mut left = sum;
+    for period in &periods {
+        let most = (left / 2 / (base / period)).min(longest);
+        let own = random.between(1, most.max(1));
+        ticks.push(own);
+        left = left.checked_sub(own * (base / period))?;
+    }
+    if base <= LARGEST_PERIOD {
+        periods.push(base);
+        ticks.push(left);
+    } else {
+        let (a, b) = split_in_two(left, longest)?;
+        periods.extend([62_500, 40_000]);
+        ticks.extend([a, b]);
+    }
+    Some((periods, ticks))
 }
 
 /// Ticks for a task of period 62,500 and one of period 40,000 that come to the given sum over

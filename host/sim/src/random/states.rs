@@ -3,47 +3,60 @@
 use super::blocks::block_of;
 use super::passes::likely_pass;
 use super::Random;
+use crate::clock::LARGEST_CLOCK;
 use crate::dispatch::{choose, pass, start, Order};
-use crate::plan::{judge_list, time_needed, Task};
+use crate::job::{time_needed, Left};
+use crate::layout::{self, ENTRIES, ENTRY_BYTES, HEAD_BYTES, STATE_BYTES};
+use crate::levels::Levels;
+use crate::plan::{judge_list, Judged, Task, LARGEST_COUNT, LARGEST_PERIOD, LARGEST_WORST};
 use crate::schedule::allotment;
-use crate::state::{pack, unpack, Entry, State, LARGEST_CLOCK, STATE_BYTES};
+use crate::state::{pack, unpack, Entry, State};
 
 /// The state and the order after so many random passes from the start of an accepted plan.
 /// Refused ones count, and change nothing.
 pub fn reached_state(
     random: &mut Random,
+    levels: &Levels,
     tasks: &[Task],
     passes: usize,
 ) -> ([u8; STATE_BYTES], Order) {
     let mut state = [0; STATE_BYTES];
-    let mut order = start(&block_of(tasks), &mut state).expect("the plan is an accepted one");
+    let started = start(levels, &block_of(tasks), &mut state);
+    let mut order = started.expect("the plan is an accepted one");
     for _ in 0..passes {
         let (d, finished) = likely_pass(random, order);
-        if let Ok(next) = pass(&mut state, d, finished) {
+        if let Ok(next) = pass(levels, &mut state, d, finished) {
             order = next;
         }
     }
     (state, order)
 }
 
+/// A sound state, and what its plan is judged to be.
+fn unpack_sound(levels: &Levels, block: &[u8; STATE_BYTES]) -> (State, Judged) {
+    let state = unpack(block).expect("the state is a sound one");
+    let judged = judge_list(levels, &state.tasks()).expect("the state is a sound one");
+    (state, judged)
+}
+
 /// A sound state moved to the last hyperperiod or so before the largest clock. All arrivals and
 /// deadlines move by the same ticks, so it is sound still.
-pub fn late_state(random: &mut Random, block: &[u8; STATE_BYTES]) -> [u8; STATE_BYTES] {
-    let mut state = unpack(block).expect("the state is a sound one");
-    let tasks: Vec<Task> = state.entries.iter().map(|entry| entry.task).collect();
-    let hyperperiod = judge_list(&tasks)
-        .expect("the state is a sound one")
-        .hyperperiod;
-    let most = (LARGEST_CLOCK - state.clock) / hyperperiod;
+pub fn late_state(
+    random: &mut Random,
+    levels: &Levels,
+    block: &[u8; STATE_BYTES],
+) -> [u8; STATE_BYTES] {
+    let (mut state, judged) = unpack_sound(levels, block);
+    let most = (LARGEST_CLOCK - state.clock) / judged.hyperperiod;
     let fewer = random.below(2).min(most);
-    state.clock += (most - fewer) * hyperperiod;
+    state.clock += (most - fewer) * judged.hyperperiod;
     pack(&state)
 }
 
 /// A sound state with any clock and any progress of the jobs, most likely one that no run from a
 /// start can reach. The level of its order is anything from the lowest that fits to the nominal.
-pub fn invented_state(random: &mut Random, tasks: &[Task]) -> [u8; STATE_BYTES] {
-    let nominal = judge_list(tasks)
+pub fn invented_state(random: &mut Random, levels: &Levels, tasks: &[Task]) -> [u8; STATE_BYTES] {
+    let nominal = judge_list(levels, tasks)
         .expect("the plan is an accepted one")
         .nominal;
     let clock = match random.below(4) {
@@ -59,24 +72,10 @@ pub fn invented_state(random: &mut Random, tasks: &[Task]) -> [u8; STATE_BYTES] 
     };
     let ended = random.between(1, 4);
     for task in tasks {
-        let work_left = if !random.one_in(ended) {
-            0
-        } else {
-            random.between(0, task.worst)
-        };
-        let least = time_needed(work_left, nominal);
-        let plain_left = match random.below(3) {
-            0 => least,
-            1 => allotment(task, nominal),
-            _ => random.between(least, allotment(task, nominal)),
-        };
-        state.entries.push(Entry {
-            task: *task,
-            work_left,
-            plain_left,
-        });
+        let entry = invented_entry(random, task, levels.speed(nominal), ended);
+        state.entries.push(entry);
     }
-    if let Some(mut running) = choose(&state) {
+    if let Some(mut running) = choose(levels, &state) {
         // An order is chosen at the lowest level; a sound one may have a higher one.
         running.level = random.between(running.level as u64, nominal as u64) as usize;
         state.running = Some(running);
@@ -84,19 +83,53 @@ pub fn invented_state(random: &mut Random, tasks: &[Task]) -> [u8; STATE_BYTES] 
     pack(&state)
 }
 
+/// An entry whose job has come anywhere; one in so many has not ended.
+fn invented_entry(random: &mut Random, task: &Task, nominal: u64, ended: u64) -> Entry {
+    let left = if !random.one_in(ended) {
+        Left::NOTHING
+    } else {
+        Left {
+            work: random.between(0, task.worst),
+        }
+    };
+    let least = time_needed(left, nominal);
+    let plain_left = match random.below(3) {
+        0 => least,
+        1 => allotment(task, nominal),
+        _ => random.between(least, allotment(task, nominal)),
+    };
+    Entry {
+        task: *task,
+        left,
+        plain_left,
+    }
+}
+
 /// A sound state with something changed: some bytes, one field moved to an edge, or its length.
 /// Some of these are sound all the same.
-pub fn forged_state(random: &mut Random, block: &[u8; STATE_BYTES]) -> Vec<u8> {
+pub fn forged_state(random: &mut Random, levels: &Levels, block: &[u8; STATE_BYTES]) -> Vec<u8> {
     match random.below(8) {
         0 => with_another_length(random, block),
         1 | 2 => with_bytes_changed(random, block),
-        _ => with_a_field_changed(random, block),
+        _ => with_a_field_changed(random, levels, block),
     }
 }
 
 fn with_another_length(random: &mut Random, block: &[u8]) -> Vec<u8> {
     let mut forged = block.to_vec();
-    let length = random.pick(&[0, 1, 7, 8, 20, 100, 199, 200, 201, 212, 400]);
+    let length = random.pick(&[
+        0,
+        1,
+        HEAD_BYTES - 1,
+        HEAD_BYTES,
+        HEAD_BYTES + ENTRY_BYTES,
+        STATE_BYTES / 2,
+        STATE_BYTES - 1,
+        STATE_BYTES,
+        STATE_BYTES + 1,
+        STATE_BYTES + ENTRY_BYTES,
+        2 * STATE_BYTES,
+    ]);
     forged.resize(length, 0);
     forged
 }
@@ -116,86 +149,96 @@ fn with_bytes_changed(random: &mut Random, block: &[u8]) -> Vec<u8> {
 }
 
 /// One field of the head or of an entry set to a value near an edge of what is sound.
-fn with_a_field_changed(random: &mut Random, block: &[u8; STATE_BYTES]) -> Vec<u8> {
+fn with_a_field_changed(
+    random: &mut Random,
+    levels: &Levels,
+    block: &[u8; STATE_BYTES],
+) -> Vec<u8> {
+    let (mut state, judged) = unpack_sound(levels, block);
+    let place = random.place(state.entries.len());
     let mut forged = block.to_vec();
-    let mut state = unpack(block).expect("the state is a sound one");
-    let tasks: Vec<Task> = state.entries.iter().map(|entry| entry.task).collect();
-    let nominal = judge_list(&tasks)
-        .expect("the state is a sound one")
-        .nominal;
-    let place = random.place(tasks.len());
-    let entry = &mut state.entries[place];
     match random.below(9) {
-        0 => {
-            let near = [state.clock + 1, state.clock.saturating_sub(1)];
-            let far = [0, LARGEST_CLOCK, LARGEST_CLOCK + 1, u64::from(u32::MAX)];
-            state.clock = if random.one_in(2) {
-                random.pick(&near)
-            } else {
-                random.pick(&far)
-            };
-        }
-        1 => {
-            forged[4] = random.pick(&[0, 1, 15, 16, 254, 255, tasks.len() as u8, place as u8]);
-            return forged;
-        }
+        0 => layout::CLOCK.put(&mut forged, another_clock(random, state.clock)),
+        1 => layout::TASK.put(&mut forged, another_task(random, &state, place)),
         2 => {
-            forged[5] = random.pick(&[
-                0,
-                7,
-                8,
-                255,
-                nominal as u8,
-                nominal as u8 + 1,
-                block[5].wrapping_sub(1),
-            ]);
-            return forged;
+            let level = layout::LEVEL.get(block);
+            let other = another_level(random, levels, judged.nominal, level);
+            layout::LEVEL.put(&mut forged, other);
         }
-        3 => {
-            forged[6] = random.pick(&[0, 1, 16, 17, 255, block[6].wrapping_sub(1), block[6] + 1]);
-            return forged;
+        3 => layout::COUNT.put(&mut forged, another_count(random, &state)),
+        4 => fill_an_empty_byte(random, &mut forged, place),
+        kind => {
+            let nominal = levels.speed(judged.nominal);
+            change_an_entry(random, &mut state.entries[place], kind, nominal);
+            forged = pack(&state).to_vec();
         }
-        4 => {
-            let empty = [7, 18 + 12 * place, 19 + 12 * place, 188, 199];
-            forged[random.pick(&empty)] = random.number() as u8;
-            return forged;
-        }
+    }
+    forged
+}
+
+fn another_clock(random: &mut Random, clock: u64) -> u64 {
+    let near = [clock + 1, clock.saturating_sub(1)];
+    let far = [0, LARGEST_CLOCK, LARGEST_CLOCK + 1, u64::from(u32::MAX)];
+    if random.one_in(2) {
+        random.pick(&near)
+    } else {
+        random.pick(&far)
+    }
+}
+
+fn another_task(random: &mut Random, state: &State, place: usize) -> u64 {
+    let most = LARGEST_COUNT;
+    let count = state.entries.len() as u64;
+    random.pick(&[0, 1, most - 1, most, 254, 255, count, place as u64])
+}
+
+/// Where it is below 0, its byte is the largest.
+fn another_level(random: &mut Random, levels: &Levels, nominal: usize, level: u64) -> u64 {
+    let (top, nominal) = (levels.top() as u64, nominal as u64);
+    let lower = level.wrapping_sub(1);
+    random.pick(&[0, top, top + 1, 255, nominal, nominal + 1, lower])
+}
+
+fn another_count(random: &mut Random, state: &State) -> u64 {
+    let most = LARGEST_COUNT;
+    let count = state.entries.len() as u64;
+    random.pick(&[0, 1, most, most + 1, 255, count - 1, count + 1])
+}
+
+/// Anything into a byte that is zero in a sound state: of the head, of the entry at this place, or
+/// of the last entry.
+fn fill_an_empty_byte(random: &mut Random, block: &mut [u8], place: usize) {
+    let zeros = layout::of_task(place, layout::ENTRY_ZERO).range();
+    let last = layout::entry_at(ENTRIES - 1);
+    let (head, end) = (layout::HEAD_ZERO.at, STATE_BYTES - 1);
+    let empty = [head, zeros.start, zeros.end - 1, last, end];
+    block[random.pick(&empty)] = random.number() as u8;
+}
+
+/// Other work or plain ticks left, or another period or worst case.
+fn change_an_entry(random: &mut Random, entry: &mut Entry, kind: u64, nominal: u64) {
+    let Task { period, worst } = entry.task;
+    let work = entry.left.work;
+    match kind {
         5 => {
-            let worst = entry.task.worst;
-            entry.work_left =
-                random.pick(&[0, 1, worst - 1, worst, worst + 1, entry.work_left + 1]);
+            entry.left.work = random.pick(&[0, 1, worst - 1, worst, worst + 1, work + 1]);
         }
         6 => {
             let full = allotment(&entry.task, nominal);
-            let least = time_needed(entry.work_left, nominal);
+            let least = time_needed(entry.left, nominal);
             let choices = [0, full - 1, full, full + 1, least, least.saturating_sub(1)];
             entry.plain_left = random.pick(&choices);
         }
         7 => {
-            let period = entry.task.period;
-            let choices = [
-                0,
-                1,
-                period - 1,
-                (period + 1).min(65_535),
-                65_535,
-                2 * period % 65_536,
-            ];
+            let longer = (period + 1).min(LARGEST_PERIOD);
+            let twice = 2 * period % (LARGEST_PERIOD + 1);
+            let choices = [0, 1, period - 1, longer, LARGEST_PERIOD, twice];
             entry.task.period = random.pick(&choices);
         }
         _ => {
-            let worst = entry.task.worst;
-            let choices = [
-                0,
-                1,
-                worst - 1,
-                worst + 1,
-                entry.work_left,
-                1_048_575,
-                1_048_576,
-            ];
+            let past = LARGEST_WORST + 1;
+            let choices = [0, 1, worst - 1, worst + 1, work, LARGEST_WORST, past];
             entry.task.worst = random.pick(&choices);
         }
     }
-    pack(&state).to_vec()
 }

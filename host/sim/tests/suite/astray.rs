@@ -1,8 +1,7 @@
 //! 01, "Where a scheduler goes astray", bullet by bullet.
 
+use crate::base::{judge_list, pass, time_needed};
 use crate::common::{bench_plan, led, queue, run, tasks, BENCH_PASSES};
-use sim::dispatch::pass;
-use sim::plan::{judge_list, time_needed};
 
 #[test]
 fn time_to_spare_is_not_lent_to_a_more_urgent_job() {

@@ -1,8 +1,8 @@
 //! 01, "The bench program".
 
-use crate::common::BENCH_BLOCK;
-use sim::listing;
-use sim::plan::{pack_block, Task};
+use crate::base::listing;
+use crate::common::{tasks, BENCH_BLOCK};
+use sim::random::blocks::block_of;
 
 fn with_passes(passes: &[u8]) -> Vec<u8> {
     [&BENCH_BLOCK[..], passes].concat()
@@ -92,39 +92,10 @@ fn a_refused_reading_is_the_only_line() {
         text(&[&closing[..], &[0x80, 0x01, 0x80]].concat()),
         "refused 5\n"
     );
-    assert_eq!(
-        text(&pack_block(
-            1,
-            1,
-            &[Task {
-                period: 0,
-                worst: 1
-            }]
-        )),
-        "refused 6\n"
-    );
-    let long = [
-        Task {
-            period: 1_000,
-            worst: 1,
-        },
-        Task {
-            period: 1_001,
-            worst: 1,
-        },
-    ];
-    assert_eq!(text(&pack_block(1, 2, &long)), "refused 7\n");
-    assert_eq!(
-        text(&pack_block(
-            1,
-            1,
-            &[Task {
-                period: 1,
-                worst: 101
-            }]
-        )),
-        "refused 8\n"
-    );
+    let of_plan = |pairs: &[(u64, u64)]| text(&block_of(&tasks(pairs)));
+    assert_eq!(of_plan(&[(0, 1)]), "refused 6\n");
+    assert_eq!(of_plan(&[(1_000, 1), (1_001, 1)]), "refused 7\n");
+    assert_eq!(of_plan(&[(1, 101)]), "refused 8\n");
 }
 
 #[test]

@@ -1,8 +1,8 @@
 //! 01, Blocks: the plan block and the state block.
 
+use crate::base::{judge, judge_list, read_plan, start, write_plan};
 use crate::common::{bench_plan, led, run, tasks, BENCH_BLOCK};
-use sim::dispatch::start;
-use sim::plan::{judge, judge_list, read_plan, write_plan, Judged, Task};
+use sim::plan::{Judged, Task};
 
 const EXAMPLE: [u8; 6] = [0x10, 0x80, 0x14, 0x00, 0x09, 0x60];
 

@@ -1,9 +1,10 @@
 //! The books, and that demand 3 checked on them can fail.
 
+use crate::base::{plain_book, plain_schedule};
 use crate::common::{bench_plan, idle, run, tasks};
 use sim::books::{demand3_holds, ActualBook, BookJob, PlainBook};
 use sim::plan::Task;
-use sim::schedule::{PlainJob, Schedule};
+use sim::schedule::PlainJob;
 
 struct Books {
     plan: Vec<Task>,
@@ -15,7 +16,7 @@ impl Books {
     fn new(plan: Vec<Task>, first: sim::Order) -> Books {
         Books {
             actual: ActualBook::new(&plan, first),
-            plain: PlainBook::new(&plan),
+            plain: plain_book(&plan),
             plan,
         }
     }
@@ -47,7 +48,7 @@ fn the_plain_schedule_of_the_bench_plan() {
         0, 0, 0, 0, 1, 1, 1, 1, 2, 2, //
         2, 2, 0, 0, 0, 0, 1, 1, 1, 1,
     ];
-    let mut schedule = Schedule::new(&bench_plan(), 7);
+    let mut schedule = plain_schedule(&bench_plan(), 7);
     for task in expected {
         assert_eq!(schedule.open_jobs()[0].task, task);
         schedule.tick();
@@ -131,7 +132,7 @@ fn a_replaced_job_stays_open_and_is_late() {
 fn each_part_of_the_check_can_fail() {
     let plan = tasks(&[(2, 10)]);
     let plain_at = |ticks| {
-        let mut book = PlainBook::new(&plan);
+        let mut book = plain_book(&plan);
         book.pass(ticks, Ok(idle(1)));
         book
     };
@@ -150,7 +151,7 @@ fn each_part_of_the_check_can_fail() {
     let shorter = tasks(&[(1, 10)]);
     let slow = tasks(&[(2, 20)]);
     let mut actual = ActualBook::new(&slow, run(0, 0, 2));
-    let mut plain = PlainBook::new(&slow);
+    let mut plain = plain_book(&slow);
     actual.pass(1, false, Ok(run(0, 0, 1)));
     plain.pass(1, Ok(run(0, 0, 1)));
     assert_eq!(demand3_holds(&slow, &actual, &plain), Ok(()));

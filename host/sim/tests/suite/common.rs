@@ -1,6 +1,9 @@
 //! What several tests need.
 
-use sim::dispatch::{pass, show, start, Order};
+use crate::base::{pass, show, start};
+use sim::dispatch::Order;
+use sim::layout::STATE_BYTES;
+use sim::levels::Levels;
 use sim::plan::Task;
 use sim::random::blocks::block_of;
 
@@ -43,8 +46,8 @@ pub fn idle(hold: u32) -> Order {
 }
 
 /// A state started with the plan, and led through passes that are all accepted.
-pub fn led(plan: &[Task], passes: &[(u32, bool)]) -> ([u8; 200], Order) {
-    let mut state = [0; 200];
+pub fn led(plan: &[Task], passes: &[(u32, bool)]) -> ([u8; STATE_BYTES], Order) {
+    let mut state = [0; STATE_BYTES];
     let mut order = start(&block_of(plan), &mut state).unwrap();
     for (d, finished) in passes {
         order = pass(&mut state, *d, *finished).unwrap();
@@ -52,10 +55,15 @@ pub fn led(plan: &[Task], passes: &[(u32, bool)]) -> ([u8; 200], Order) {
     (state, order)
 }
 
-/// The queue shown, as pairs of task and plain ticks left.
+/// The queue shown with 01's speeds, as pairs of task and plain ticks left.
 pub fn queue(state: &[u8]) -> Vec<(usize, u64)> {
+    queue_of(&Levels::base(), state)
+}
+
+/// The same with any speeds.
+pub fn queue_of(levels: &Levels, state: &[u8]) -> Vec<(usize, u64)> {
     let mut buffer = [0; 48];
-    let length = show(state, &mut buffer).unwrap();
+    let length = sim::show(levels, state, &mut buffer).unwrap();
     let entry = |bytes: &[u8]| {
         (
             usize::from(bytes[0]),

@@ -1,10 +1,9 @@
 //! 01, "On each side of the edge", bullet by bullet.
 
+use crate::base::{admission_sum, judge, judge_list, pass, read_plan, show, write_plan};
 use crate::common::{bench_plan, led, queue, refuses_pass, refuses_show, run, tasks, BENCH_PASSES};
-use sim::dispatch::{pass, show};
-use sim::plan::{
-    admission_sum, judge, judge_list, pack_block, read_plan, write_plan, Judged, Task,
-};
+use sim::block::{pack_block, Edition};
+use sim::plan::{Judged, Task};
 
 #[test]
 fn empty_block_and_count_17() {
@@ -16,7 +15,8 @@ fn empty_block_and_count_17() {
         };
         17
     ];
-    assert_eq!(read_plan(&pack_block(1, 17, &seventeen)), Err(3));
+    let block = pack_block(Edition::FIRST, 17, &seventeen);
+    assert_eq!(read_plan(&block), Err(3));
     assert_eq!(judge_list(&seventeen), Err(3));
     assert_eq!(judge(17, &seventeen), Err(3));
     assert_eq!(write_plan(17, &seventeen, &mut [0; 200]), Err(3));

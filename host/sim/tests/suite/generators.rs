@@ -1,8 +1,11 @@
 //! The random helpers give what they promise.
 
-use sim::dispatch::{pass, show, sound, start};
-use sim::listing;
-use sim::plan::{admission_sum, judge, judge_list, read_plan, write_plan};
+use crate::base::{
+    admission_sum, judge, judge_list, listing, pass, read_plan, show, start, write_plan,
+};
+use sim::layout::STATE_BYTES;
+use sim::levels::Levels;
+use sim::plan::Task;
 use sim::random::blocks::{bench_input, block_of, damaged_block};
 use sim::random::passes::{any_pass, likely_pass};
 use sim::random::plans::{
@@ -11,8 +14,20 @@ use sim::random::plans::{
     plan_one_unit_over, BASES, SMALL_BASES,
 };
 use sim::random::states::{forged_state, invented_state, late_state, reached_state};
+use sim::random::tables::some_levels;
 use sim::random::Random;
 use std::collections::BTreeSet;
+
+fn is_sound(state: &[u8]) -> bool {
+    sim::dispatch::sound(&Levels::base(), state).is_some()
+}
+
+/// A plan with a short hyperperiod, with the levels taken in turn.
+fn small_plan(random: &mut Random, round: usize) -> Vec<Task> {
+    let levels = Levels::base();
+    let base = random.pick(&SMALL_BASES);
+    plan_at_level_within(random, &levels, round % levels.count(), base)
+}
 
 #[test]
 fn splitmix64_gives_its_known_numbers() {
@@ -25,10 +40,11 @@ fn splitmix64_gives_its_known_numbers() {
 
 #[test]
 fn plans_have_the_level_chosen() {
+    let levels = Levels::base();
     let mut random = Random::new(1);
     for base in BASES.into_iter().chain(SMALL_BASES) {
-        for level in 0..8 {
-            let tasks = plan_at_level_within(&mut random, level, base);
+        for level in 0..levels.count() {
+            let tasks = plan_at_level_within(&mut random, &levels, level, base);
             let judged = judge_list(&tasks).unwrap();
             assert_eq!(judged.nominal, level);
             assert_eq!(base % judged.hyperperiod, 0);
@@ -38,11 +54,12 @@ fn plans_have_the_level_chosen() {
 
 #[test]
 fn plans_vary() {
+    let levels = Levels::base();
     let mut random = Random::new(2);
     let mut counts = BTreeSet::new();
     let mut hyperperiods = BTreeSet::new();
     for round in 0..400 {
-        let tasks = plan_at_level(&mut random, round % 8);
+        let tasks = plan_at_level(&mut random, &levels, round % levels.count());
         counts.insert(tasks.len());
         hyperperiods.insert(judge_list(&tasks).unwrap().hyperperiod);
     }
@@ -52,9 +69,10 @@ fn plans_vary() {
 
 #[test]
 fn plans_around_the_largest_hyperperiod() {
+    let levels = Levels::base();
     let mut random = Random::new(3);
     for _ in 0..40 {
-        let tasks = plan_at_largest_hyperperiod(&mut random);
+        let tasks = plan_at_largest_hyperperiod(&mut random, &levels);
         assert_eq!(judge_list(&tasks).unwrap().hyperperiod, 1_000_000);
         assert_eq!(
             judge_list(&plan_above_largest_hyperperiod(&mut random)),
@@ -65,11 +83,12 @@ fn plans_around_the_largest_hyperperiod() {
 
 #[test]
 fn plans_around_the_full_sum() {
+    let levels = Levels::base();
     let mut random = Random::new(4);
     let mut hyperperiods = BTreeSet::new();
     for round in 0..160 {
-        let level = round % 8;
-        let full = full_plan(&mut random, level);
+        let level = round % levels.count();
+        let full = full_plan(&mut random, &levels, level);
         let judged = judge_list(&full).unwrap();
         assert_eq!(
             admission_sum(&full, judged.hyperperiod, level),
@@ -78,9 +97,9 @@ fn plans_around_the_full_sum() {
         assert!(judged.nominal <= level);
         hyperperiods.insert(judged.hyperperiod);
 
-        let over = plan_one_over(&mut random, level);
-        let unit = plan_one_unit_over(&mut random, level);
-        if level == 7 {
+        let over = plan_one_over(&mut random, &levels, level);
+        let unit = plan_one_unit_over(&mut random, &levels, level);
+        if level == levels.top() {
             assert_eq!(judge_list(&over), Err(8));
             assert_eq!(judge_list(&unit), Err(8));
         } else {
@@ -95,12 +114,13 @@ fn plans_around_the_full_sum() {
 
 #[test]
 fn edge_lists_meet_every_answer_and_agree() {
+    let levels = Levels::base();
     let mut random = Random::new(5);
     let mut answers = BTreeSet::new();
     for _ in 0..600 {
-        let list = edge_list(&mut random);
+        let list = edge_list(&mut random, &levels);
         answers.insert(judge_list(&list).err());
-        let (count, entries) = edge_count_and_entries(&mut random);
+        let (count, entries) = edge_count_and_entries(&mut random, &levels);
         let judged = judge(count, &entries);
         answers.insert(judged.err());
         // Writing says the same, and what is written reads back as the same plan.
@@ -126,14 +146,15 @@ fn edge_lists_meet_every_answer_and_agree() {
 
 #[test]
 fn damaged_blocks_meet_every_answer_and_write_back() {
+    let levels = Levels::base();
     let mut random = Random::new(6);
     let mut answers = BTreeSet::new();
     for round in 0..1_500 {
-        let tasks = plan_at_level(&mut random, round % 8);
+        let tasks = plan_at_level(&mut random, &levels, round % levels.count());
         let block = damaged_block(&mut random, &block_of(&tasks));
         let read = read_plan(&block);
         answers.insert(read.as_ref().err().copied());
-        let mut state = [0xa5; 200];
+        let mut state = [0xa5; STATE_BYTES];
         let started = start(&block, &mut state);
         match read {
             // An accepted block written again has the same bytes.
@@ -145,11 +166,11 @@ fn damaged_blocks_meet_every_answer_and_write_back() {
                 );
                 assert_eq!(buffer, block);
                 assert!(started.is_ok());
-                assert!(sound(&state).is_some());
+                assert!(is_sound(&state));
             }
             Err(number) => {
                 assert_eq!(started, Err(number));
-                assert_eq!(state, [0xa5; 200]);
+                assert_eq!(state, [0xa5; STATE_BYTES]);
             }
         }
     }
@@ -158,16 +179,16 @@ fn damaged_blocks_meet_every_answer_and_write_back() {
 
 #[test]
 fn reached_late_and_invented_states_are_sound() {
+    let levels = Levels::base();
     let mut random = Random::new(7);
     let mut late_answers = BTreeSet::new();
     for round in 0..300 {
-        let base = random.pick(&SMALL_BASES);
-        let tasks = plan_at_level_within(&mut random, round % 8, base);
-        let (reached, order) = reached_state(&mut random, &tasks, 30);
-        assert!(sound(&reached).is_some());
-        let mut late = late_state(&mut random, &reached);
-        assert!(sound(&late).is_some());
-        assert!(sound(&invented_state(&mut random, &tasks)).is_some());
+        let tasks = small_plan(&mut random, round);
+        let (reached, order) = reached_state(&mut random, &levels, &tasks, 30);
+        assert!(is_sound(&reached));
+        let mut late = late_state(&mut random, &levels, &reached);
+        assert!(is_sound(&late));
+        assert!(is_sound(&invented_state(&mut random, &levels, &tasks)));
         // Led on from there, the largest clock is met sooner or later.
         let mut order = order;
         for _ in 0..20 {
@@ -179,25 +200,42 @@ fn reached_late_and_invented_states_are_sound() {
                 }
             }
         }
-        assert!(sound(&late).is_some());
+        assert!(is_sound(&late));
     }
     assert!(late_answers.contains(&15));
 }
 
+/// Twenty passes of any kind, after each of which the state is sound, and as it was if refused.
+fn lead_on(random: &mut Random, state: &mut [u8], answers: &mut BTreeSet<u32>) {
+    let mut order = sim::Order::Idle { hold: 3 };
+    for _ in 0..20 {
+        let before = state.to_vec();
+        let (d, finished) = any_pass(random, order);
+        match pass(state, d, finished) {
+            Ok(next) => order = next,
+            Err(number) => {
+                answers.insert(number);
+                assert_eq!(state, before);
+            }
+        }
+        assert!(is_sound(state));
+    }
+}
+
 #[test]
 fn sound_states_stay_sound_whatever_is_passed() {
+    let levels = Levels::base();
     let mut random = Random::new(8);
     let mut answers = BTreeSet::new();
     let (mut still_sound, mut unsound) = (0, 0);
     for round in 0..1_200 {
-        let base = random.pick(&SMALL_BASES);
-        let tasks = plan_at_level_within(&mut random, round % 8, base);
+        let tasks = small_plan(&mut random, round);
         let start = match round % 3 {
-            0 => invented_state(&mut random, &tasks),
-            _ => reached_state(&mut random, &tasks, 12).0,
+            0 => invented_state(&mut random, &levels, &tasks),
+            _ => reached_state(&mut random, &levels, &tasks, 12).0,
         };
-        let mut state = forged_state(&mut random, &start);
-        if sound(&state).is_none() {
+        let mut state = forged_state(&mut random, &levels, &start);
+        if !is_sound(&state) {
             unsound += 1;
             let before = state.clone();
             assert_eq!(pass(&mut state, 1, false), Err(10));
@@ -206,19 +244,7 @@ fn sound_states_stay_sound_whatever_is_passed() {
             continue;
         }
         still_sound += 1;
-        let mut order = sim::Order::Idle { hold: 3 };
-        for _ in 0..20 {
-            let before = state.clone();
-            let (d, finished) = any_pass(&mut random, order);
-            match pass(&mut state, d, finished) {
-                Ok(next) => order = next,
-                Err(number) => {
-                    answers.insert(number);
-                    assert_eq!(state, before);
-                }
-            }
-            assert!(sound(&state).is_some());
-        }
+        lead_on(&mut random, &mut state, &mut answers);
     }
     assert!(
         still_sound > 200 && unsound > 200,
@@ -229,12 +255,13 @@ fn sound_states_stay_sound_whatever_is_passed() {
 
 #[test]
 fn bench_inputs_have_accepted_and_refused_passes() {
+    let levels = Levels::base();
     let mut random = Random::new(9);
     let mut words = BTreeSet::new();
     for round in 0..60 {
-        let base = random.pick(&SMALL_BASES);
-        let tasks = plan_at_level_within(&mut random, round % 8, base);
-        let lines = String::from_utf8(listing(&bench_input(&mut random, &tasks, 40))).unwrap();
+        let tasks = small_plan(&mut random, round);
+        let input = bench_input(&mut random, &levels, &tasks, 40);
+        let lines = String::from_utf8(listing(&input)).unwrap();
         assert!(lines.starts_with("plan "));
         assert!(lines.lines().count() >= 42);
         for line in lines.lines().skip(1) {
@@ -258,4 +285,44 @@ fn bench_inputs_have_accepted_and_refused_passes() {
         "run",
     ];
     assert_eq!(words, expected.map(String::from).into());
+}
+
+#[test]
+fn tables_vary_and_have_every_count() {
+    let mut random = Random::new(10);
+    let mut counts = BTreeSet::new();
+    let (mut slowest, mut fastest, mut narrow) = (0, 0, 0);
+    for _ in 0..400 {
+        let levels = some_levels(&mut random);
+        counts.insert(levels.count());
+        slowest += u32::from(levels.speed(0) == 1);
+        fastest += u32::from(levels.speed(levels.top()) == 1_000);
+        narrow += u32::from(levels.speed(levels.top()) <= 20);
+    }
+    assert_eq!(counts, (1..=8).collect());
+    assert!(slowest > 80 && fastest > 80 && narrow > 80);
+}
+
+#[test]
+fn plans_have_the_level_chosen_in_any_table() {
+    let mut random = Random::new(11);
+    for _ in 0..60 {
+        let levels = some_levels(&mut random);
+        for level in 0..levels.count() {
+            let nominal = |tasks: &[Task]| sim::judge_list(&levels, tasks).map(|it| it.nominal);
+            let at = plan_at_level(&mut random, &levels, level);
+            assert_eq!(nominal(&at), Ok(level), "{levels:?}");
+            let full = full_plan(&mut random, &levels, level);
+            assert!(nominal(&full).unwrap() <= level, "{levels:?}");
+            // However close the next speed is, it does a tick's one unit more.
+            let over = plan_one_unit_over(&mut random, &levels, level);
+            let next = level + 1;
+            let wanted = if level == levels.top() {
+                Err(8)
+            } else {
+                Ok(next)
+            };
+            assert_eq!(nominal(&over), wanted, "{levels:?}");
+        }
+    }
 }

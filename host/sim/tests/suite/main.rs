@@ -1,6 +1,7 @@
 //! The simulator held to the cases and examples of document 01, and to itself in random runs.
 
 mod astray;
+mod base;
 mod bench;
 mod blocks;
 mod books;
@@ -11,3 +12,4 @@ mod passes;
 mod refusals;
 mod runs;
 mod soundness;
+mod tables;

@@ -1,8 +1,10 @@
 //! Passing, beyond 01's own cases.
 
+use crate::base::{pass, show};
 use crate::common::{bench_plan, idle, led, queue, refuses_pass, run, tasks};
-use sim::dispatch::{pass, show};
-use sim::state::{pack, unpack, LARGEST_CLOCK};
+use sim::clock::LARGEST_CLOCK;
+use sim::layout::{self, STATE_BYTES};
+use sim::state::{pack, unpack};
 
 #[test]
 fn an_order_that_stays_keeps_task_and_level_and_its_hold_falls() {
@@ -11,7 +13,7 @@ fn an_order_that_stays_keeps_task_and_level_and_its_hold_falls() {
     assert_eq!(pass(&mut state, 2, false), Ok(run(1, 5, 5)));
     assert_eq!(pass(&mut state, 4, false), Ok(run(1, 5, 1)));
     // 400 units less 6 times 60.
-    assert_eq!(unpack(&state).unwrap().entries[1].work_left, 40);
+    assert_eq!(unpack(&state).unwrap().entries[1].left.work, 40);
     refuses_pass(&state, 1, false, 14);
     assert_eq!(pass(&mut state, 1, true), Ok(run(2, 7, 2)));
 }
@@ -23,9 +25,9 @@ fn an_order_that_stays_is_not_chosen_anew() {
     let (lowest, _) = led(&bench_plan(), &[(1, true)]);
     for (level, hold) in [(6, 4), (7, 3)] {
         let mut state = lowest;
-        state[5] = level;
+        layout::LEVEL.put(&mut state, u64::from(level));
         assert_eq!(pass(&mut state, 1, false), Ok(run(1, level, hold)));
-        assert_eq!(state[5], level);
+        assert_eq!(layout::LEVEL.get(&state), u64::from(level));
     }
 }
 
@@ -66,7 +68,7 @@ fn the_largest_clock() {
     let mut late = pack(&late);
     refuses_pass(&late, 2, false, 12);
     assert_eq!(pass(&mut late, 1, false), Ok(run(0, 0, 30)));
-    assert_eq!(late[..4], [0xee, 0x6b, 0x28, 0x00]);
+    assert_eq!(late[layout::CLOCK.range()], [0xee, 0x6b, 0x28, 0x00]);
     // The state is sound, and its queue can be shown, but no tick more can go by.
     assert_eq!(queue(&late), [(0, 30)]);
     refuses_pass(&late, 1, false, 15);
@@ -94,5 +96,5 @@ fn the_first_no_decides() {
     refuses_pass(&idling, 3, true, 12);
     refuses_pass(&idling, 1, true, 13);
     // 10 before all.
-    refuses_pass(&idling[..199], 0, true, 10);
+    refuses_pass(&idling[..STATE_BYTES - 1], 0, true, 10);
 }

@@ -1,10 +1,11 @@
 //! Each refusal number from 1 to 17 is reached, from every call that can give it, and the questions
 //! come in 01's order.
 
+use crate::base::{judge, judge_list, listing, read_plan, start, write_plan};
 use crate::common::{bench_plan, led, refuses_pass, refuses_show, tasks, BENCH_BLOCK};
-use sim::dispatch::start;
-use sim::listing;
-use sim::plan::{judge, judge_list, pack_block, read_plan, write_plan, Task};
+use sim::block::{pack_block, Edition};
+use sim::layout::STATE_BYTES;
+use sim::plan::Task;
 use sim::state::{pack, unpack};
 
 /// Reads and starts with the block and wants this refusal of both, with no byte changed. The
@@ -12,7 +13,7 @@ use sim::state::{pack, unpack};
 #[track_caller]
 fn refuses_block(block: &[u8], number: u32) {
     assert_eq!(read_plan(block), Err(number));
-    for length in [0, 199, 200, 300] {
+    for length in [0, STATE_BYTES - 1, STATE_BYTES, STATE_BYTES + 100] {
         let mut state = vec![0xa5; length];
         assert_eq!(start(block, &mut state), Err(number));
         assert_eq!(state, vec![0xa5; length]);
@@ -30,7 +31,7 @@ fn refuses_tasks(list: &[Task], number: u32) {
         assert_eq!(write_plan(count, list, &mut buffer), Err(number));
         assert_eq!(buffer, vec![0xa5; length]);
     }
-    refuses_block(&pack_block(1, count, list), number);
+    refuses_block(&pack_block(Edition::FIRST, count, list), number);
 }
 
 #[test]
@@ -43,7 +44,7 @@ fn number_1() {
 
 #[test]
 fn number_2() {
-    for edition in (0..16).filter(|edition| *edition != 1) {
+    for edition in (0..16).filter(|edition| *edition != 1).map(Edition) {
         refuses_block(&pack_block(edition, 3, &bench_plan()), 2);
         // Before the count and the length.
         refuses_block(&pack_block(edition, 0, &[]), 2);
@@ -53,7 +54,7 @@ fn number_2() {
 #[test]
 fn number_3() {
     for count in [0].into_iter().chain(17..32) {
-        refuses_block(&pack_block(1, count, &bench_plan()), 3);
+        refuses_block(&pack_block(Edition::FIRST, count, &bench_plan()), 3);
     }
     // Before 6.
     refuses_tasks(&[], 3);
@@ -91,7 +92,7 @@ fn number_5() {
     block[14] |= 8;
     refuses_block(&block, 8);
     // Before 6.
-    let mut block = pack_block(1, 1, &tasks(&[(0, 0)]));
+    let mut block = pack_block(Edition::FIRST, 1, &tasks(&[(0, 0)]));
     block[5] |= 1;
     refuses_block(&block, 5);
 }
@@ -151,7 +152,7 @@ fn number_9() {
         assert_eq!(write_plan(3, &bench_plan(), &mut buffer), Err(9));
         assert_eq!(buffer, vec![0xa5; length]);
     }
-    for length in [0, 199] {
+    for length in [0, STATE_BYTES - 1] {
         let mut state = vec![0xa5; length];
         assert_eq!(start(&BENCH_BLOCK, &mut state), Err(9));
         assert_eq!(state, vec![0xa5; length]);

@@ -1,13 +1,17 @@
 //! Random runs: plans led through passes, with demand 3, the queue and the order checked after
 //! each against what the books alone say.
 
-use crate::common::queue;
+use crate::common::queue_of;
 use sim::books::{demand3_holds, ActualBook, PlainBook};
 use sim::dispatch::{pass, show, start, Order};
-use sim::plan::{time_needed, Task, SPEEDS};
+use sim::job::{time_needed, Left};
+use sim::layout::STATE_BYTES;
+use sim::levels::Levels;
+use sim::plan::Task;
 use sim::random::blocks::block_of;
 use sim::random::passes::any_pass;
 use sim::random::plans::{full_plan, plan_at_level, plan_at_level_within, SMALL_BASES};
+use sim::random::tables::some_levels;
 use sim::random::Random;
 use sim::schedule::urgency;
 
@@ -25,8 +29,9 @@ struct Tally {
 }
 
 struct Run {
+    levels: Levels,
     plan: Vec<Task>,
-    state: [u8; 200],
+    state: [u8; STATE_BYTES],
     order: Order,
     actual: ActualBook,
     plain: PlainBook,
@@ -35,13 +40,14 @@ struct Run {
 }
 
 impl Run {
-    fn new(plan: Vec<Task>) -> Run {
-        let mut state = [0; 200];
-        let order = start(&block_of(&plan), &mut state).unwrap();
+    fn new(levels: &Levels, plan: Vec<Task>) -> Run {
+        let mut state = [0; STATE_BYTES];
+        let order = start(levels, &block_of(&plan), &mut state).unwrap();
         let run = Run {
             actual: ActualBook::new(&plan, order),
-            plain: PlainBook::new(&plan),
+            plain: PlainBook::new(levels, &plan),
             work: plan.iter().map(|task| task.worst).collect(),
+            levels: levels.clone(),
             plan,
             state,
             order,
@@ -55,7 +61,7 @@ impl Run {
     fn step(&mut self, random: &mut Random, tally: &mut Tally) {
         let (d, finished) = any_pass(random, self.order);
         let before = self.state;
-        let reply = pass(&mut self.state, d, finished);
+        let reply = pass(&self.levels, &mut self.state, d, finished);
         self.actual.pass(d, finished, reply);
         self.plain.pass(d, reply);
         match reply {
@@ -77,7 +83,7 @@ impl Run {
     fn follow(&mut self, d: u32, finished: bool, order: Order, tally: &mut Tally) {
         if let Order::Run { task, level, .. } = self.order {
             let work = &mut self.work[usize::from(task)];
-            let done = u64::from(d) * SPEEDS[usize::from(level)];
+            let done = u64::from(d) * self.levels.speed(usize::from(level));
             if finished && done < *work {
                 tally.finished_early += 1;
             }
@@ -103,7 +109,7 @@ impl Run {
         match order {
             Order::Idle { .. } => tally.idle += 1,
             Order::Run { level, .. } => {
-                let nominal = sim::judge_list(&self.plan).unwrap().nominal;
+                let nominal = sim::judge_list(&self.levels, &self.plan).unwrap().nominal;
                 if usize::from(level) < nominal {
                     tally.below_nominal += 1;
                 }
@@ -134,10 +140,11 @@ impl Run {
             }
         }
         let work = self.work[job.task];
-        let level = (0..8)
-            .find(|level| time_needed(work, *level) <= allowance)
+        let needed = |level| time_needed(Left { work }, self.levels.speed(level));
+        let level = (0..self.levels.count())
+            .find(|level| needed(*level) <= allowance)
             .unwrap();
-        let hold = time_needed(work, level).min(arrival) as u32;
+        let hold = needed(level).min(arrival) as u32;
         Order::Run {
             task: job.task as u8,
             level: level as u8,
@@ -158,11 +165,13 @@ impl Run {
             .iter()
             .map(|job| (job.task, job.left))
             .collect();
-        assert_eq!(queue(&self.state), plain, "{:?}", self.plan);
+        let queue = queue_of(&self.levels, &self.state);
+        assert_eq!(queue, plain, "{:?}", self.plan);
         let shown = 3 * plain.len();
         if shown > 0 {
             let mut short = [0xa5; 48];
-            assert_eq!(show(&self.state, &mut short[..shown - 1]), Err(9));
+            let room = &mut short[..shown - 1];
+            assert_eq!(show(&self.levels, &self.state, room), Err(9));
             assert_eq!(short, [0xa5; 48]);
         }
     }
@@ -179,27 +188,34 @@ fn with_less_hold(order: Order, d: u32) -> Order {
     }
 }
 
+/// A run of 120 passes on a plan that one of four times is a full one. With a long period in it
+/// there is none, as the books go tick by tick.
+fn run_on_a_small_plan(levels: &Levels, random: &mut Random, round: u32, tally: &mut Tally) {
+    let level = random.place(levels.count());
+    let plan = match round % 4 {
+        0 => full_plan(random, levels, level),
+        _ => {
+            let base = random.pick(&SMALL_BASES);
+            plan_at_level_within(random, levels, level, base)
+        }
+    };
+    if plan.iter().any(|task| task.period > 10_000) {
+        return;
+    }
+    tally.runs += 1;
+    let mut run = Run::new(levels, plan);
+    for _ in 0..120 {
+        run.step(random, tally);
+    }
+}
+
 #[test]
 fn random_runs_on_small_plans() {
+    let levels = Levels::base();
     let mut random = Random::new(2_001);
     let mut tally = Tally::default();
     for round in 0..400 {
-        let level = random.place(8);
-        let plan = match round % 4 {
-            0 => full_plan(&mut random, level),
-            _ => {
-                let base = random.pick(&SMALL_BASES);
-                plan_at_level_within(&mut random, level, base)
-            }
-        };
-        if plan.iter().any(|task| task.period > 10_000) {
-            continue;
-        }
-        tally.runs += 1;
-        let mut run = Run::new(plan);
-        for _ in 0..120 {
-            run.step(&mut random, &mut tally);
-        }
+        run_on_a_small_plan(&levels, &mut random, round, &mut tally);
     }
     assert!(tally.runs > 350, "{}", tally.runs);
     assert!(
@@ -217,14 +233,31 @@ fn random_runs_on_small_plans() {
 
 #[test]
 fn random_runs_on_large_plans() {
+    let levels = Levels::base();
     let mut random = Random::new(2_002);
     let mut tally = Tally::default();
     for round in 0..24 {
-        let plan = plan_at_level(&mut random, round % 8);
-        let mut run = Run::new(plan);
+        let plan = plan_at_level(&mut random, &levels, round % levels.count());
+        let mut run = Run::new(&levels, plan);
         for _ in 0..60 {
             run.step(&mut random, &mut tally);
         }
     }
     assert!(tally.accepted > 500 && tally.finished_early > 100);
+}
+
+/// Demand 3 and the orders don't depend on which speeds there are.
+#[test]
+fn random_runs_with_random_tables() {
+    let mut random = Random::new(2_003);
+    let mut tally = Tally::default();
+    for round in 0..300 {
+        let levels = some_levels(&mut random);
+        run_on_a_small_plan(&levels, &mut random, round, &mut tally);
+    }
+    assert!(tally.runs > 250, "{}", tally.runs);
+    assert!(tally.accepted > 15_000, "{}", tally.accepted);
+    assert!(tally.finished_early > 2_000, "{}", tally.finished_early);
+    assert!(tally.interrupted > 100, "{}", tally.interrupted);
+    assert!(tally.below_nominal > 500, "{}", tally.below_nominal);
 }

@@ -1,8 +1,9 @@
 //! "Sound means ...", clause by clause, by forging states that just fail it and states that just
 //! keep to it.
 
+use crate::base::{pass, show};
 use crate::common::{bench_plan, led, refuses_pass, refuses_show, tasks, BENCH_PASSES};
-use sim::dispatch::{pass, show};
+use sim::layout::{self, STATE_BYTES};
 use sim::plan::Task;
 use sim::state::{pack, unpack, State};
 
@@ -21,11 +22,18 @@ fn is_sound(state: &[u8]) {
 }
 
 /// The bench plan at tick 1, with task 1 running at level 5, changed as told.
-fn changed(change: impl Fn(&mut State)) -> [u8; 200] {
+fn changed(change: impl Fn(&mut State)) -> [u8; STATE_BYTES] {
     let (state, _) = led(&bench_plan(), &BENCH_PASSES[..1]);
     let mut state = unpack(&state).unwrap();
     change(&mut state);
     pack(&state)
+}
+
+/// The state with this task and level in its order.
+fn with_order(mut state: [u8; STATE_BYTES], task: u64, level: u64) -> [u8; STATE_BYTES] {
+    layout::TASK.put(&mut state, task);
+    layout::LEVEL.put(&mut state, level);
+    state
 }
 
 #[test]
@@ -47,7 +55,7 @@ fn length_and_zero_bytes() {
 fn the_plan_within() {
     for count in [0, 2, 4, 16, 17, 255] {
         let mut forged = changed(|_| {});
-        forged[6] = count;
+        layout::COUNT.put(&mut forged, count);
         unsound(&forged);
     }
     // 6. With a period of 65,535 a level admits this worst case, so the range alone is against it.
@@ -66,7 +74,7 @@ fn the_plan_within() {
     // 8. Of task 2's allotment of 6 ticks, 510 units take as much as 600 do.
     is_sound(&changed(|state| {
         state.entries[2].task.worst = 510;
-        state.entries[2].work_left = 510;
+        state.entries[2].left.work = 510;
     }));
     unsound(&changed(|state| state.entries[2].task.worst = 601));
 }
@@ -91,7 +99,7 @@ fn work_and_plain_ticks_left() {
     let with = |work_left| {
         changed(move |state| {
             state.entries[1].task.worst = 395;
-            state.entries[1].work_left = work_left;
+            state.entries[1].left.work = work_left;
         })
     };
     is_sound(&with(395));
@@ -101,11 +109,11 @@ fn work_and_plain_ticks_left() {
     unsound(&changed(|state| state.entries[0].plain_left = 5));
     // The time needed at the nominal level at most the plain ticks left.
     is_sound(&changed(|state| {
-        state.entries[2].work_left = 500;
+        state.entries[2].left.work = 500;
         state.entries[2].plain_left = 5;
     }));
     unsound(&changed(|state| {
-        state.entries[2].work_left = 501;
+        state.entries[2].left.work = 501;
         state.entries[2].plain_left = 5;
     }));
     unsound(&changed(|state| state.entries[2].plain_left = 5));
@@ -118,12 +126,7 @@ fn work_and_plain_ticks_left() {
 
 #[test]
 fn the_order() {
-    let order = |task: u8, level: u8| {
-        let mut state = changed(|_| {});
-        state[4] = task;
-        state[5] = level;
-        state
-    };
+    let order = |task, level| with_order(changed(|_| {}), task, level);
     is_sound(&order(1, 5));
     is_sound(&order(1, 6));
     is_sound(&order(1, 7));
@@ -150,10 +153,8 @@ fn a_level_above_nominal() {
         }],
         &[],
     );
-    assert_eq!(state[5], 1);
-    let mut higher = state;
-    higher[5] = 2;
-    unsound(&higher);
+    assert_eq!(layout::LEVEL.get(&state), 1);
+    unsound(&with_order(state, 0, 2));
 }
 
 #[test]
@@ -161,14 +162,11 @@ fn an_idle_order() {
     let (idle, _) = led(&bench_plan(), &BENCH_PASSES[..5]);
     is_sound(&idle);
     for (task, level) in [(0, 0), (0, 7), (2, 0), (2, 7), (255, 1), (254, 0)] {
-        let mut forged = idle;
-        forged[4] = task;
-        forged[5] = level;
-        unsound(&forged);
+        unsound(&with_order(idle, task, level));
     }
     // A single unit of work open while idle, with plain ticks to do it.
     let mut forged = unpack(&idle).unwrap();
-    forged.entries[2].work_left = 1;
+    forged.entries[2].left.work = 1;
     unsound(&pack(&forged));
 }
 
@@ -177,10 +175,8 @@ fn which_job_an_entry_stands_for_follows_from_the_clock() {
     // At clock 1 tasks 0 and 1 are more urgent than task 2 (deadlines 10 and 30); at clock 21
     // all deadlines are 30, and task 2 arrived first.
     let at = |clock, task| {
-        let mut state = changed(move |state| state.clock = clock);
-        state[4] = task;
-        state[5] = 7;
-        state
+        let state = changed(move |state| state.clock = clock);
+        with_order(state, task, 7)
     };
     is_sound(&at(1, 1));
     unsound(&at(1, 2));

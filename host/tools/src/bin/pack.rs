@@ -1,5 +1,6 @@
 //! `pack`: a plan and passes in plain text to a bench input, and back.
 
+use sim::Levels;
 use std::env;
 use std::ffi::{OsStr, OsString};
 use std::process::ExitCode;
@@ -79,7 +80,7 @@ fn failure(file: Option<&OsStr>, error: impl std::fmt::Display) -> Stop {
 
 /// Names the refusal if the bench program would take no pass of this.
 fn warn(script: &Script) {
-    if let Some(number) = bench::refusal(script) {
+    if let Some(number) = bench::refusal(&Levels::base(), script) {
         let meaning = refusal::meaning(number);
         eprintln!("pack: warning: the bench program refuses this with {number}: {meaning}");
     }

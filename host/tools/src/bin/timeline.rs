@@ -1,5 +1,6 @@
 //! `timeline`: a bench input as an SVG picture of its run.
 
+use sim::Levels;
 use std::env;
 use std::ffi::{OsStr, OsString};
 use std::path::Path;
@@ -42,7 +43,7 @@ fn run(arguments: impl Iterator<Item = OsString>) -> Result<(), Stop> {
     }
     let file = options.file.as_deref();
     let input = read_input(file)?;
-    let run = run::follow(&input).map_err(|number| {
+    let run = run::follow(&Levels::base(), &input).map_err(|number| {
         let meaning = refusal::meaning(number);
         Stop::Failure(format!("the input is refused with {number}: {meaning}"))
     })?;

@@ -1,12 +1,11 @@
 //! What the signs mean.
 
 use super::style::{
-    arrival_mark, bar, canonical_bar, deadline_mark, finish_mark, idle_bar, level_height,
+    arrival_mark, bar, canonical_bar, colour, deadline_mark, finish_mark, idle_bar, level_height,
     nominal_line, ordered_box, refused_mark, soft_words, text_width, unused_box, words, INK,
-    LEVELS,
 };
 use crate::svg::Element;
-use sim::plan::SPEEDS;
+use sim::levels::Levels;
 
 const SIZE: f64 = 10.0;
 const LINE: f64 = 22.0;
@@ -27,7 +26,7 @@ const ITEMS: [Item; 9] = [
         "unused: the job ended so many ticks early",
     ),
     (
-        |x, y| ordered_box(x, y - 6.0, 24.0, 12.0, LEVELS[5]),
+        |x, y| ordered_box(x, y - 6.0, 24.0, 12.0, colour(5)),
         "ordered, not run yet",
     ),
     (
@@ -43,9 +42,9 @@ const ITEMS: [Item; 9] = [
 ];
 
 /// The legend and its height.
-pub fn draw(left: f64, top: f64, right: f64) -> (Element, f64) {
+pub fn draw(levels: &Levels, left: f64, top: f64, right: f64) -> (Element, f64) {
     let mut group = Element::new("g").set("class", "legend");
-    add_levels(left, top, &mut group);
+    add_levels(levels, left, top, &mut group);
     let (mut x, mut y) = (left, top + SCALE + 2.0 * LINE + 4.0);
     for (sign, meaning) in ITEMS {
         let width = SIGN + 4.0 + text_width(meaning, SIZE);
@@ -60,23 +59,23 @@ pub fn draw(left: f64, top: f64, right: f64) -> (Element, f64) {
     (group, y + 10.0 - top)
 }
 
-/// The eight levels side by side, each in its height and colour, with number and speed.
-fn add_levels(left: f64, top: f64, group: &mut Element) {
+/// The levels side by side, each in its height and colour, with number and speed.
+fn add_levels(levels: &Levels, left: f64, top: f64, group: &mut Element) {
     let base = top + SCALE;
     let first = left + 44.0;
     group.add(soft_words(left, base + 13.0, SIZE, "level"));
     group.add(soft_words(left, base + 25.0, SIZE, "speed"));
-    for (level, speed) in SPEEDS.iter().enumerate() {
+    for (level, speed) in levels.speeds().iter().enumerate() {
         let x = first + level as f64 * (SWATCH + 2.0);
         let middle = x + SWATCH / 2.0;
-        let high = level_height(level, SCALE);
+        let high = level_height(levels, level, SCALE);
         group.add(bar(x, base - high, SWATCH, high, level).set("stroke", INK));
         let number = words(middle, base + 13.0, SIZE, &format!("L{level}"));
         group.add(number.set("text-anchor", "middle"));
         let speed = soft_words(middle, base + 25.0, SIZE, &speed.to_string());
         group.add(speed.set("text-anchor", "middle"));
     }
-    let x = first + SPEEDS.len() as f64 * (SWATCH + 2.0) + 10.0;
+    let x = first + levels.count() as f64 * (SWATCH + 2.0) + 10.0;
     let text = "a bar is as high as its level is fast: its area is the work done";
     group.add(soft_words(x, base + 13.0, SIZE, text));
 }

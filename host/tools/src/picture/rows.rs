@@ -1,16 +1,15 @@
 //! The rows of the tasks, and the row of idle time below them.
 
 use super::style::{
-    arrival_mark, bar, canonical_bar, deadline_mark, finish_mark, idle_bar, level_height, line,
-    narrow_idle_bar, nominal_line, ordered_box, soft_words, text_width, ticks, unused_box, words,
-    INK, LEVELS, SHADE,
+    arrival_mark, bar, canonical_bar, colour, deadline_mark, finish_mark, idle_bar, level_height,
+    line, narrow_idle_bar, nominal_line, ordered_box, soft_words, text_width, ticks, unused_box,
+    words, INK, SHADE,
 };
 use super::view::View;
 use super::{LEFT, MARGIN};
 use crate::run::{Span, Stretch};
 use crate::svg::Element;
 use sim::dispatch::Order;
-use sim::plan::SPEEDS;
 use sim::schedule::allotment;
 
 /// From the top of a row: arrivals and labels, bars, the canonical strip, deadlines.
@@ -85,7 +84,8 @@ impl Row<'_> {
         let task = self.view.run.tasks[self.task];
         let name = format!("task {}", self.task);
         group.add(words(MARGIN, self.top + 26.0, 13.0, &name).set("font-weight", "bold"));
-        let ticks = allotment(&task, self.view.run.judged.nominal);
+        let run = self.view.run;
+        let ticks = allotment(&task, run.levels.speed(run.judged.nominal));
         let figures = [
             format!("period {}", task.period),
             format!("worst case {}", task.worst),
@@ -101,7 +101,7 @@ impl Row<'_> {
 
     fn add_lines(&self, group: &mut Element) {
         let (left, right) = (self.view.scale.left(), self.view.scale.right());
-        let nominal = self.base - level_height(self.view.run.judged.nominal, BAR);
+        let nominal = self.base - self.bar_height(self.view.run.judged.nominal);
         group.add(nominal_line(left, right, nominal));
         group.add(line(left, self.base, right, self.base, INK).set("stroke-opacity", 0.5));
     }
@@ -143,7 +143,7 @@ impl Row<'_> {
         if width < NARROWEST_BOX {
             return;
         }
-        let high = level_height(stretch.level, BAR);
+        let high = self.bar_height(stretch.level);
         let ended = format!(
             "the job ended {} before its worst case at level {}",
             ticks(unused.ticks()),
@@ -166,10 +166,11 @@ impl Row<'_> {
             None => return,
         };
         let (x, width) = self.place(shown);
-        let high = level_height(stretch.level, BAR);
+        let high = self.bar_height(stretch.level);
         let mut drawn = bar(x, self.base - high, width, high, stretch.level);
         if width >= CLOSEST_MARKS {
-            drawn = drawn.set("stroke", INK).hint(&story(stretch));
+            let speed = self.view.run.levels.speed(stretch.level);
+            drawn = drawn.set("stroke", INK).hint(&story(stretch, speed));
         }
         group.add(drawn);
         let ends_here = stretch.early.is_some() && shown.to == stretch.span.to;
@@ -197,9 +198,9 @@ impl Row<'_> {
             None => return,
         };
         let (x, width) = self.place(shown);
-        let high = level_height(level, BAR);
+        let high = self.bar_height(level);
         let order = format!("the last order: level {level}, hold {hold}");
-        let drawn = ordered_box(x, self.base - high, width, high, LEVELS[level]);
+        let drawn = ordered_box(x, self.base - high, width, high, colour(level));
         group.add(drawn.hint(&order));
         self.add_label(
             x,
@@ -242,6 +243,10 @@ impl Row<'_> {
         place(self.view, span)
     }
 
+    fn bar_height(&self, level: usize) -> f64 {
+        level_height(&self.view.run.levels, level, BAR)
+    }
+
     /// Over something of this place and height, the first label that there is room for, if any.
     fn add_label(&self, x: f64, width: f64, high: f64, choice: &[String], group: &mut Element) {
         let fits = |text: &&String| text_width(text, LABEL_SIZE) + 12.0 <= width;
@@ -250,7 +255,7 @@ impl Row<'_> {
             None => return,
         };
         // Where the nominal line would run through the label, the label goes above the line.
-        let nominal = level_height(self.view.run.judged.nominal, BAR);
+        let nominal = self.bar_height(self.view.run.judged.nominal);
         let under = if (high..high + 14.0).contains(&nominal) {
             nominal
         } else {
@@ -261,20 +266,15 @@ impl Row<'_> {
     }
 }
 
-/// What there is to say about a stretch.
-fn story(stretch: &Stretch) -> String {
+/// What there is to say about a stretch, and the speed of its level.
+fn story(stretch: &Stretch, speed: u64) -> String {
     let ending = match stretch.early {
         Some(_) => "finished",
         None => "not finished",
     };
     format!(
-        "task {}, job of tick {}: ran from tick {} to {} at level {} (speed {}), {ending}",
-        stretch.task,
-        stretch.arrival,
-        stretch.span.from,
-        stretch.span.to,
-        stretch.level,
-        SPEEDS[stretch.level]
+        "task {}, job of tick {}: ran from tick {} to {} at level {} (speed {speed}), {ending}",
+        stretch.task, stretch.arrival, stretch.span.from, stretch.span.to, stretch.level
     )
 }
 

@@ -2,7 +2,7 @@
 
 use super::style::text_width;
 use crate::run::Span;
-use sim::plan::div_ceil;
+use sim::numbers::div_ceil;
 
 const WIDEST_TICK: f64 = 36.0;
 const NARROWEST_PLOT: f64 = 520.0;

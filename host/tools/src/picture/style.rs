@@ -1,7 +1,7 @@
 //! Colours, letters and small shapes.
 
 use crate::svg::{px, Element};
-use sim::plan::SPEEDS;
+use sim::levels::Levels;
 
 pub const FONT: &str = "Verdana, DejaVu Sans, Arial, sans-serif";
 
@@ -14,14 +14,19 @@ pub const CANONICAL: &str = "#bcc5d1";
 pub const REFUSED: &str = "#c21f2c";
 
 /// One colour a level, from pale and slow to dark and fast. Darker also in print without colours.
-pub const LEVELS: [&str; 8] = [
+const COLOURS: [&str; 8] = [
     "#d6e36a", "#a5d46a", "#62c3a3", "#33adb3", "#1d8dc0", "#2f6cb5", "#2c3f9e", "#0b1f5c",
 ];
 
+/// A table with more levels than there are colours has the last one for all the rest.
+pub fn colour(level: usize) -> &'static str {
+    COLOURS[level.min(COLOURS.len() - 1)]
+}
+
 /// How high a bar of the level is if the fastest level has this height. Heights go with the
 /// speeds, so that the area of a bar goes with the work done.
-pub fn level_height(level: usize, full: f64) -> f64 {
-    full * SPEEDS[level] as f64 / SPEEDS[SPEEDS.len() - 1] as f64
+pub fn level_height(levels: &Levels, level: usize, full: f64) -> f64 {
+    full * levels.speed(level) as f64 / levels.speed(levels.top()) as f64
 }
 
 /// About how wide the text is; no letters are measured.
@@ -123,7 +128,7 @@ pub fn ordered_box(x: f64, y: f64, width: f64, height: f64, colour: &str) -> Ele
 pub fn bar(x: f64, y: f64, width: f64, height: f64, level: usize) -> Element {
     rectangle(x, y, width, height)
         .set("class", format!("bar level-{level}"))
-        .set("fill", LEVELS[level])
+        .set("fill", colour(level))
 }
 
 pub fn canonical_bar(x: f64, y: f64, width: f64, height: f64) -> Element {

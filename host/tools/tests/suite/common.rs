@@ -1,10 +1,13 @@
 //! What several tests need.
 
+use sim::block::{PERIOD_BITS, WORST_BITS};
 use sim::plan::Task;
 use sim::random::blocks::bench_input;
 use sim::random::plans::{plan_at_level_within, SMALL_BASES};
 use sim::random::Random;
-use tools::script::{largest, Pass, Script};
+use sim::Levels;
+use tools::run::Run;
+use tools::script::{largest, Pass, Script, D_BITS};
 
 /// Document 01's example: the block, then 8001 8007 8002 8004 8004 0002.
 pub const EXAMPLE: [u8; 27] = [
@@ -27,6 +30,19 @@ finish 4
 pass 2
 ";
 
+/// The listing, the run and the refusal that there are with 01's speeds.
+pub fn listing(input: &[u8]) -> Vec<u8> {
+    sim::listing(&Levels::base(), input)
+}
+
+pub fn follow(input: &[u8]) -> Result<Run, u32> {
+    tools::run::follow(&Levels::base(), input)
+}
+
+pub fn refusal(script: &Script) -> Option<u32> {
+    tools::bench::refusal(&Levels::base(), script)
+}
+
 pub fn tasks(pairs: &[(u64, u64)]) -> Vec<Task> {
     let task = |(period, worst): &(u64, u64)| Task {
         period: *period,
@@ -37,7 +53,7 @@ pub fn tasks(pairs: &[(u64, u64)]) -> Vec<Task> {
 
 /// Any script that fits its fields: most plans in it are refused.
 pub fn any_script(random: &mut Random) -> Script {
-    let field = |random: &mut Random, bits: u32| match random.below(4) {
+    let field = |random: &mut Random, bits: usize| match random.below(4) {
         0 => 0,
         1 => largest(bits),
         _ => random.between(0, largest(bits)),
@@ -45,13 +61,13 @@ pub fn any_script(random: &mut Random) -> Script {
     let mut script = Script::default();
     for _ in 0..random.below(32) {
         script.tasks.push(Task {
-            period: field(random, 16),
-            worst: field(random, 20),
+            period: field(random, PERIOD_BITS),
+            worst: field(random, WORST_BITS),
         });
     }
     for _ in 0..random.below(40) {
         script.passes.push(Pass {
-            d: field(random, 15) as u32,
+            d: field(random, D_BITS) as u32,
             finished: random.one_in(2),
         });
     }
@@ -61,8 +77,9 @@ pub fn any_script(random: &mut Random) -> Script {
 /// A bench input with an accepted plan of short periods; most of its passes are accepted, some are
 /// refused, and now and then an odd byte is left.
 pub fn any_run(random: &mut Random, passes: usize) -> Vec<u8> {
-    let level = random.place(8);
+    let levels = Levels::base();
+    let level = random.place(levels.count());
     let base = random.pick(&SMALL_BASES[4..]);
-    let plan = plan_at_level_within(random, level, base);
-    bench_input(random, &plan, passes)
+    let plan = plan_at_level_within(random, &levels, level, base);
+    bench_input(random, &levels, &plan, passes)
 }

@@ -1,9 +1,8 @@
 //! The bench input: each reason why it can't be said in text, with its byte; and the refusals that
 //! can.
 
-use crate::common::{tasks, EXAMPLE, EXAMPLE_BLOCK};
-use sim::listing;
-use tools::bench::{from_bytes, refusal, to_bytes, BytesError, Why};
+use crate::common::{listing, refusal, tasks, EXAMPLE, EXAMPLE_BLOCK};
+use tools::bench::{from_bytes, to_bytes, BytesError, Why};
 use tools::script::{Pass, Script};
 
 #[track_caller]

@@ -1,13 +1,13 @@
 //! The picture, read back from its SVG: bars, idle time, canonical strips, marks.
 
-use crate::common::{any_run, EXAMPLE};
+use crate::common::{any_run, follow, tasks, EXAMPLE};
 use crate::told::{told, Ran};
 use crate::xml::{read, Node};
-use sim::plan::SPEEDS;
+use sim::random::blocks::block_of;
 use sim::random::Random;
-use sim::{Order, PlainBook};
+use sim::{Levels, Order, PlainBook};
 use tools::picture::{draw, window};
-use tools::run::{follow, Span};
+use tools::run::{Run, Span};
 
 /// A picture read back, with the scale found from the numbers of its axis.
 pub struct Seen {
@@ -57,7 +57,7 @@ impl Seen {
         self.all(class, part).map(|node| self.span(node)).collect()
     }
 
-    /// All bars, in the order of time: task, level, from, to.
+    /// All bars, in the order of time: task, level, from, to. No table here has more levels than 01's.
     fn bars(&self, tasks: usize) -> Vec<(usize, usize, u64, u64)> {
         let mut bars = Vec::new();
         for task in 0..tasks {
@@ -73,8 +73,11 @@ impl Seen {
 }
 
 pub fn picture(input: &[u8], from: Option<u64>, to: Option<u64>) -> String {
-    let run = follow(input).unwrap();
-    draw(&run, window(&run, from, to).unwrap(), None)
+    drawn(&follow(input).unwrap(), from, to)
+}
+
+fn drawn(run: &Run, from: Option<u64>, to: Option<u64>) -> String {
+    draw(run, window(run, from, to).unwrap(), None)
 }
 
 fn count(input: &[u8]) -> usize {
@@ -123,15 +126,16 @@ fn the_bars_have_the_ticks_that_the_listing_says_were_run() {
 
 #[test]
 fn a_bar_is_as_high_as_its_level_is_fast() {
+    let levels = Levels::base();
     let mut random = Random::new(33);
-    let mut levels_seen = [false; 8];
+    let mut levels_seen = vec![false; levels.count()];
     for _ in 0..60 {
         let seen = Seen::new(&picture(&any_run(&mut random, 40), None, None));
-        for level in 0..8 {
+        for (level, speed) in levels.speeds().iter().enumerate() {
             let class = format!("level-{level}");
             for node in seen.nodes.iter().filter(|node| node.is(&class)) {
                 if !node.is_inside("legend") {
-                    let expected = 48.0 * SPEEDS[level] as f64 / 100.0;
+                    let expected = 48.0 * *speed as f64 / 100.0;
                     assert!((node.number("height") - expected).abs() < 0.01);
                     levels_seen[level] = true;
                 }
@@ -139,6 +143,38 @@ fn a_bar_is_as_high_as_its_level_is_fast() {
         }
     }
     assert_eq!(levels_seen, [true; 8]);
+}
+
+#[test]
+fn other_speeds_have_other_bars_and_another_legend() {
+    // Task 0 has 40 units, task 1 has 56: 4 and 5 ticks at 13, which is nominal. Task 0 ends after
+    // one of them, so task 1 may run at 7 and ends a tick before its 8 are over.
+    let input = [
+        &block_of(&tasks(&[(10, 40), (15, 56)]))[..],
+        &[0x80, 1, 0x80, 7],
+    ];
+    let levels = Levels::new(&[7, 13, 29]);
+    let run = tools::run::follow(&levels, &input.concat()).unwrap();
+    let seen = Seen::new(&drawn(&run, None, None));
+    assert_eq!(seen.bars(2), [(0, 1, 0, 1), (1, 0, 1, 8)]);
+    assert_eq!(seen.spans("early", "task-0"), [(1, 4)]);
+    assert_eq!(seen.spans("early", "task-1"), [(8, 9)]);
+    for (part, speed) in [("task-0", 13.0), ("task-1", 7.0)] {
+        let bar = seen.all("bar", part).next().unwrap();
+        assert!((bar.number("height") - 48.0 * speed / 29.0).abs() < 0.01);
+    }
+    let swatches = seen.all("bar", "legend");
+    let heights: Vec<f64> = swatches.map(|bar| bar.number("height")).collect();
+    assert_eq!(heights.len(), 3);
+    for (height, speed) in heights.iter().zip([7.0, 13.0, 29.0]) {
+        assert!((height - 24.0 * speed / 29.0).abs() < 0.01);
+    }
+    let texts: Vec<&str> = seen.nodes.iter().map(|node| node.text.as_str()).collect();
+    let hint = "task 1, job of tick 0: ran from tick 1 to 8 at level 0 (speed 7), finished";
+    for text in ["allotment 4", "allotment 5", "29", "L2", hint] {
+        assert!(texts.contains(&text), "{text}");
+    }
+    assert!(!texts.contains(&"L3"));
 }
 
 #[test]
@@ -150,7 +186,7 @@ fn the_canonical_strip_is_the_plain_schedule() {
         let end = run.end_of_order();
         let seen = Seen::new(&picture(&input, None, None));
         let mut served = vec![Vec::new(); run.tasks.len()];
-        let mut book = PlainBook::new(&run.tasks);
+        let mut book = PlainBook::new(&run.levels, &run.tasks);
         for tick in 0..end {
             if let Some(job) = book.open_jobs().first() {
                 served[job.task].push(tick);

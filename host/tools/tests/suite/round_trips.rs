@@ -1,11 +1,11 @@
 //! There and back, on random scripts, random runs and damaged inputs.
 
-use crate::common::{any_run, any_script};
-use sim::listing;
+use crate::common::{any_run, any_script, listing, refusal};
 use sim::random::blocks::{bench_input, block_of, damaged_block};
 use sim::random::plans::{edge_list, plan_at_level};
 use sim::random::Random;
-use tools::bench::{from_bytes, refusal, to_bytes};
+use sim::Levels;
+use tools::bench::{from_bytes, to_bytes};
 use tools::text::{parse, write};
 
 #[test]
@@ -60,11 +60,12 @@ fn fault(input: &[u8]) -> Option<usize> {
 
 #[test]
 fn damaged_inputs_fail_at_their_byte_or_come_back() {
+    let levels = Levels::base();
     let mut random = Random::new(3);
     let (mut failed, mut came_back) = (0, 0);
     for _ in 0..4_000 {
-        let level = random.place(8);
-        let plan = plan_at_level(&mut random, level);
+        let level = random.place(levels.count());
+        let plan = plan_at_level(&mut random, &levels, level);
         let mut input = damaged_block(&mut random, &block_of(&plan));
         for _ in 0..random.below(9) {
             input.push(random.number() as u8);
@@ -87,15 +88,16 @@ fn damaged_inputs_fail_at_their_byte_or_come_back() {
 
 #[test]
 fn the_refusal_is_the_one_that_the_bench_program_prints() {
+    let levels = Levels::base();
     let mut random = Random::new(4);
     let mut refused = 0;
     for _ in 0..1_500 {
-        let mut plan = edge_list(&mut random);
+        let mut plan = edge_list(&mut random, &levels);
         for task in &mut plan {
             task.period &= 0xffff;
             task.worst &= 0xf_ffff;
         }
-        let mut input = bench_input(&mut random, &plan, 3);
+        let mut input = bench_input(&mut random, &levels, &plan, 3);
         let script = from_bytes(&input).unwrap_or_else(|_| {
             input.pop();
             from_bytes(&input).unwrap()

@@ -1,10 +1,11 @@
 //! A run as the picture sees it, against what the listing tells.
 
-use crate::common::{any_run, EXAMPLE};
+use crate::common::{any_run, follow, EXAMPLE};
 use crate::told::{told, Ran};
+use sim::layout::STATE_BYTES;
 use sim::random::Random;
-use sim::{start, Order};
-use tools::run::{follow, Refusal, Run, Span, Stretch};
+use sim::{start, Levels, Order};
+use tools::run::{Refusal, Run, Span, Stretch};
 
 fn ran(stretch: &Stretch) -> Ran {
     Ran {
@@ -108,6 +109,7 @@ fn whole_inputs_refused() {
 #[test]
 fn without_passes_there_is_the_first_order() {
     let run = follow(&EXAMPLE[..15]).unwrap();
-    assert_eq!(Ok(run.order), start(&EXAMPLE[..15], &mut [0; 200]));
+    let first = start(&Levels::base(), &EXAMPLE[..15], &mut [0; STATE_BYTES]);
+    assert_eq!(Ok(run.order), first);
     assert_eq!((run.clock, run.end_of_order()), (0, 4));
 }

@@ -1,7 +1,8 @@
 //! What the bench program's listing tells about a run, read from its lines alone.
 
-use sim::listing;
+use crate::common::listing;
 use sim::plan::read_plan;
+use sim::Levels;
 use tools::bench::{split, unpack_pass};
 
 /// Ticks that went to a task at a level, without a break.
@@ -28,7 +29,7 @@ pub struct Told {
 pub fn told(input: &[u8]) -> Told {
     let text = String::from_utf8(listing(input)).unwrap();
     let (block, rest) = split(input);
-    let periods: Vec<u64> = read_plan(block)
+    let periods: Vec<u64> = read_plan(&Levels::base(), block)
         .unwrap()
         .0
         .iter()

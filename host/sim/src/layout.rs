@@ -1,0 +1,76 @@
+//! 01, Blocks: where each number of the state block stands. Nothing else in the simulator knows a
+//! place or a length of it.
+
+use std::ops::Range;
+
+/// So many bytes from a place on. In the head the places are the block's, in an entry the entry's
+/// own.
+#[derive(Clone, Copy, PartialEq, Eq, Debug)]
+pub struct Field {
+    pub at: usize,
+    pub bytes: usize,
+}
+
+const fn field(at: usize, bytes: usize) -> Field {
+    Field { at, bytes }
+}
+
+/// "clock (4 bytes), task of the order (1; 255 for idle), level (1; 0 for idle), count (1), a zero
+/// byte".
+pub const CLOCK: Field = field(0, 4);
+pub const TASK: Field = field(4, 1);
+pub const LEVEL: Field = field(5, 1);
+pub const COUNT: Field = field(6, 1);
+pub const HEAD_ZERO: Field = field(7, 1);
+pub const HEAD_BYTES: usize = 8;
+
+/// "period (2), worst case (3), work left (3; 0 once finished), plain ticks left (2), two zero
+/// bytes".
+pub const PERIOD: Field = field(0, 2);
+pub const WORST: Field = field(2, 3);
+pub const WORK_LEFT: Field = field(5, 3);
+pub const PLAIN_LEFT: Field = field(8, 2);
+pub const ENTRY_ZERO: Field = field(10, 2);
+pub const ENTRY_BYTES: usize = 12;
+
+/// "a block of 200 bytes ... sixteen entries of 12 bytes".
+pub const ENTRIES: usize = 16;
+pub const STATE_BYTES: usize = 200;
+const _: () = assert!(STATE_BYTES == HEAD_BYTES + ENTRIES * ENTRY_BYTES);
+
+/// What stands for the task in an idle order.
+pub const IDLE: u64 = 255;
+
+/// Where the entry of a task begins; for the count of tasks, where the entries in use end.
+pub const fn entry_at(task: usize) -> usize {
+    HEAD_BYTES + ENTRY_BYTES * task
+}
+
+/// A field of an entry as one of the block.
+pub const fn of_task(task: usize, part: Field) -> Field {
+    field(entry_at(task) + part.at, part.bytes)
+}
+
+impl Field {
+    pub fn range(self) -> Range<usize> {
+        self.at..self.at + self.bytes
+    }
+
+    /// "Numbers have their most significant byte first".
+    pub fn get(self, block: &[u8]) -> u64 {
+        let mut number = 0;
+        for byte in &block[self.range()] {
+            number = 256 * number + u64::from(*byte);
+        }
+        number
+    }
+
+    /// Puts the lowest bytes of a number, as many as the field has.
+    pub fn put(self, block: &mut [u8], number: u64) {
+        let mut rest = number;
+        for byte in block[self.range()].iter_mut().rev() {
+            *byte = (rest % 256) as u8;
+            rest /= 256;
+        }
+    }
+}
