@@ -13,7 +13,6 @@ use Rattle.arith.specs.Digits.{digits}
 use Rattle.arith.specs.Choice.{pick}
 use Rattle.plan.specs.declared.Written.{Written}
 use Rattle.plan.specs.declared.Written.the-variants as written
-use Rattle.plan.specs.Levels.{baseSpeeds}
 use Rattle.plan.specs.Answers.{roomNumber}
 use Rattle.plan.proofs.AnswerLaws.{Leaves, leaves-refused, leaves-written}
 use Rattle.schedule.specs.PlainSchedule.{Timing, Pending, queueOf}
@@ -101,33 +100,33 @@ module _ {left : ℕ → ℕ} {ts : List ℕ} {len : ℕ} {found buffer : List �
       so-far .bytes ∙ ap (λ (n : ℕ). tasksBytes left (take n ts) ++ drop (3 * n) found) e
 
 -- what showing a block answers and leaves
-abbrev LeftByShow : List ℕ → List ℕ → Written → List ℕ → Type 0
-LeftByShow bytes buffer r m = Leaves (showNumber baseSpeeds bytes (length buffer)) (shownBytes baseSpeeds bytes) buffer r m
+abbrev pub LeftByShow : List ℕ → List ℕ → List ℕ → Written → List ℕ → Type 0
+LeftByShow speeds bytes buffer r m = Leaves (showNumber speeds bytes (length buffer)) (shownBytes speeds bytes) buffer r m
 
 -- its number, by whether the block is sound
-abbrev showNo : List ℕ → List ℕ → Bool → ℕ
-showNo bytes buffer b = pick b (roomNumber (length (shownBytes baseSpeeds bytes)) (length buffer)) 10
+abbrev showNo : List ℕ → List ℕ → List ℕ → Bool → ℕ
+showNo speeds bytes buffer b = pick b (roomNumber (length (shownBytes speeds bytes)) (length buffer)) 10
 
 pub show-unsound :
-    (bytes buffer : List ℕ) (t : Tested) →
-    t ≡ testedBy (sound baseSpeeds bytes) bytes →
+    (speeds bytes buffer : List ℕ) (t : Tested) →
+    t ≡ testedBy speeds (sound speeds bytes) bytes →
     t .sound ≡ false →
-    LeftByShow bytes buffer (written.Refused 10) buffer
-show-unsound bytes buffer t e h =
-    leaves-refused (showNumber baseSpeeds bytes (length buffer)) 10 (shownBytes baseSpeeds bytes) buffer (omega arith)
-    (ap (showNo bytes buffer) (sym (tested-sound bytes t e) ∙ h))
+    LeftByShow speeds bytes buffer (written.Refused 10) buffer
+show-unsound speeds bytes buffer t e h =
+    leaves-refused (showNumber speeds bytes (length buffer)) 10 (shownBytes speeds bytes) buffer (omega arith)
+    (ap (showNo speeds bytes buffer) (sym (tested-sound speeds bytes t e) ∙ h))
 
 -- a sound block with its count and its ready tasks
-pub record Showing (bytes keys : List ℕ) (highest n : ℕ) (q : ReadyList) : Type 0 where
-  pub good : Good bytes keys highest
+pub record Showing (speeds bytes keys : List ℕ) (highest n : ℕ) (q : ReadyList) : Type 0 where
+  pub good : Good speeds bytes keys highest
   pub counted : n ≡ stateCount bytes
   pub listed : Listed keys (remainingIn bytes) n q
 
-module _ {bytes keys : List ℕ} {highest n : ℕ} {q : ReadyList} (k : Showing bytes keys highest n q) (buffer : List ℕ) where
+module _ {speeds bytes keys : List ℕ} {highest n : ℕ} {q : ReadyList} (k : Showing speeds bytes keys highest n q) (buffer : List ℕ) where
   -- the bytes to show
-  shown-are : shownBytes baseSpeeds bytes ≡ tasksBytes (remainingIn bytes) (take (q .len) (q .tasks))
+  shown-are : shownBytes speeds bytes ≡ tasksBytes (remainingIn bytes) (take (q .len) (q .tasks))
   shown-are =
-      let τ : Timing = timingIn bytes in
+      let τ : Timing = timingIn speeds bytes in
       let now : ℕ = decode bytes .clock in
       let some : n ≤ τ .count = omega (arith, timing-count bytes, k .counted) in
       ap (λ (x : ℕ). queueBytes (queueOf τ now (remainingOf (decode bytes)) x)) (count-in bytes ∙ sym (k .counted))
@@ -137,28 +136,28 @@ module _ {bytes keys : List ℕ} {highest n : ℕ} {q : ReadyList} (k : Showing 
       ∙ ready-bytes τ now keys (k .good .keyed) (remainingIn bytes) n some
       ∙ ap (tasksBytes (remainingIn bytes)) (sym (listed-front (k .listed)))
 
-  wanted : length (shownBytes baseSpeeds bytes) ≡ 3 * q .len
+  wanted : length (shownBytes speeds bytes) ≡ 3 * q .len
   wanted =
       ap length shown-are
       ∙ length-tasksBytes (remainingIn bytes) (take (q .len) (q .tasks))
       ∙ ap (λ (x : List ℕ). 3 * length x) (listed-front (k .listed))
       ∙ ap (λ (x : ReadyList). 3 * x .len) (sym (k .listed .is))
 
-  asked : showNumber baseSpeeds bytes (length buffer) ≡ roomNumber (3 * q .len) (length buffer)
-  asked = ap (showNo bytes buffer) (k .good .sound) ∙ ap (λ (x : ℕ). roomNumber x (length buffer)) wanted
+  asked : showNumber speeds bytes (length buffer) ≡ roomNumber (3 * q .len) (length buffer)
+  asked = ap (showNo speeds bytes buffer) (k .good .sound) ∙ ap (λ (x : ℕ). roomNumber x (length buffer)) wanted
 
-  pub show-short : length buffer < 3 * q .len → LeftByShow bytes buffer (written.Refused 9) buffer
+  pub show-short : length buffer < 3 * q .len → LeftByShow speeds bytes buffer (written.Refused 9) buffer
   show-short h =
-      leaves-refused (showNumber baseSpeeds bytes (length buffer)) 9 (shownBytes baseSpeeds bytes) buffer (omega arith)
+      leaves-refused (showNumber speeds bytes (length buffer)) 9 (shownBytes speeds bytes) buffer (omega arith)
       (asked ∙ ap (λ (b : Bool). pick {A = ℕ} b 0 9) (lt-leb (3 * q .len) (length buffer) h))
 
   pub show-stored :
       {m : List ℕ} →
       3 * q .len ≤ length buffer →
       m ≡ tasksBytes (remainingIn bytes) (take (q .len) (q .tasks)) ++ drop (3 * q .len) buffer →
-      LeftByShow bytes buffer (written.Bytes (3 * q .len)) m
+      LeftByShow speeds bytes buffer (written.Bytes (3 * q .len)) m
   show-stored {m} h e =
-      leaves-written (showNumber baseSpeeds bytes (length buffer)) (3 * q .len) (shownBytes baseSpeeds bytes) buffer m
+      leaves-written (showNumber speeds bytes (length buffer)) (3 * q .len) (shownBytes speeds bytes) buffer m
       (asked ∙ ap (λ (b : Bool). pick {A = ℕ} b 0 9) (le-leb (3 * q .len) (length buffer) h))
       (sym wanted)
       (e ∙ ap₂ (λ (x : List ℕ) (y : ℕ). x ++ drop y buffer) (sym shown-are) (sym wanted))

@@ -37,7 +37,8 @@ pub fn show(state: &[u8], buffer: &mut [u8]) -> Written
     ensures { λ r. ⌜ r ≡ showReply baseSpeeds (now (state .entry)) (length (now (buffer .entry))) ⌝ }
     ensures { λ _. ⌜ now (buffer .exit) ≡ showBuffer baseSpeeds (now (state .entry)) (now (buffer .entry)) ⌝ }
 {
-    let tested = test_block(state);
+    let speeds = levels::base();
+    let tested = test_block(&speeds, levels::LEVELS, state);
     if !tested.sound {
         return Written::Refused(10);
     }

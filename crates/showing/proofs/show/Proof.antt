@@ -1,23 +1,35 @@
 -- `show` meets its contract: the block is not sound, the buffer is too short, or the queue is stored.
 -- Assumes nothing.
 use Prim.Native.Nat.{ℕ}
+use mathlib.Core.Path.{subst}
 use mathlib.Core.List.{List}
 use native.Mathlib.Omega.{arith}
 use borrow.Author.Needs.{needs}
 use borrow.Author.Tests.{not-true, not-false}
+use Rattle.plan.specs.declared.Written.{Written}
+use Rattle.plan.specs.Levels.{baseSpeeds}
+use Rattle.levels.specs.Code.{loaded}
+use Rattle.levels.proofs.Tables.{loaded-base}
 use Rattle.soundness.specs.Code.{Good}
 use Rattle.soundness.proofs.SoundLaws.{tested-good}
 use Rattle.urgency.proofs.ReadySteps.{listed-few, listed-below}
-use Rattle.showing.proofs.ShowLaws.{Showing, show-unsound, show-short, show-stored}
+use Rattle.showing.proofs.ShowLaws.{LeftByShow, Showing, show-unsound, show-short, show-stored}
 use Rattle.showing.proofs.show.Statement.{statement}
 use Rattle.showing.proofs.show.Tie as tie
 
 -- the places that others are reached from
+abbrev made : tie.After-test-block → tie.After-base
+made c = c .before .before
+
 abbrev start : tie.After-test-block → tie.Start
-start c = c .before .before .before
+start c = made c .before .before .before
 
 abbrev tested : tie.Else1 → tie.After-test-block
 tested c = c .before .before
+
+-- the speeds of 01's table, as they are handed over
+abbrev table : tie.After-test-block → List ℕ
+table c = loaded (made c .base .result) 8
 
 abbrev sound : tie.After-ready → tie.Else1
 sound c = c .before .before .before .before
@@ -28,13 +40,22 @@ state c = start (tested c) .args .state .now
 abbrev buffer : tie.After-ready → List ℕ
 buffer c = start (tested (sound c)) .args .buffer .now
 
-good : (c : tie.Else1) → Good (state c) (tested c .test-block .result .keys) (tested c .test-block .result .nominal)
+-- what is shown over them is shown over 01's
+over-base :
+    (c : tie.After-test-block) {r : Written} {m : List ℕ} →
+    LeftByShow (table c) (start c .args .state .now) (start c .args .buffer .now) r m →
+    LeftByShow baseSpeeds (start c .args .state .now) (start c .args .buffer .now) r m
+over-base c {r} {m} l =
+    subst (λ (s : List ℕ). LeftByShow s (start c .args .state .now) (start c .args .buffer .now) r m) (loaded-base (made c .base .ensures .0)) l
+
+good : (c : tie.Else1) → Good (table (tested c)) (state c) (tested c .test-block .result .keys) (tested c .test-block .result .nominal)
 good c =
-    tested-good (state c) (tested c .test-block .result) (tested c .test-block .ensures) (not-false (tested c .test-block .result .sound) (c .if1 .left))
+    tested-good (table (tested c)) (state c) (tested c .test-block .result) (tested c .test-block .ensures) (made (tested c) .base .ensures .1 .rising)
+    (not-false (tested c .test-block .result .sound) (c .if1 .left))
 
 showing :
     (c : tie.After-ready) →
-    Showing (state (sound c)) (tested (sound c) .test-block .result .keys) (tested (sound c) .test-block .result .nominal)
+    Showing (table (tested (sound c))) (state (sound c)) (tested (sound c) .test-block .result .keys) (tested (sound c) .test-block .result .nominal)
     (c .before .count-at .result) (c .ready .result)
 showing c =
     let counted = c .before .count-at .ensures in
@@ -44,14 +65,18 @@ showing c =
       listed = record { few = omega (arith, counted, good (sound c) .holds .few); is = c .ready .ensures };
     }
 
+base-requires : tie.Need-base-requires
+base-requires c κs = search needs
+
 test-block-requires : tie.Need-test-block-requires
-test-block-requires c κs = search needs
+test-block-requires c κs = c .before .base .ensures .1
 
 returns : tie.Need-returns
 returns c =
     let t : tie.After-test-block = c .before .before in
-    show-unsound (start t .args .state .now) (start t .args .buffer .now) (t .test-block .result) (t .test-block .ensures)
-    (not-true (t .test-block .result .sound) (c .if1 .taken))
+    over-base t
+    (show-unsound (table t) (start t .args .state .now) (start t .args .buffer .now) (t .test-block .result) (t .test-block .ensures)
+    (not-true (t .test-block .result .sound) (c .if1 .taken)))
 
 count-at-requires : tie.Need-count-at-requires
 count-at-requires c κs = good (c .before .before) .holds
@@ -65,7 +90,9 @@ mul-wanted : tie.Need-mul-wanted
 mul-wanted c = omega (arith, listed-few (showing (c .before) .listed))
 
 returns-2 : tie.Need-returns-2
-returns-2 c = show-short (showing (c .before .before)) (buffer (c .before .before)) (omega arith)
+returns-2 c =
+    let r : tie.After-ready = c .before .before in
+    over-base (tested (sound r)) (show-short (showing r) (buffer r) (omega arith))
 
 put-queue-requires : tie.Need-put-queue-requires
 put-queue-requires c κs =
@@ -79,12 +106,14 @@ returns-3 : tie.Need-returns-3
 returns-3 c =
     let p : tie.After-put-queue = c .before .before in
     let e : tie.Else2 = p .before .before in
-    show-stored (showing (e .before .before)) (buffer (e .before .before)) (e .if2 .left) (p .put-queue .ensures)
+    let r : tie.After-ready = e .before .before in
+    over-base (tested (sound r)) (show-stored (showing r) (buffer r) (e .if2 .left) (p .put-queue .ensures))
 
 pub show-spec : {M : Type 1} → statement M
 show-spec =
     tie.close
     (tie.spec
+    base-requires
     test-block-requires
     returns
     count-at-requires
