@@ -2,60 +2,72 @@
 -- Assumes nothing.
 use Prim.Native.Nat.{ℕ, zero, suc, _+_, _<_, _≤_}
 use mathlib.Core.Path.{_≡_, refl, sym, subst, ap, ap₂, _∙_}
-use mathlib.Core.Bool.{Bool}
+use mathlib.Core.Bool.{Bool, true}
 use mathlib.Core.List.{List, [], _∷_, _++_, map}
 use native.Mathlib.Omega.{arith}
 use borrow.Author.Tests.{le-leb, lt-leb}
 use lib.ListN.{length, getD, drop, replicate}
 use lib.Seq.{sets, getD-take}
-use Rattle.arith.specs.Choice.{pick}
-use Rattle.arith.specs.Need.{need}
+use Rattle.arith.specs.Choice.{pick, every}
 use Rattle.plan.specs.declared.Task.{Task}
+use Rattle.plan.specs.declared.Rest.{Rest}
 use Rattle.plan.specs.declared.Plan.{Plan}
 use Rattle.plan.specs.declared.Judged.{Judged}
 use Rattle.plan.specs.declared.Verdict.the-variants as verdict
-use Rattle.plan.specs.Levels.{baseSpeeds, speedOf, nominal}
+use Rattle.plan.specs.Times.{whole, timeOf, taskTime}
+use Rattle.plan.specs.Levels.{Rising, speedOf, nominal}
 use Rattle.plan.specs.Blocks.{noTask, tasksOf, tasksIn, planOf}
-use Rattle.plan.specs.Questions.{judging, reading, roomQuestion}
+use Rattle.plan.specs.Questions.{inRange, judging, reading, roomQuestion}
 use Rattle.arith.specs.Asking.{firstNo}
 use Rattle.plan.specs.Answers.{roomNumber, answered, beside, readBlock, storedBy}
-use Rattle.plan.proofs.Facts.{FineList, fine-list}
-use Rattle.plan.proofs.LevelLaws.{baseRising}
+use Rattle.plan.proofs.Facts.{InRange, range-at, FineList, fine-list, length-tasksOf}
 use Rattle.plan.proofs.RoundTrip.{tasksOf-planOf, read-judged}
-use Rattle.admission.proofs.Admissions.{Held, count-is}
 use Rattle.plan.proofs.AnswerLaws.{told-refused, told-admitted}
 use Rattle.arith.proofs.QuestionLaws.{no-before, yes-before}
 use Rattle.schedule.specs.PlainSchedule.{Timing}
 use Rattle.reclaiming.specs.declared.Entry.{Entry}
 use Rattle.reclaiming.specs.declared.Reply.{Reply}
 use Rattle.reclaiming.specs.declared.Reply.the-variants as reply
-use Rattle.reclaiming.specs.StateBlock.{State, noEntry, workOf, remainingOf, taskOf, timingAt, timing, planIn, taskField, countField, stateLength, stateCount, encode, decode, places}
+use Rattle.reclaiming.specs.StateBlock.{State, noEntry, remainingOf, restIn, restOf, taskOf, entryWith, timingAt, timing, planIn, taskField, countField, stateLength, stateCount, encode, decode, places}
 use Rattle.reclaiming.specs.Orders.{chooseOrder, holdOf, orderWith}
 use Rattle.reclaiming.specs.Passes.{newEntry, startState}
-use Rattle.reclaiming.specs.Calls.{repliedBy, startNumber, startOrder}
+use Rattle.reclaiming.specs.Calls.{repliedBy, startNumber, startOrder, startReply, startBuffer}
 use Rattle.state.specs.Code.{Holds, entryAt, entryIn, headStored, entryNumbers, timingIn}
 use Rattle.urgency.specs.Code.{latestKey, keysIn, Keyed}
 use Rattle.arith.proofs.ArrayLaws.{value-at}
-use Rattle.orders.specs.Code.{Enough}
+use Rattle.orders.specs.Code.{chosenIn, chosenReply, Enough}
 use Rattle.starting.specs.Code.{newState}
 use Rattle.reclaiming.proofs.Fine.{Fine, nominalSpeed}
 use Rattle.reclaiming.proofs.Plans.{task-range}
 use Rattle.reclaiming.proofs.StateCodec.{Storable, StorableEntry, length-encode, decode-encode}
 use Rattle.reclaiming.proofs.Soundness.{fine-storable}
 use Rattle.arith.proofs.RangeLaws.{length-listTo, getD-listTo}
-use Rattle.reclaiming.proofs.PassedStates.{choose-entries}
+use Rattle.reclaiming.proofs.PassedStates.{choose-clock, choose-entries}
 use Rattle.reclaiming.proofs.PassSound.{start-fine}
 use Rattle.state.proofs.BlockLaws.{storedTo, stored-size, stored-more, stored-all, count-in, entry-at}
-use Rattle.admission.proofs.LevelSpeeds.{speed-positive}
+
+-- a plan as the code holds it, its tasks in range
+pub record Listed (p : Plan) : Type 0 where
+  pub places : length (p .tasks) ≡ 16
+  pub most : p .count ≤ 16
+  pub ranges : every inRange (tasksOf p) ≡ true
+
+module _ {p : Plan} (plan : Listed p) where
+  pub count-is : length (tasksOf p) ≡ p .count
+  count-is = length-tasksOf p (plan .places) (plan .most)
+
+  pub task-at : (i : ℕ) → i < p .count → InRange (getD (p .tasks) i noTask)
+  task-at i h =
+      subst InRange (getD-take (p .count) (p .tasks) i noTask h) (range-at (tasksOf p) i (plan .ranges) (omega (arith, count-is)))
 
 -- an image on its way: its first i entries are stored
 pub record Making (speed : ℕ) (p : Plan) (image : List ℕ) (i : ℕ) : Type 0 where
-  pub plan : Held p
+  pub plan : Listed p
   pub below : i ≤ p .count
   pub size : length image ≡ stateLength
   pub bytes : image ≡ storedTo (newState speed (tasksOf p)) i
 
-module _ (speed : ℕ) {p : Plan} (plan : Held p) where
+module _ (speed : ℕ) {p : Plan} (plan : Listed p) where
   abbrev made : List Entry
   made = newState speed (tasksOf p) .entries
 
@@ -75,30 +87,22 @@ module _ (speed : ℕ) {p : Plan} (plan : Held p) where
       making 0 image (omega arith)
       (e ∙ ap (λ (n : ℕ). headStored (headStored (replicate stateLength 0) taskField 255) countField n) (sym made-are))
 
--- the entry that the code stores for task i
-abbrev entryMade : Plan → ℕ → ℕ → Entry
-entryMade p i ticks = record {
-  period = getD (p .tasks) i noTask .period;
-  worst = getD (p .tasks) i noTask .worst;
-  work = getD (p .tasks) i noTask .worst;
-  remaining = ticks;
-}
-
 module _ {speed : ℕ} {p : Plan} {image : List ℕ} {i : ℕ} (so-far : Making speed p image i) where
   pub making-more :
-      {ticks : ℕ} {m : List ℕ} →
+      {rest : Rest} {ticks : ℕ} {m : List ℕ} →
       i < p .count →
-      ticks ≡ need speed (getD (p .tasks) i noTask .worst) →
-      m ≡ sets image (entryAt i) (entryNumbers (entryMade p i ticks)) →
+      rest ≡ whole (getD (p .tasks) i noTask) →
+      ticks ≡ taskTime speed (getD (p .tasks) i noTask) →
+      m ≡ sets image (entryAt i) (entryNumbers (entryWith (getD (p .tasks) i noTask) rest ticks)) →
       Making speed p m (i + 1)
-  making-more {ticks} {m} h e s =
+  making-more {rest} {ticks} {m} h full e s =
       let ts : List Task = tasksOf p in
       let es : List Entry = made speed (so-far .plan) in
       let f : ℕ → Entry = newEntry (timingAt speed ts) ts in
       let same : getD (p .tasks) i noTask ≡ getD ts i noTask = sym (getD-take (p .count) (p .tasks) i noTask h) in
-      let ticks-is : ticks ≡ need speed (getD ts i noTask .worst) = e ∙ ap (λ (t : Task). need speed (t .worst)) same in
-      let new : entryMade p i ticks ≡ f i =
-      λ j. record { period = same j .period; worst = same j .worst; work = same j .worst; remaining = ticks-is j } in
+      let rest-is : rest ≡ whole (getD ts i noTask) = full ∙ ap whole same in
+      let ticks-is : ticks ≡ taskTime speed (getD ts i noTask) = e ∙ ap (taskTime speed) same in
+      let new : entryWith (getD (p .tasks) i noTask) rest ticks ≡ f i = λ j. entryWith (same j) (rest-is j) (ticks-is j) in
       let at : f i ≡ getD es i noEntry = sym (getD-listTo (length ts) f i noEntry (omega (arith, count-is (so-far .plan)))) in
       making speed (so-far .plan) (i + 1) m (omega arith)
       (stored-more (newState speed ts) i image m (omega (arith, so-far .plan .most)) (omega (arith, made-are speed (so-far .plan))) (so-far .bytes)
@@ -108,84 +112,97 @@ module _ {speed : ℕ} {p : Plan} {image : List ℕ} {i : ℕ} (so-far : Making 
   making-all h =
       so-far .bytes ∙ stored-all (newState speed (tasksOf p)) i (omega (arith, made-are speed (so-far .plan), so-far .below))
 
--- an accepted plan with its nominal level
-pub record Planned (p : Plan) (level : ℕ) : Type 0 where
-  pub plan : Held p
-  pub good : FineList baseSpeeds (length (tasksOf p)) (tasksOf p)
-  pub level-is : level ≡ nominal baseSpeeds (tasksOf p)
+-- a plan that was accepted over a table of speeds, with its nominal level
+pub record Planned (speeds : List ℕ) (p : Plan) (level : ℕ) : Type 0 where
+  pub plan : Listed p
+  pub good : FineList speeds (length (tasksOf p)) (tasksOf p)
+  pub level-is : level ≡ nominal speeds (tasksOf p)
 
 pub planned :
-    (p : Plan) (level : ℕ) →
+    (speeds : List ℕ) (p : Plan) (level : ℕ) →
     length (p .tasks) ≡ 16 →
-    firstNo (judging baseSpeeds (p .count) (tasksOf p)) ≡ 0 →
-    level ≡ nominal baseSpeeds (tasksOf p) →
-    Planned p level
-planned p level size ok e =
-    let f : FineList baseSpeeds (p .count) (tasksOf p) = fine-list baseSpeeds (p .count) (tasksOf p) ok in
-    let h : Held p = record { places = size; most = f .count-high } in
-    record { plan = h; good = subst (λ (n : ℕ). FineList baseSpeeds n (tasksOf p)) (sym (count-is h)) f; level-is = e }
+    firstNo (judging speeds (p .count) (tasksOf p)) ≡ 0 →
+    level ≡ nominal speeds (tasksOf p) →
+    Planned speeds p level
+planned speeds p level size ok e =
+    let f : FineList speeds (p .count) (tasksOf p) = fine-list speeds (p .count) (tasksOf p) ok in
+    let l : Listed p = record { places = size; most = f .count-high; ranges = f .tasks .ranges } in
+    record { plan = l; good = subst (λ (n : ℕ). FineList speeds n (tasksOf p)) (sym (count-is l)) f; level-is = e }
 
-module _ {p : Plan} {level : ℕ} (k : Planned p level) where
-  pub level-below : level < 8
-  level-below = omega (arith, k .level-is, k .good .tasks .admitted)
-
-  pub speed-some : {speed : ℕ} → speed ≡ speedOf baseSpeeds level → 0 < speed
-  speed-some {speed} s = speed-positive level speed level-below s
+pub level-below : {speeds : List ℕ} {p : Plan} {level : ℕ} → Planned speeds p level → level < length speeds
+level-below k = omega (arith, k .level-is, k .good .tasks .admitted)
 
 -- what starting a plan leaves, by the number of its questions: a reply, and the bytes of the state
-abbrev LeftBy : ℕ → List Task → List ℕ → Reply → List ℕ → Type 0
-LeftBy number ts buffer r m =
-    (r ≡ repliedBy number (startOrder baseSpeeds (startState baseSpeeds ts)))
-    × (m ≡ storedBy number (encode (startState baseSpeeds ts)) buffer)
+abbrev LeftBy : List ℕ → ℕ → List Task → List ℕ → Reply → List ℕ → Type 0
+LeftBy speeds number ts buffer r m =
+    (r ≡ repliedBy number (startOrder speeds (startState speeds ts)))
+    × (m ≡ storedBy number (encode (startState speeds ts)) buffer)
 
-left-refused : (number n : ℕ) (ts : List Task) (buffer : List ℕ) → 0 < n → number ≡ n → LeftBy number ts buffer (reply.Refused n) buffer
-left-refused number zero ts buffer h e = absurd (omega arith)
-left-refused number (suc n) ts buffer h e = (
-  sym (ap (λ (k : ℕ). repliedBy k (startOrder baseSpeeds (startState baseSpeeds ts))) e),
-  sym (ap (λ (k : ℕ). storedBy k (encode (startState baseSpeeds ts)) buffer) e),
-)
+module _ (speeds : List ℕ) where
+  left-refused :
+      (number n : ℕ) (ts : List Task) (buffer : List ℕ) →
+      0 < n →
+      number ≡ n →
+      LeftBy speeds number ts buffer (reply.Refused n) buffer
+  left-refused number zero ts buffer h e = absurd (omega arith)
+  left-refused number (suc n) ts buffer h e = (
+    sym (ap (λ (k : ℕ). repliedBy k (startOrder speeds (startState speeds ts))) e),
+    sym (ap (λ (k : ℕ). storedBy k (encode (startState speeds ts)) buffer) e),
+  )
 
-pub left-short : (ts : List Task) (buffer : List ℕ) → length buffer < stateLength → LeftBy (roomNumber stateLength (length buffer)) ts buffer (reply.Refused 9) buffer
-left-short ts buffer h =
-    left-refused (roomNumber stateLength (length buffer)) 9 ts buffer (omega arith) (ap (λ (b : Bool). pick {A = ℕ} b 0 9) (lt-leb stateLength (length buffer) h))
+  pub left-short :
+      (ts : List Task) (buffer : List ℕ) →
+      length buffer < stateLength →
+      LeftBy speeds (roomNumber stateLength (length buffer)) ts buffer (reply.Refused 9) buffer
+  left-short ts buffer h =
+      left-refused (roomNumber stateLength (length buffer)) 9 ts buffer (omega arith) (ap (λ (b : Bool). pick {A = ℕ} b 0 9) (lt-leb stateLength (length buffer) h))
 
--- the image of a new state of an accepted plan, at its nominal speed
-pub record Newly (ts : List Task) (image : List ℕ) : Type 0 where
-  pub good : FineList baseSpeeds (length ts) ts
-  pub bytes : image ≡ encode (newState (nominalSpeed baseSpeeds ts) ts)
+-- the image of a new state of an accepted plan, at its nominal speed, over a rising table of speeds
+pub record Newly (speeds : List ℕ) (ts : List Task) (image : List ℕ) : Type 0 where
+  pub rising : Rising speeds
+  pub few : length speeds ≤ 256
+  pub good : FineList speeds (length ts) ts
+  pub bytes : image ≡ encode (newState (nominalSpeed speeds ts) ts)
 
 pub newly :
-    {p : Plan} {level speed : ℕ} {image : List ℕ} →
-    Planned p level →
-    speed ≡ speedOf baseSpeeds level →
+    {speeds : List ℕ} {p : Plan} {level speed : ℕ} {image : List ℕ} →
+    Rising speeds →
+    length speeds ≤ 256 →
+    Planned speeds p level →
+    speed ≡ speedOf speeds level →
     image ≡ encode (newState speed (tasksOf p)) →
-    Newly (tasksOf p) image
-newly {p} k s e = record {
+    Newly speeds (tasksOf p) image
+newly {speeds} {p} rising few k s e = record {
+  rising = rising;
+  few = few;
   good = k .good;
-  bytes = e ∙ ap (λ (x : ℕ). encode (newState x (tasksOf p))) (s ∙ ap (speedOf baseSpeeds) (k .level-is));
+  bytes = e ∙ ap (λ (x : ℕ). encode (newState x (tasksOf p))) (s ∙ ap (speedOf speeds) (k .level-is));
 }
 
-module _ {ts : List Task} {image : List ℕ} (new : Newly ts image) where
+module _ {speeds : List ℕ} {ts : List Task} {image : List ℕ} (new : Newly speeds ts image) where
   abbrev speed : ℕ
-  speed = nominalSpeed baseSpeeds ts
+  speed = nominalSpeed speeds ts
 
   abbrev τ : Timing
-  τ = timing baseSpeeds ts
+  τ = timing speeds ts
 
   abbrev N : State
   N = newState speed ts
 
   abbrev S : State
-  S = startState baseSpeeds ts
+  S = startState speeds ts
 
-  fine : Fine baseSpeeds ts S
-  fine = start-fine baseSpeeds ts (new .good) baseRising
+  fine : Fine speeds ts S
+  fine = start-fine speeds ts (new .good) (new .rising)
+
+  start-clock : S .clock ≡ 0
+  start-clock = choose-clock speeds τ N
 
   start-storable : Storable S
-  start-storable = fine-storable baseSpeeds ts S (new .good) baseRising (omega arith) fine
+  start-storable = fine-storable speeds ts S (new .good) (new .rising) (new .few) fine (omega (arith, start-clock))
 
   entries-are : S .entries ≡ N .entries
-  entries-are = choose-entries baseSpeeds τ N
+  entries-are = choose-entries speeds τ N
 
   new-length : length (N .entries) ≡ length ts
   new-length = length-listTo (length ts) (newEntry τ ts)
@@ -215,10 +232,10 @@ module _ {ts : List Task} {image : List ℕ} (new : Newly ts image) where
   new-holds : Holds image
   new-holds = record { size = new-size; few = omega (arith, new-tasks, new .good .count-high) }
 
-  new-timing : timingIn image ≡ τ
+  new-timing : timingIn speeds image ≡ τ
   new-timing =
-      ap (λ (s : State). timing baseSpeeds (planIn s)) new-read
-      ∙ ap (timing baseSpeeds) (sym (ap (λ (es : List Entry). map taskOf es) entries-are) ∙ fine .entries .plan)
+      ap (λ (s : State). timing speeds (planIn s)) new-read
+      ∙ ap (timing speeds) (sym (ap (λ (es : List Entry). map taskOf es) entries-are) ∙ fine .entries .plan)
 
   module _ (i : ℕ) (h : i < length ts) where
     new-at : getD (decode image .entries) i noEntry ≡ newEntry τ ts i
@@ -229,17 +246,17 @@ module _ {ts : List Task} {image : List ℕ} (new : Newly ts image) where
 
   pub new-periods : (i : ℕ) → i < length ts → 1 ≤ entryIn image i .period
   new-periods i h =
-      subst (λ (e : Entry). 1 ≤ e .period) (sym (new-in i h)) (task-range baseSpeeds ts (new .good) baseRising i h .period-low)
+      subst (λ (e : Entry). 1 ≤ e .period) (sym (new-in i h)) (task-range speeds ts (new .good) (new .rising) i h .period-low)
 
   -- at the nominal level every job can be done in its ticks
-  new-enough : (highest : ℕ) → highest ≡ nominal baseSpeeds ts → Enough (decode image) highest
+  new-enough : (highest : ℕ) → highest ≡ nominal speeds ts → Enough speeds (decode image) highest
   new-enough highest e =
       let same : S .entries ≡ decode image .entries = entries-are ∙ sym (ap (λ (s : State). s .entries) new-read) in
       record {
         level = omega (arith, new .good .tasks .admitted);
         each = λ i h.
-            subst (λ (es : List Entry). need (speedOf baseSpeeds highest) (getD es i noEntry .work) ≤ getD es i noEntry .remaining) same
-            (subst (λ (level : ℕ). need (speedOf baseSpeeds level) (workOf S i) ≤ remainingOf S i) (sym e)
+            subst (λ (es : List Entry). timeOf (speedOf speeds highest) (restIn (getD es i noEntry)) ≤ getD es i noEntry .remaining) same
+            (subst (λ (level : ℕ). timeOf (speedOf speeds level) (restOf S i) ≤ remainingOf S i) (sym e)
             (fine .entries .ahead i (omega (arith, count-in image, new-tasks))));
       }
 
@@ -248,8 +265,8 @@ module _ {ts : List Task} {image : List ℕ} (new : Newly ts image) where
     keyed : Keyed τ 0 keys
     keyed = record {
       few = new .good .count-high;
-      low = λ i h. task-range baseSpeeds ts (new .good) baseRising i h .period-low;
-      high = λ i h. task-range baseSpeeds ts (new .good) baseRising i h .period-high;
+      low = λ i h. task-range speeds ts (new .good) (new .rising) i h .period-low;
+      high = λ i h. task-range speeds ts (new .good) (new .rising) i h .period-high;
       in-range = omega arith;
       each = λ i h.
           ap (λ (l : List ℕ). getD l i 0) found
@@ -257,67 +274,68 @@ module _ {ts : List Task} {image : List ℕ} (new : Newly ts image) where
           ∙ ap (λ (e : Entry). latestKey 0 (e .period) i) (new-in i h);
     }
 
-    new-keyed : Keyed (timingIn image) (decode image .clock) keys
+    new-keyed : Keyed (timingIn speeds image) (decode image .clock) keys
     new-keyed =
         subst (λ (x : Timing). Keyed x (decode image .clock) keys) (sym new-timing)
         (subst (λ (t : ℕ). Keyed τ t keys) (sym (ap (λ (s : State). s .clock) new-read)) keyed)
 
     pub new-ready :
         (highest : ℕ) →
-        highest ≡ nominal baseSpeeds ts →
-        (Holds image × (1 ≤ stateCount image) × (encode (decode image) ≡ image) × Enough (decode image) highest)
-        × Keyed (timingIn image) (decode image .clock) keys
-    new-ready highest e = ((new-holds, omega (arith, new-tasks, new .good .count-low), new-back, new-enough highest e), new-keyed)
+        highest ≡ nominal speeds ts →
+        (Holds image × (1 ≤ stateCount image) × (encode (decode image) ≡ image))
+        × (Enough speeds (decode image) highest × Keyed (timingIn speeds image) (decode image .clock) keys)
+    new-ready highest e = ((new-holds, omega (arith, new-tasks, new .good .count-low), new-back), (new-enough highest e, new-keyed))
 
   -- the order that is chosen in it is that of the start
-  abbrev chosen : State
-  chosen = chooseOrder baseSpeeds (timingIn image) (decode image)
-
-  chosen-is : chosen ≡ S
-  chosen-is = ap₂ (λ (x : Timing) (s : State). chooseOrder baseSpeeds x s) new-timing new-read
+  chosen-is : chosenIn speeds image ≡ S
+  chosen-is = ap₂ (λ (x : Timing) (s : State). chooseOrder speeds x s) new-timing new-read
 
   -- its reply, and its bytes where there is room for them
   pub new-left :
       (buffer : List ℕ) {l m : List ℕ} {r : Reply} →
       stateLength ≤ length buffer →
-      r ≡ orderWith chosen (holdOf baseSpeeds (timingIn image) chosen) →
-      l ≡ encode chosen →
+      r ≡ chosenReply speeds image →
+      l ≡ encode (chosenIn speeds image) →
       m ≡ l ++ drop stateLength buffer →
-      LeftBy (roomNumber stateLength (length buffer)) ts buffer r m
+      LeftBy speeds (roomNumber stateLength (length buffer)) ts buffer r m
   new-left buffer {l} {m} {r} h a b e =
       let zero-is : 0 ≡ roomNumber stateLength (length buffer) = sym (ap (λ (t : Bool). pick {A = ℕ} t 0 9) (le-leb stateLength (length buffer) h)) in
-      let order : r ≡ startOrder baseSpeeds S =
+      let order : r ≡ startOrder speeds S =
       a
-      ∙ ap₂ (λ (x : Timing) (s : State). orderWith s (holdOf baseSpeeds x s)) new-timing chosen-is
-      ∙ sym (ap (λ (us : List Task). orderWith S (holdOf baseSpeeds (timing baseSpeeds us) S)) (fine .entries .plan)) in
+      ∙ ap₂ (λ (x : Timing) (s : State). orderWith s (holdOf speeds x s)) new-timing chosen-is
+      ∙ sym (ap (λ (us : List Task). orderWith S (holdOf speeds (timing speeds us) S)) (fine .entries .plan)) in
       let stored : m ≡ storedBy 0 (encode S) buffer =
       e
       ∙ ap (λ (x : List ℕ). x ++ drop stateLength buffer) (b ∙ ap encode chosen-is)
       ∙ ap (λ (n : ℕ). encode S ++ drop n buffer) (sym (length-encode S (start-storable .count))) in
-      subst (λ (n : ℕ). LeftBy n ts buffer r m) zero-is (order, stored)
+      subst (λ (n : ℕ). LeftBy speeds n ts buffer r m) zero-is (order, stored)
 
--- starting, by what reading the block answers
+-- what starting a block leaves: a reply, and the bytes of the state
+abbrev pub Left : List ℕ → List ℕ → List ℕ → Reply → List ℕ → Type 0
+Left speeds block buffer r m = (r ≡ startReply speeds block (length buffer)) × (m ≡ startBuffer speeds block buffer)
+
+-- by what reading the block answers
 pub start-unread :
-    (block buffer : List ℕ) {j : Judged} {n : ℕ} →
-    j ≡ readBlock baseSpeeds block →
+    (speeds block buffer : List ℕ) {j : Judged} {n : ℕ} →
+    j ≡ readBlock speeds block →
     j .verdict ≡ verdict.Refused n →
-    LeftBy (startNumber baseSpeeds block (length buffer)) (tasksIn block) buffer (reply.Refused n) buffer
-start-unread block buffer {j} {n} read told =
-    let t : (0 < n) × (firstNo (reading baseSpeeds block) ≡ n) =
-    told-refused baseSpeeds (tasksIn block) (j .verdict) (firstNo (reading baseSpeeds block)) n (ap (λ (x : Judged). x .verdict) read) told in
-    left-refused (startNumber baseSpeeds block (length buffer)) n (tasksIn block) buffer (t .0)
-    (no-before (reading baseSpeeds block) (roomQuestion stateLength (length buffer) ∷ []) n (t .0) (t .1))
+    Left speeds block buffer (reply.Refused n) buffer
+start-unread speeds block buffer {j} {n} read told =
+    let t : (0 < n) × (firstNo (reading speeds block) ≡ n) =
+    told-refused speeds (tasksIn block) (j .verdict) (firstNo (reading speeds block)) n (ap (λ (x : Judged). x .verdict) read) told in
+    left-refused speeds (startNumber speeds block (length buffer)) n (tasksIn block) buffer (t .0)
+    (no-before (reading speeds block) (roomQuestion stateLength (length buffer) ∷ []) n (t .0) (t .1))
 
-pub record Admitted (block : List ℕ) (j : Judged) (level span : ℕ) : Type 0 where
-  pub read : j ≡ readBlock baseSpeeds block
+pub record Admitted (speeds block : List ℕ) (j : Judged) (level span : ℕ) : Type 0 where
+  pub read : j ≡ readBlock speeds block
   pub told : j .verdict ≡ verdict.Admitted level span
 
-module _ {block : List ℕ} {j : Judged} {level span : ℕ} (k : Admitted block j level span) where
-  verdict-is : j .verdict ≡ answered (firstNo (reading baseSpeeds block)) baseSpeeds (tasksIn block)
+module _ {speeds block : List ℕ} {j : Judged} {level span : ℕ} (k : Admitted speeds block j level span) where
+  verdict-is : j .verdict ≡ answered (firstNo (reading speeds block)) speeds (tasksIn block)
   verdict-is = ap (λ (x : Judged). x .verdict) (k .read)
 
-  accepted : firstNo (reading baseSpeeds block) ≡ 0
-  accepted = told-admitted baseSpeeds (tasksIn block) (j .verdict) (firstNo (reading baseSpeeds block)) level span verdict-is (k .told)
+  accepted : firstNo (reading speeds block) ≡ 0
+  accepted = told-admitted speeds (tasksIn block) (j .verdict) (firstNo (reading speeds block)) level span verdict-is (k .told)
 
   plan-is : j .plan ≡ planOf (tasksIn block)
   plan-is = ap (λ (x : Judged). x .plan) (k .read) ∙ ap (λ (n : ℕ). beside n (tasksIn block)) accepted
@@ -325,23 +343,23 @@ module _ {block : List ℕ} {j : Judged} {level span : ℕ} (k : Admitted block 
   tasks-are : tasksOf (j .plan) ≡ tasksIn block
   tasks-are = ap tasksOf plan-is ∙ tasksOf-planOf (tasksIn block)
 
-  level-is : level ≡ nominal baseSpeeds (tasksIn block)
+  level-is : level ≡ nominal speeds (tasksIn block)
   level-is =
-      let v : verdict.Admitted level span ≡ answered 0 baseSpeeds (tasksIn block) =
-      sym (k .told) ∙ verdict-is ∙ ap (λ (n : ℕ). answered n baseSpeeds (tasksIn block)) accepted in
+      let v : verdict.Admitted level span ≡ answered 0 speeds (tasksIn block) =
+      sym (k .told) ∙ verdict-is ∙ ap (λ (n : ℕ). answered n speeds (tasksIn block)) accepted in
       cc
 
-  pub start-read : (firstNo (judging baseSpeeds (j .plan .count) (tasksOf (j .plan))) ≡ 0) × (level ≡ nominal baseSpeeds (tasksOf (j .plan)))
+  pub start-read : (firstNo (judging speeds (j .plan .count) (tasksOf (j .plan))) ≡ 0) × (level ≡ nominal speeds (tasksOf (j .plan)))
   start-read = (
-    read-judged baseSpeeds block (j .plan) accepted plan-is,
-    level-is ∙ sym (ap (nominal baseSpeeds) tasks-are),
+    read-judged speeds block (j .plan) accepted plan-is,
+    level-is ∙ sym (ap (nominal speeds) tasks-are),
   )
 
   pub start-left :
       (buffer : List ℕ) {r : Reply} {m : List ℕ} →
-      LeftBy (roomNumber stateLength (length buffer)) (tasksOf (j .plan)) buffer r m →
-      LeftBy (startNumber baseSpeeds block (length buffer)) (tasksIn block) buffer r m
+      LeftBy speeds (roomNumber stateLength (length buffer)) (tasksOf (j .plan)) buffer r m →
+      Left speeds block buffer r m
   start-left buffer {r} {m} h =
-      subst (λ (n : ℕ). LeftBy n (tasksIn block) buffer r m)
-      (sym (yes-before (reading baseSpeeds block) (roomQuestion stateLength (length buffer) ∷ []) refl accepted))
-      (subst (λ (ts : List Task). LeftBy (roomNumber stateLength (length buffer)) ts buffer r m) tasks-are h)
+      subst (λ (n : ℕ). LeftBy speeds n (tasksIn block) buffer r m)
+      (sym (yes-before (reading speeds block) (roomQuestion stateLength (length buffer) ∷ []) refl accepted))
+      (subst (λ (ts : List Task). LeftBy speeds (roomNumber stateLength (length buffer)) ts buffer r m) tasks-are h)

@@ -6,7 +6,7 @@ use native.Mathlib.Omega.{arith}
 use borrow.Author.Needs.{needs}
 use lib.ListN.{length}
 use Rattle.arith.proofs.Loops.{length-mapped}
-use Rattle.starting.proofs.StartLaws.{Making, making-none, making-more, making-all}
+use Rattle.starting.proofs.StartLaws.{Making, task-at, making-none, making-more, making-all}
 use Rattle.starting.proofs.fresh.Statement.{statement}
 use Rattle.starting.proofs.fresh.Tie as tie
 
@@ -25,7 +25,7 @@ blank-requires c κs = c .pre .0
 loop-holds : tie.Need-loop-holds Inv-loop μ-loop
 loop-holds c =
     let s : tie.Start Inv-loop μ-loop = c .before in
-    making-none (s .args .speed) (record { places = size s; most = s .pre .0 }) (c .blank .ensures)
+    making-none (s .args .speed) (record { places = size s; most = s .pre .0; ranges = s .pre .1 }) (c .blank .ensures)
 
 mul-t : tie.Need-mul-t Inv-loop μ-loop
 mul-t c = omega (arith, c .before .loop .inv .plan .most)
@@ -33,15 +33,21 @@ mul-t c = omega (arith, c .before .loop .inv .plan .most)
 element-copy-out-t : tie.Need-element-copy-out-t Inv-loop μ-loop
 element-copy-out-t c = omega (arith, c .before .loop .inv .plan .most)
 
-time-needed-requires : tie.Need-time-needed-requires Inv-loop μ-loop
-time-needed-requires c κs = search needs
+whole-of-requires : tie.Need-whole-of-requires Inv-loop μ-loop
+whole-of-requires c κs = search needs
+
+task-time-requires : tie.Need-task-time-requires Inv-loop μ-loop
+task-time-requires c κs =
+    let turn : tie.In-loop Inv-loop μ-loop = c .before .before in
+    let s : tie.Start Inv-loop μ-loop = turn .before .before .before in
+    (s .pre .2, s .pre .3, omega (arith, task-at (turn .before .loop .inv .plan) (turn .before .loop .i) (turn .loop-test .taken) .worst-high))
 
 slice-aggregate-put-entry : tie.Need-slice-aggregate-put-entry Inv-loop μ-loop
 slice-aggregate-put-entry c = search needs
 
 put-entry-requires : tie.Need-put-entry-requires Inv-loop μ-loop
 put-entry-requires c κs =
-    let turn : tie.In-loop Inv-loop μ-loop = c .before .before .before in
+    let turn : tie.In-loop Inv-loop μ-loop = c .before .before .before .before in
     (omega (arith, turn .before .loop .inv .plan .most), turn .before .loop .inv .size)
 
 add-i : tie.Need-add-i Inv-loop μ-loop
@@ -52,9 +58,10 @@ loop-less c = omega arith
 
 loop-again : tie.Need-loop-again Inv-loop μ-loop
 loop-again c =
-    let timed : tie.After-time-needed Inv-loop μ-loop = c .before .before .before in
-    let turn : tie.In-loop Inv-loop μ-loop = timed .before .before in
-    making-more (turn .before .loop .inv) (turn .loop-test .taken) (timed .time-needed .ensures) (c .before .put-entry .ensures)
+    let timed : tie.After-task-time Inv-loop μ-loop = c .before .before .before in
+    let full : tie.After-whole-of Inv-loop μ-loop = timed .before in
+    let turn : tie.In-loop Inv-loop μ-loop = full .before .before in
+    making-more (turn .before .loop .inv) (turn .loop-test .taken) (full .whole-of .ensures) (timed .task-time .ensures) (c .before .put-entry .ensures)
 
 returns : tie.Need-returns Inv-loop μ-loop
 returns c = making-all (c .before .loop .inv) (c .loop-test .left)
@@ -69,7 +76,8 @@ fresh-spec =
     loop-holds
     mul-t
     element-copy-out-t
-    time-needed-requires
+    whole-of-requires
+    task-time-requires
     slice-aggregate-put-entry
     put-entry-requires
     add-i

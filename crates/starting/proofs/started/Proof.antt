@@ -1,21 +1,32 @@
 -- `started` meets its contract: the new image, its keys, and the order chosen in it, stored.
 -- Assumes nothing.
+use Prim.Native.Nat.{ℕ, _<_}
 use mathlib.Core.Path.{_≡_, sym}
+use mathlib.Core.List.{List}
 use native.Mathlib.Omega.{arith}
 use borrow.Author.Needs.{needs}
 use lib.ListN.{length}
 use Rattle.arith.proofs.Loops.{length-mapped}
 use Rattle.plan.specs.Blocks.{tasksOf}
-use Rattle.admission.proofs.Admissions.{count-is}
-use Rattle.starting.proofs.StartLaws.{left-short, Planned, planned, level-below, speed-some, Newly, newly, new-size, new-periods, new-ready, new-left}
+use Rattle.levels.specs.Code.{loaded}
+use Rattle.levels.proofs.Tables.{levels-are, speed-is, speed-positive, speed-most}
+use Rattle.starting.proofs.StartLaws.{count-is, left-short, Planned, planned, level-below, Newly, newly, new-size, new-periods, new-ready, new-left}
 use Rattle.starting.proofs.started.Statement.{statement}
 use Rattle.starting.proofs.started.Tie as tie
+
+-- the table's speeds
+abbrev table : tie.Start → List ℕ
+table c = loaded (c .args .speeds .now) (c .args .levels)
 
 size : (c : tie.Start) → length (c .args .p .tasks) ≡ 16
 size c = search (length-mapped, needs)
 
-accepted : (c : tie.Start) → Planned (c .args .p) (c .args .highest)
-accepted c = planned (c .args .p) (c .args .highest) (size c) (c .pre .0) (c .pre .1)
+accepted : (c : tie.Start) → Planned (table c) (c .args .p) (c .args .highest)
+accepted c = planned (table c) (c .args .p) (c .args .highest) (size c) (c .pre .1 .0) (c .pre .1 .1)
+
+-- the nominal level is one of the table's
+below : (c : tie.Start) → c .args .highest < c .args .levels
+below c = omega (arith, level-below (accepted c), levels-are (c .pre .0))
 
 -- the places that others are reached from
 abbrev start : tie.After-fresh → tie.Start
@@ -25,21 +36,33 @@ abbrev fresh : tie.After-keys → tie.After-fresh
 fresh c = c .before .before .before .before
 
 -- the new image
-new : (c : tie.After-fresh) → Newly (tasksOf (start c .args .p)) (c .fresh .result)
-new c = newly (accepted (start c)) (c .before .speed-of .ensures) (c .fresh .ensures)
+new : (c : tie.After-fresh) → Newly (table (start c)) (tasksOf (start c .args .p)) (c .fresh .result)
+new c =
+    let s : tie.Start = start c in
+    newly (s .pre .0 .rising) (omega (arith, levels-are (s .pre .0), s .pre .0 .few)) (accepted s)
+    (speed-is (s .pre .0) (s .args .highest) (below s))
+    (c .fresh .ensures)
 
 returns : tie.Need-returns
 returns c =
     let s : tie.Start = c .before .before in
-    left-short (tasksOf (s .args .p)) (s .args .state .now) (c .if1 .taken)
+    left-short (table s) (tasksOf (s .args .p)) (s .args .state .now) (c .if1 .taken)
 
-speed-of-requires : tie.Need-speed-of-requires
-speed-of-requires c κs = level-below (accepted (c .before .before))
+mul-speed : tie.Need-mul-speed
+mul-speed c = omega (arith, below (c .before .before), c .before .before .pre .0 .few)
+
+element-copy-out-speed : tie.Need-element-copy-out-speed
+element-copy-out-speed c = omega (arith, below (c .before .before), c .before .before .pre .0 .few)
 
 fresh-requires : tie.Need-fresh-requires
 fresh-requires c κs =
-    let k = accepted (c .before .before .before) in
-    (k .plan .most, speed-some k (c .speed-of .ensures))
+    let s : tie.Start = c .before .before .before in
+    let k = accepted s in (
+      k .plan .most,
+      k .plan .ranges,
+      speed-positive (s .pre .0) (s .args .highest) (below s),
+      speed-most (s .pre .0) (s .args .highest) (below s),
+    )
 
 slice-aggregate-keys-of : tie.Need-slice-aggregate-keys-of
 slice-aggregate-keys-of c = search needs
@@ -57,7 +80,8 @@ slice-aggregate-choose c = search needs
 choose-requires : tie.Need-choose-requires
 choose-requires c κs =
     let s : tie.Start = start (fresh c) in
-    new-ready (new (fresh c)) (sym (count-is (accepted s .plan))) (c .before .before .keys-of .ensures) (s .args .highest) (s .pre .1)
+    let r = new-ready (new (fresh c)) (sym (count-is (accepted s .plan))) (c .before .before .keys-of .ensures) (s .args .highest) (s .pre .1 .1) in
+    ((s .pre .0, r .0 .0, r .0 .1, r .0 .2), r .1)
 
 slice-aggregate-store : tie.Need-slice-aggregate-store
 slice-aggregate-store c = search needs
@@ -80,7 +104,8 @@ started-spec =
     tie.close
     (tie.spec
     returns
-    speed-of-requires
+    mul-speed
+    element-copy-out-speed
     fresh-requires
     slice-aggregate-keys-of
     keys-of-requires
