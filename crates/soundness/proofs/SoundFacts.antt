@@ -14,9 +14,9 @@ use Rattle.plan.specs.Blocks.{noTask}
 use Rattle.arith.specs.Asking.{firstNo}
 use Rattle.plan.specs.Questions.{taskQuestions}
 use Rattle.plan.proofs.Facts.{FineList, InRange, tasks-yes}
-use Rattle.state.specs.Code.{Holds}
+use Rattle.state.specs.Code.{Holds, FitTask, FitRest}
 use Rattle.schedule.specs.PlainSchedule.{Timing}
-use Rattle.reclaiming.specs.StateBlock.{State, noEntry, taskOf, workOf, remainingOf, planIn, timing, encode, decode, laidOut, stateLength, stateCount, places}
+use Rattle.reclaiming.specs.StateBlock.{State, noEntry, taskOf, remainingOf, restOf, planIn, timing, encode, decode, laidOut, stateLength, stateCount, places}
 use Rattle.reclaiming.specs.Orders.{nextArrival}
 use Rattle.reclaiming.specs.Questions.{inTime, sound, stateSound}
 use Rattle.orders.specs.Code.{Runnable}
@@ -69,13 +69,13 @@ module _ (speeds : List ℕ) (rising : Rising speeds) (s : State) (ok : stateSou
     range-of =
         subst (λ (t : Task). InRange t) (planIn-at s i) (task-range speeds (planIn s) sound-plan rising i within-plan)
 
-    pub worst-most : getD (s .entries) i noEntry .worst ≤ 16777215
-    worst-most = omega (arith, range-of .worst-high)
+    pub task-fits : FitTask (taskOf (getD (s .entries) i noEntry))
+    task-fits = record { period = range-of .period-high; worst = omega (arith, range-of .worst-high) }
 
-    pub work-most : workOf s i ≤ 16777215
-    work-most =
+    pub rest-fits : FitRest (restOf s i)
+    rest-fits =
         let e : getD (planIn s) i noTask .worst ≡ getD (s .entries) i noEntry .worst = ap (λ (t : Task). t .worst) (planIn-at s i) in
-        omega (arith, sound-facts .entries .work i within-plan, worst-most)
+        record { work = omega (arith, sound-facts .entries .work i within-plan, task-fits .worst) }
 
     pub remaining-most : remainingOf s i ≤ 65535
     remaining-most =

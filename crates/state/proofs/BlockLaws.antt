@@ -17,12 +17,12 @@ use Rattle.arith.proofs.DigitLaws.{number-below}
 use Rattle.reclaiming.specs.declared.Entry.{Entry}
 use Rattle.plan.specs.declared.Rest.{Rest}
 use Rattle.reclaiming.specs.Fields.{valueIn, fieldsBytes, fieldAt, widthOf, offsetOf, readField}
-use Rattle.reclaiming.specs.StateBlock.{State, noEntry, workOf, remainingOf, restIn, restOf, taskOf, entryWith, headFields, clockField, taskField, levelField, countField, tailFields, places}
+use Rattle.reclaiming.specs.StateBlock.{State, noEntry, remainingOf, restIn, restOf, taskOf, entryWith, headFields, clockField, taskField, levelField, countField, tailFields, places}
 use Rattle.reclaiming.specs.StateBlock.{entryFields, periodField, worstField, workField, remainingField, pairField, headLength, entryLength, stateLength}
 use Rattle.reclaiming.specs.StateBlock.{entryBytes, entriesBytes, unusedBytes, encode, entryFrom, entriesFrom, stateCount, decode}
 use Rattle.reclaiming.specs.Orders.{withOrder}
 use Rattle.arith.specs.Ranges.{listTo}
-use Rattle.state.specs.Code.{entryAt, entryIn, fieldPlace, numberIn, entryStored, headStored, entryNumbers, changed, withJobs, withClock, restStored}
+use Rattle.state.specs.Code.{entryAt, entryIn, fieldPlace, numberIn, entryStored, headStored, entryNumbers, changed, withJobs, withClock, FitTask, FitRest, restStored}
 use Rattle.reclaiming.proofs.FieldLaws.{fieldsValues, sets-past, sets-over, length-fields, read-field, fields-same, store-field, store-next}
 use Rattle.reclaiming.proofs.StateCodec.{pastHead, pastEntries, past-head, length-entriesFrom, length-entriesBytes}
 use Rattle.arith.proofs.RangeLaws.{length-listTo, getD-listTo, listTo-same}
@@ -252,14 +252,14 @@ module _ (s : State) (i : ℕ) (h : i < length (s .entries)) where
       ∙ read-field entryFields k entry (entriesBytes (drop (suc i) (s .entries)) ++ pastEntries s) fits
 
   -- its task and what is left of its job, where their numbers fit
-  pub encode-task :
-      getD (s .entries) i noEntry .period ≤ 65535 →
-      getD (s .entries) i noEntry .worst ≤ 16777215 →
-      taskOf (entryIn (encode s) i) ≡ taskOf (getD (s .entries) i noEntry)
-  encode-task p w = λ k. record { period = encode-field periodField (omega arith) k; worst = encode-field worstField (omega arith) k }
+  pub encode-task : FitTask (taskOf (getD (s .entries) i noEntry)) → taskOf (entryIn (encode s) i) ≡ taskOf (getD (s .entries) i noEntry)
+  encode-task f = λ k. record {
+    period = encode-field periodField (omega (arith, f .period)) k;
+    worst = encode-field worstField (omega (arith, f .worst)) k;
+  }
 
-  pub encode-rest : workOf s i ≤ 16777215 → restIn (entryIn (encode s) i) ≡ restOf s i
-  encode-rest e = λ k. record { work = encode-field workField (omega arith) k }
+  pub encode-rest : FitRest (restOf s i) → restIn (entryIn (encode s) i) ≡ restOf s i
+  encode-rest f = λ k. record { work = encode-field workField (omega (arith, f .work)) k }
 
   pub encode-remaining : remainingOf s i ≤ 65535 → entryIn (encode s) i .remaining ≡ remainingOf s i
   encode-remaining e = encode-field remainingField (omega arith)
@@ -325,6 +325,9 @@ withEntry s i e = record { clock = s .clock; task = s .task; level = s .level; e
 -- a store leaves the length
 pub length-entryStored : (bytes : List ℕ) (k i x : ℕ) → length (entryStored bytes k i x) ≡ length bytes
 length-entryStored bytes k i x = length-sets bytes (fieldPlace k + entryLength * i) (digits 256 (widthOf entryFields k) x)
+
+pub length-restStored : (bytes : List ℕ) (i : ℕ) (r : Rest) → length (restStored bytes i r) ≡ length bytes
+length-restStored bytes i r = length-entryStored bytes workField i (r .work)
 
 -- a number stored in field k of entry i makes that entry another
 module _ (k v : ℕ) (f : Entry) where

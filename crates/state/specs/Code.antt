@@ -11,6 +11,7 @@ use Rattle.arith.specs.Choice.{pick, both}
 use Rattle.arith.specs.Digits.{number, digits}
 use Rattle.schedule.specs.PlainSchedule.{Timing}
 use Rattle.reclaiming.specs.declared.Entry.{Entry}
+use Rattle.plan.specs.declared.Task.{Task}
 use Rattle.plan.specs.declared.Rest.{Rest}
 use Rattle.reclaiming.specs.Fields.{Field, field, zeros, fieldsBytes, widthOf, offsetOf}
 use Rattle.reclaiming.specs.StateBlock.{State, noEntry, headFields, entryFields, workField, pairField, places, headLength, entryLength, stateLength}
@@ -79,6 +80,14 @@ withJobs s left remaining = record {
   level = s .level;
   entries = listTo (length (s .entries)) (λ i. entryWith (taskOf (getD (s .entries) i noEntry)) (left i) (remaining i));
 }
+
+-- a task, and what is left of a job, whose numbers fit their bytes
+pub record FitTask (t : Task) : Type 0 where
+  pub period : t .period ≤ 65535
+  pub worst : t .worst ≤ 16777215
+
+pub record FitRest (r : Rest) : Type 0 where
+  pub work : r .work ≤ 16777215
 
 -- a block in which something else is left of task i's job
 abbrev pub restStored : List ℕ → ℕ → Rest → List ℕ

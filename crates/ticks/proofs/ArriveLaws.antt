@@ -1,6 +1,6 @@
 -- The running job's work, and the new jobs of the tasks whose deadline is the clock, in a state's bytes and among its keys.
 -- Assumes nothing.
-use Prim.Native.Nat.{ℕ, _+_, _-_, _*_, _<_, _≤_}
+use Prim.Native.Nat.{ℕ, _+_, _<_, _≤_}
 use mathlib.Core.Path.{_≡_, refl, sym, ap, ap₂, subst, _∙_}
 use mathlib.Core.Bool.{Bool, true, false}
 use mathlib.Core.List.{List}
@@ -11,135 +11,136 @@ use lib.Dec.{ltb}
 use lib.ListN.{length, getD, set}
 use lib.Seq.{set-set}
 use Rattle.arith.specs.Choice.{pick}
-use Rattle.arith.specs.Need.{need}
-use Rattle.plan.specs.Levels.{baseSpeeds, speedOf}
+use Rattle.plan.specs.declared.Task.{Task}
+use Rattle.plan.specs.declared.Rest.{Rest}
+use Rattle.plan.specs.Times.{whole, noRest, worn, taskTime}
+use Rattle.plan.specs.Levels.{speedOf}
+use Rattle.levels.specs.Code.{loaded, Table}
+use Rattle.levels.proofs.Tables.{speed-is}
 use Rattle.orders.specs.declared.Choice.{Choice}
-use Rattle.reclaiming.specs.StateBlock.{State, noEntry, workOf, remainingOf, encode, workField, remainingField, stateLength, places}
+use Rattle.reclaiming.specs.StateBlock.{State, noEntry, remainingOf, restIn, restOf, taskOf, encode, remainingField, stateLength, places}
 use Rattle.reclaiming.specs.Passes.{workedOf}
-use Rattle.state.specs.Code.{entryIn, changed, withJobs, entryStored}
+use Rattle.state.specs.Code.{entryIn, changed, withJobs, entryStored, restStored, FitTask, FitRest}
 use Rattle.urgency.specs.Code.{keyOf, deadlineIn, dueAt}
-use Rattle.ticks.specs.Code.{arrivedState, renewedKeys}
-use Rattle.admission.proofs.LevelSpeeds.{work-short}
-use Rattle.state.proofs.BlockLaws.{changed-there, changed-else, encode-worst, encode-work, jobs-count, jobs-worst, jobs-same, jobs-eq, store-work, store-remaining, length-entryStored}
+use Rattle.ticks.specs.Code.{renewedBytes, arrivedState, renewedKeys}
+use Rattle.state.proofs.BlockLaws.{changed-there, changed-else, encode-task, encode-rest, jobs-count, jobs-task, jobs-same, jobs-eq, store-rest, store-remaining}
+use Rattle.state.proofs.BlockLaws.{length-entryStored, length-restStored}
 use Rattle.arith.proofs.ArrayLaws.{values-more}
 
 -- m is what d ticks of an order leave of a state in b
-abbrev pub Works : List ℕ → Choice → ℕ → Bool → List ℕ → Type 0
-Works b c d finished m =
+abbrev pub Works : List ℕ → List ℕ → Choice → ℕ → Bool → List ℕ → Type 0
+Works speeds b c d finished m =
     (s : State) →
     b ≡ encode s →
     c .task ≡ s .task →
     c .level ≡ s .level →
     length (s .entries) ≤ places →
-    ((s .task ≡ 255 → ⊥) → (s .task < length (s .entries)) × (workOf s (s .task) ≤ 16777215)) →
-    m ≡ encode (withJobs s (workedOf baseSpeeds s d finished) (remainingOf s))
+    ((s .task ≡ 255 → ⊥) → (s .task < length (s .entries)) × FitRest (restOf s (s .task))) →
+    m ≡ encode (withJobs s (workedOf speeds s d finished) (remainingOf s))
 
--- what the order's task has left: nothing where it finished
-abbrev leftWork : State → ℕ → Bool → ℕ → ℕ
-leftWork s d finished i = pick finished 0 (workOf s i - d * speedOf baseSpeeds (s .level))
+-- what is left of the order's job: nothing where it finished
+abbrev ran : List ℕ → State → ℕ → Bool → Rest → Rest
+ran speeds s d finished r = pick finished noRest (worn (speedOf speeds (s .level)) d r)
 
 -- no task is run
-pub worked-idle : (b : List ℕ) (c : Choice) (d : ℕ) (finished : Bool) → c .task ≡ 255 → Works b c d finished b
-worked-idle b c d finished h s e t l few runs =
+pub worked-idle : (speeds b : List ℕ) (c : Choice) (d : ℕ) (finished : Bool) → c .task ≡ 255 → Works speeds b c d finished b
+worked-idle speeds b c d finished h s e t l few runs =
     e
     ∙ ap encode
     (sym (jobs-same s)
-    ∙ jobs-eq s (workOf s) (workedOf baseSpeeds s d finished) (remainingOf s) (remainingOf s)
-    (λ i k. ap (λ (z : Bool). pick z (leftWork s d finished i) (workOf s i)) (sym (ne-eqb i (s .task) (λ q. omega arith))))
+    ∙ jobs-eq s (restOf s) (workedOf speeds s d finished) (remainingOf s) (remainingOf s)
+    (λ i k. ap (λ (z : Bool). pick z (ran speeds s d finished (restOf s i)) (restOf s i)) (sym (ne-eqb i (s .task) (λ q. omega arith))))
     (λ i k. refl))
 
 -- an order runs one of the tasks at one of the levels, for d ticks
-pub record Running (b : List ℕ) (c : Choice) (d : ℕ) (finished : Bool) : Type 0 where
+pub record Running (levels : ℕ) (b : List ℕ) (c : Choice) (d : ℕ) (finished : Bool) : Type 0 where
   pub size : length b ≡ stateLength
   pub short : d ≤ 65535
   pub some : c .task ≡ 255 → ⊥
   pub task : c .task < places
-  pub level : c .level < 8
+  pub level : c .level < levels
 
-module _ {b : List ℕ} {c : Choice} {d : ℕ} {finished : Bool} (k : Running b c d finished) where
+module _ {levels : ℕ} {b : List ℕ} {c : Choice} {d : ℕ} {finished : Bool} (k : Running levels b c d finished) (speeds : List ℕ) where
   -- what is stored is what the definition says of the running task
   worked-store :
       (s : State) →
       b ≡ encode s →
       c .task ≡ s .task →
       s .task < length (s .entries) →
-      (x : ℕ) →
-      x ≡ leftWork s d finished (c .task) →
+      (x : Rest) →
+      x ≡ ran speeds s d finished (restOf s (c .task)) →
       {m : List ℕ} →
-      m ≡ entryStored b workField (c .task) x →
-      m ≡ encode (withJobs s (workedOf baseSpeeds s d finished) (remainingOf s))
+      m ≡ restStored b (c .task) x →
+      m ≡ encode (withJobs s (workedOf speeds s d finished) (remainingOf s))
   worked-store s e t h x v w =
       w
-      ∙ ap (λ (l : List ℕ). entryStored l workField (c .task) x) (e ∙ ap encode (sym (jobs-same s)))
-      ∙ store-work s (workOf s) (remainingOf s) (c .task) x (omega arith)
+      ∙ ap (λ (l : List ℕ). restStored l (c .task) x) (e ∙ ap encode (sym (jobs-same s)))
+      ∙ store-rest s (restOf s) (remainingOf s) (c .task) (omega arith) x
       ∙ ap encode
-      (jobs-eq s (changed (workOf s) (c .task) x) (workedOf baseSpeeds s d finished) (remainingOf s) (remainingOf s)
+      (jobs-eq s (changed (restOf s) (c .task) x) (workedOf speeds s d finished) (remainingOf s) (remainingOf s)
       (λ i l. elim (ℕ-discrete i (c .task)) [
         | yes q ↦
-            changed-there (workOf s) (c .task) x i q
+            changed-there (restOf s) (c .task) x i q
             ∙ v
-            ∙ ap (leftWork s d finished) (sym q)
-            ∙ ap (λ (z : Bool). pick z (leftWork s d finished i) (workOf s i)) (sym (eq-eqb i (s .task) (q ∙ t)))
+            ∙ ap (λ (y : ℕ). ran speeds s d finished (restOf s y)) (sym q)
+            ∙ ap (λ (z : Bool). pick z (ran speeds s d finished (restOf s i)) (restOf s i)) (sym (eq-eqb i (s .task) (q ∙ t)))
         | no q ↦
-            changed-else (workOf s) (c .task) x i q
-            ∙ ap (λ (z : Bool). pick z (leftWork s d finished i) (workOf s i)) (sym (ne-eqb i (s .task) (λ z. q (z ∙ sym t))))
+            changed-else (restOf s) (c .task) x i q
+            ∙ ap (λ (z : Bool). pick z (ran speeds s d finished (restOf s i)) (restOf s i)) (sym (ne-eqb i (s .task) (λ z. q (z ∙ sym t))))
       ])
       (λ i l. refl))
 
   -- its job finished
-  pub worked-done : finished ≡ true → {m : List ℕ} → m ≡ entryStored b workField (c .task) 0 → Works b c d finished m
-  worked-done f w s e t l few runs =
-      worked-store s e t (runs (λ q. k .some (t ∙ q)) .0) 0
-      (ap (λ (y : Bool). pick y 0 (workOf s (c .task) - d * speedOf baseSpeeds (s .level))) (sym f)) w
+  pub worked-done : finished ≡ true → {x : Rest} → x ≡ noRest → {m : List ℕ} → m ≡ restStored b (c .task) x → Works speeds b c d finished m
+  worked-done f {x} none w s e t l few runs =
+      worked-store s e t (runs (λ q. k .some (t ∙ q)) .0) x
+      (none ∙ ap (λ (y : Bool). pick y noRest (worn (speedOf speeds (s .level)) d (restOf s (c .task)))) (sym f)) w
 
--- it did not: the level's speed and the work that was left are read
-pub record Working (b : List ℕ) (c : Choice) (d : ℕ) (finished : Bool) (speed work : ℕ) : Type 0 where
-  pub running : Running b c d finished
+-- it did not: the level's speed and what was left are read
+pub record Working (held : List ℕ) (levels : ℕ) (b : List ℕ) (c : Choice) (d : ℕ) (finished : Bool) (rest : Rest) : Type 0 where
+  pub table : Table held levels
+  pub running : Running levels b c d finished
   pub goes-on : finished ≡ false
-  pub speed-is : speed ≡ speedOf baseSpeeds (c .level)
-  pub work-is : work ≡ entryIn b (c .task) .work
+  pub rest-is : rest ≡ restIn (entryIn b (c .task))
 
-module _ {b : List ℕ} {c : Choice} {d : ℕ} {finished : Bool} {speed work : ℕ} (k : Working b c d finished speed work) where
-  pub working-fits : d * speed ≤ 65535 * 100
-  working-fits = work-short (c .level) speed (k .running .level) (k .speed-is) d (k .running .short)
+module _ {held : List ℕ} {levels : ℕ} {b : List ℕ} {c : Choice} {d : ℕ} {finished : Bool} {rest : Rest} (k : Working held levels b c d finished rest) where
+  abbrev table-speeds : List ℕ
+  table-speeds = loaded held levels
 
-  pub worked-fallen : {x : ℕ} → x ≡ work - d * speed → {m : List ℕ} → m ≡ entryStored b workField (c .task) x → Works b c d finished m
+  pub worked-fallen :
+      {x : Rest} → x ≡ worn (getD held (c .level) 0) d rest → {m : List ℕ} → m ≡ restStored b (c .task) x → Works (loaded held levels) b c d finished m
   worked-fallen {x} z w s e t l few runs =
-      let r : (s .task < length (s .entries)) × (workOf s (s .task) ≤ 16777215) = runs (λ y. k .running .some (t ∙ y)) in
-      let v : work ≡ workOf s (c .task) =
-      k .work-is
-      ∙ ap (λ (y : List ℕ). entryIn y (c .task) .work) e
-      ∙ encode-work s (c .task) (omega arith) (subst (λ (y : ℕ). workOf s y ≤ 16777215) (sym t) (r .1)) in
-      worked-store (k .running) s e t (r .0) x
+      let r : (s .task < length (s .entries)) × FitRest (restOf s (s .task)) = runs (λ y. k .running .some (t ∙ y)) in
+      let v : rest ≡ restOf s (c .task) =
+      k .rest-is
+      ∙ ap (λ (y : List ℕ). restIn (entryIn y (c .task))) e
+      ∙ encode-rest s (c .task) (omega arith) (subst (λ (y : ℕ). FitRest (restOf s y)) (sym t) (r .1)) in
+      worked-store (k .running) table-speeds s e t (r .0) x
       (z
-      ∙ ap₂ (λ (y u : ℕ). y - d * u) v (k .speed-is ∙ ap (speedOf baseSpeeds) l)
-      ∙ ap (λ (y : Bool). pick y 0 (workOf s (c .task) - d * speedOf baseSpeeds (s .level))) (sym (k .goes-on)))
+      ∙ ap₂ (λ (u : ℕ) (y : Rest). worn u d y) (speed-is (k .table) (c .level) (k .running .level) ∙ ap (speedOf table-speeds) l) v
+      ∙ ap (λ (y : Bool). pick y noRest (worn (speedOf table-speeds (s .level)) d (restOf s (c .task)))) (sym (k .goes-on)))
       w
 
--- the bytes in which task i has a new job at a speed
-abbrev renewedBytes : List ℕ → ℕ → ℕ → List ℕ
-renewedBytes b i speed =
-    entryStored (entryStored b workField i (entryIn b i .worst)) remainingField i (need speed (entryIn b i .worst))
-
--- what is read and stored of it: the work, then the plain ticks
-pub record Renewed (b o m : List ℕ) (i speed worst time : ℕ) : Type 0 where
-  pub worst-is : worst ≡ entryIn b i .worst
-  pub work-in : o ≡ entryStored b workField i worst
-  pub time-is : time ≡ need speed worst
+-- what is read and stored of a new job: what is left of it, then the plain ticks
+pub record Renewed (b o m : List ℕ) (i speed : ℕ) (t : Task) (rest : Rest) (time : ℕ) : Type 0 where
+  pub task-is : t ≡ taskOf (entryIn b i)
+  pub rest-is : rest ≡ whole t
+  pub rest-in : o ≡ restStored b i rest
+  pub time-is : time ≡ taskTime speed t
   pub ticks-in : m ≡ entryStored o remainingField i time
 
-pub renew-stored : {b o m : List ℕ} {i speed worst time : ℕ} → Renewed b o m i speed worst time → m ≡ renewedBytes b i speed
+pub renew-stored : {b o m : List ℕ} {i speed : ℕ} {t : Task} {rest : Rest} {time : ℕ} → Renewed b o m i speed t rest time → m ≡ renewedBytes b i speed
 renew-stored {b} {i = i} {speed} k =
     k .ticks-in
     ∙ ap₂ (λ (l : List ℕ) (x : ℕ). entryStored l remainingField i x)
-    (k .work-in ∙ ap (λ (x : ℕ). entryStored b workField i x) (k .worst-is))
-    (k .time-is ∙ ap (need speed) (k .worst-is))
+    (k .rest-in ∙ ap (restStored b i) (k .rest-is ∙ ap whole (k .task-is)))
+    (k .time-is ∙ ap (taskTime speed) (k .task-is))
 
 -- a function whose values below n are another's
-abbrev upTo : (ℕ → ℕ) → (ℕ → ℕ) → ℕ → ℕ → ℕ
+abbrev upTo {ℓ} : {A : Type ℓ} → (ℕ → A) → (ℕ → A) → ℕ → ℕ → A
 upTo new old n j = pick (ltb j n) (new j) (old j)
 
-module _ (new old : ℕ → ℕ) where
+module _ {ℓ} {A : Type ℓ} (new old : ℕ → A) where
   upTo-below : (n j : ℕ) → j < n → upTo new old n j ≡ new j
   upTo-below n j h = ap (λ (t : Bool). pick t (new j) (old j)) (lt-ltb j n h)
 
@@ -154,7 +155,7 @@ module _ (new old : ℕ → ℕ) where
       ]
 
   -- one place more, changed or the same
-  upTo-changed : (n x : ℕ) → x ≡ new n → (j : ℕ) → changed (upTo new old n) n x j ≡ upTo new old (n + 1) j
+  upTo-changed : (n : ℕ) (x : A) → x ≡ new n → (j : ℕ) → changed (upTo new old n) n x j ≡ upTo new old (n + 1) j
   upTo-changed n x e j =
       elim (ℕ-discrete j n) [
         | yes q ↦ changed-there (upTo new old n) n x j q ∙ e ∙ ap new (sym q) ∙ sym (upTo-below (n + 1) j (omega arith))
@@ -173,25 +174,31 @@ module _ (new old : ℕ → ℕ) where
         | no q ↦ upTo-more n j q
       ]
 
+-- storing a new job leaves the length
+length-renewed : (b : List ℕ) (i speed : ℕ) → length (renewedBytes b i speed) ≡ length b
+length-renewed b i speed =
+    let t : Task = taskOf (entryIn b i) in
+    length-entryStored (restStored b i (whole t)) remainingField i (taskTime speed t) ∙ length-restStored b i (whole t)
+
 -- m is what the arrivals at a clock make of a state in b
 abbrev pub Arrives : List ℕ → ℕ → ℕ → ℕ → List ℕ → List ℕ → Type 0
 Arrives keys count clock speed b m =
     (s : State) →
     b ≡ encode s →
     length (s .entries) ≡ count →
-    ((i : ℕ) → i < count → getD (s .entries) i noEntry .worst ≤ 16777215) →
+    ((i : ℕ) → i < count → FitTask (taskOf (getD (s .entries) i noEntry))) →
     m ≡ encode (arrivedState keys clock speed s)
 
--- the work and the ticks left where tasks whose deadline is the clock have new jobs
-abbrev newWork : List ℕ → ℕ → State → ℕ → ℕ
-newWork keys clock s i = pick (dueAt keys clock i) (getD (s .entries) i noEntry .worst) (workOf s i)
+-- what is left of the jobs, and the ticks left, where tasks whose deadline is the clock have new jobs
+abbrev newRest : List ℕ → ℕ → State → ℕ → Rest
+newRest keys clock s i = pick (dueAt keys clock i) (whole (taskOf (getD (s .entries) i noEntry))) (restOf s i)
 
 abbrev newLeft : List ℕ → ℕ → ℕ → State → ℕ → ℕ
-newLeft keys clock speed s i = pick (dueAt keys clock i) (need speed (getD (s .entries) i noEntry .worst)) (remainingOf s i)
+newLeft keys clock speed s i = pick (dueAt keys clock i) (taskTime speed (taskOf (getD (s .entries) i noEntry))) (remainingOf s i)
 
 -- and where the tasks below i have had their turn
-abbrev workTo : List ℕ → ℕ → State → ℕ → ℕ → ℕ
-workTo keys clock s = upTo (newWork keys clock s) (workOf s)
+abbrev restTo : List ℕ → ℕ → State → ℕ → ℕ → Rest
+restTo keys clock s = upTo (newRest keys clock s) (restOf s)
 
 abbrev leftTo : List ℕ → ℕ → ℕ → State → ℕ → ℕ → ℕ
 leftTo keys clock speed s = upTo (newLeft keys clock speed s) (remainingOf s)
@@ -205,8 +212,8 @@ pub record Arriving (keys : List ℕ) (count clock speed : ℕ) (b m : List ℕ)
       (s : State) →
       b ≡ encode s →
       length (s .entries) ≡ count →
-      ((i : ℕ) → i < count → getD (s .entries) i noEntry .worst ≤ 16777215) →
-      m ≡ encode (withJobs s (workTo keys clock s i) (leftTo keys clock speed s i))
+      ((i : ℕ) → i < count → FitTask (taskOf (getD (s .entries) i noEntry))) →
+      m ≡ encode (withJobs s (restTo keys clock s i) (leftTo keys clock speed s i))
 
 pub arrive-none : {keys : List ℕ} {count clock speed : ℕ} {b : List ℕ} → length b ≡ stateLength → count ≤ places → Arriving keys count clock speed b b 0
 arrive-none {keys} {count} {clock} {speed} h few = record {
@@ -217,8 +224,8 @@ arrive-none {keys} {count} {clock} {speed} h few = record {
       e
       ∙ ap encode
       (sym (jobs-same s)
-      ∙ jobs-eq s (workOf s) (workTo keys clock s 0) (remainingOf s) (leftTo keys clock speed s 0)
-      (λ j k. sym (upTo-past (newWork keys clock s) (workOf s) 0 j (omega arith)))
+      ∙ jobs-eq s (restOf s) (restTo keys clock s 0) (remainingOf s) (leftTo keys clock speed s 0)
+      (λ j k. sym (upTo-past (newRest keys clock s) (restOf s) 0 j (omega arith)))
       (λ j k. sym (upTo-past (newLeft keys clock speed s) (remainingOf s) 0 j (omega arith))));
 }
 
@@ -227,8 +234,8 @@ module _ {keys : List ℕ} {count clock speed : ℕ} {b m : List ℕ} {i : ℕ} 
   arrive-all h s e n r =
       now .so-far s e n r
       ∙ ap encode
-      (jobs-eq s (workTo keys clock s i) (newWork keys clock s) (leftTo keys clock speed s i) (newLeft keys clock speed s)
-      (λ j k. upTo-below (newWork keys clock s) (workOf s) i j (omega arith))
+      (jobs-eq s (restTo keys clock s i) (newRest keys clock s) (leftTo keys clock speed s i) (newLeft keys clock speed s)
+      (λ j k. upTo-below (newRest keys clock s) (restOf s) i j (omega arith))
       (λ j k. upTo-below (newLeft keys clock speed s) (remainingOf s) i j (omega arith)))
 
   module _ (h : i < count) where
@@ -241,13 +248,13 @@ module _ {keys : List ℕ} {count clock speed : ℕ} {b m : List ℕ} {i : ℕ} 
           few = now .few;
           below = omega arith;
           so-far = λ s e n r.
-              let worst : ℕ = getD (s .entries) i noEntry .worst in
+              let t : Task = taskOf (getD (s .entries) i noEntry) in
               g
               ∙ now .so-far s e n r
               ∙ ap encode
-              (jobs-eq s (workTo keys clock s i) (workTo keys clock s (i + 1)) (leftTo keys clock speed s i) (leftTo keys clock speed s (i + 1))
-              (λ j k. upTo-same (newWork keys clock s) (workOf s) i (ap (λ (t : Bool). pick t worst (workOf s i)) f) j)
-              (λ j k. upTo-same (newLeft keys clock speed s) (remainingOf s) i (ap (λ (t : Bool). pick t (need speed worst) (remainingOf s i)) f) j));
+              (jobs-eq s (restTo keys clock s i) (restTo keys clock s (i + 1)) (leftTo keys clock speed s i) (leftTo keys clock speed s (i + 1))
+              (λ j k. upTo-same (newRest keys clock s) (restOf s) i (ap (λ (y : Bool). pick y (whole t) (restOf s i)) f) j)
+              (λ j k. upTo-same (newLeft keys clock speed s) (remainingOf s) i (ap (λ (y : Bool). pick y (taskTime speed t) (remainingOf s i)) f) j));
         }
 
     -- task i has a new job
@@ -255,33 +262,29 @@ module _ {keys : List ℕ} {count clock speed : ℕ} {b m : List ℕ} {i : ℕ} 
     arrive-new q g =
         let f : dueAt keys clock i ≡ true = eq-eqb (deadlineIn (getD keys i 0)) clock q in
         record {
-          size =
-              ap length g
-              ∙ length-entryStored (entryStored m workField i (entryIn m i .worst)) remainingField i (need speed (entryIn m i .worst))
-              ∙ length-entryStored m workField i (entryIn m i .worst)
-              ∙ now .size;
+          size = ap length g ∙ length-renewed m i speed ∙ now .size;
           few = now .few;
           below = omega arith;
           so-far = λ s e n r.
-              let work : ℕ → ℕ = workTo keys clock s i in
-              let left : ℕ → ℕ = leftTo keys clock speed s i in
-              let worst : ℕ = getD (s .entries) i noEntry .worst in
-              let z : length (withJobs s work left .entries) ≡ count = jobs-count s work left ∙ n in
-              let v : getD (withJobs s work left .entries) i noEntry .worst ≡ worst = jobs-worst s work left i (omega arith) in
-              let u : entryIn m i .worst ≡ worst =
-              ap (λ (l : List ℕ). entryIn l i .worst) (now .so-far s e n r)
-              ∙ encode-worst (withJobs s work left) i (omega arith) (omega (arith, r i h))
-              ∙ v in
+              let left : ℕ → Rest = restTo keys clock s i in
+              let ticks : ℕ → ℕ = leftTo keys clock speed s i in
+              let t : Task = taskOf (getD (s .entries) i noEntry) in
+              let z : length (withJobs s left ticks .entries) ≡ count = jobs-count s left ticks ∙ n in
+              let same : taskOf (getD (withJobs s left ticks .entries) i noEntry) ≡ t = jobs-task s left ticks i (omega arith) in
+              let u : taskOf (entryIn m i) ≡ t =
+              ap (λ (l : List ℕ). taskOf (entryIn l i)) (now .so-far s e n r)
+              ∙ encode-task (withJobs s left ticks) i (omega arith) (subst FitTask (sym same) (r i h))
+              ∙ same in
               g
-              ∙ ap₂ (λ (l : List ℕ) (x : ℕ). entryStored (entryStored l workField i x) remainingField i (need speed x)) (now .so-far s e n r) u
-              ∙ ap (λ (l : List ℕ). entryStored l remainingField i (need speed worst)) (store-work s work left i worst (omega arith))
-              ∙ store-remaining s (changed work i worst) left i (need speed worst) (omega arith)
+              ∙ ap₂ (λ (l : List ℕ) (x : Task). entryStored (restStored l i (whole x)) remainingField i (taskTime speed x)) (now .so-far s e n r) u
+              ∙ ap (λ (l : List ℕ). entryStored l remainingField i (taskTime speed t)) (store-rest s left ticks i (omega arith) (whole t))
+              ∙ store-remaining s (changed left i (whole t)) ticks i (omega arith) (taskTime speed t)
               ∙ ap encode
-              (jobs-eq s (changed work i worst) (workTo keys clock s (i + 1)) (changed left i (need speed worst)) (leftTo keys clock speed s (i + 1))
-              (λ j k. upTo-changed (newWork keys clock s) (workOf s) i worst (ap (λ (t : Bool). pick t worst (workOf s i)) (sym f)) j)
+              (jobs-eq s (changed left i (whole t)) (restTo keys clock s (i + 1)) (changed ticks i (taskTime speed t)) (leftTo keys clock speed s (i + 1))
+              (λ j k. upTo-changed (newRest keys clock s) (restOf s) i (whole t) (ap (λ (y : Bool). pick y (whole t) (restOf s i)) (sym f)) j)
               (λ j k.
-              upTo-changed (newLeft keys clock speed s) (remainingOf s) i (need speed worst)
-              (ap (λ (t : Bool). pick t (need speed worst) (remainingOf s i)) (sym f)) j));
+              upTo-changed (newLeft keys clock speed s) (remainingOf s) i (taskTime speed t)
+              (ap (λ (y : Bool). pick y (taskTime speed t) (remainingOf s i)) (sym f)) j));
         }
 
 -- where no deadline is the clock, nothing arrives
@@ -291,9 +294,9 @@ arrives-not keys count clock speed none b s e n r =
     e
     ∙ ap encode
     (sym (jobs-same s)
-    ∙ jobs-eq s (workOf s) (newWork keys clock s) (remainingOf s) (newLeft keys clock speed s)
-    (λ i h. ap (λ (t : Bool). pick t (getD (s .entries) i noEntry .worst) (workOf s i)) (sym (none i (omega arith))))
-    (λ i h. ap (λ (t : Bool). pick t (need speed (getD (s .entries) i noEntry .worst)) (remainingOf s i)) (sym (none i (omega arith)))))
+    ∙ jobs-eq s (restOf s) (newRest keys clock s) (remainingOf s) (newLeft keys clock speed s)
+    (λ i h. ap (λ (t : Bool). pick t (whole (taskOf (getD (s .entries) i noEntry))) (restOf s i)) (sym (none i (omega arith))))
+    (λ i h. ap (λ (t : Bool). pick t (taskTime speed (taskOf (getD (s .entries) i noEntry))) (remainingOf s i)) (sym (none i (omega arith)))))
 
 -- the keys of the tasks below n are made
 pub record Renewing (b keys : List ℕ) (count clock : ℕ) (r : List ℕ) (n : ℕ) : Type 0 where

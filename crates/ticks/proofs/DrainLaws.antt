@@ -14,7 +14,7 @@ use Rattle.arith.specs.Choice.{pick}
 use Rattle.arith.specs.Sum.{sumTo}
 use Rattle.arith.proofs.Tests.{eq-yes, eq-not, testEq}
 use Rattle.arith.proofs.Sums.{sumTo-eq}
-use Rattle.reclaiming.specs.StateBlock.{State, workOf, remainingOf, encode, remainingField, stateLength}
+use Rattle.reclaiming.specs.StateBlock.{State, remainingOf, restOf, encode, remainingField, stateLength}
 use Rattle.state.specs.Code.{entryIn, changed, withJobs, entryStored, numberIn}
 use Rattle.urgency.specs.Code.{noKey, leastKey, drainedBy}
 use Rattle.state.proofs.BlockLaws.{changed-there, changed-else, field-remaining, encode-remaining, jobs-count, jobs-remaining, jobs-same, jobs-eq, store-remaining, length-entryStored}
@@ -110,12 +110,12 @@ Drains keys count d b m =
     b ≡ encode s →
     length (s .entries) ≡ count →
     ((i : ℕ) → i < count → remainingOf s i ≤ 65535) →
-    m ≡ encode (withJobs s (workOf s) (drainedBy keys (remainingOf s) count d))
+    m ≡ encode (withJobs s (restOf s) (drainedBy keys (remainingOf s) count d))
 
 -- a state's bytes on the way, t ticks still to be taken of d: what they will leave is what d leave of the state
 pub record Drained (s : State) (keys : List ℕ) (count d : ℕ) (m : List ℕ) (t : ℕ) : Type 0 where
   pub left : ℕ → ℕ
-  pub bytes : m ≡ encode (withJobs s (workOf s) left)
+  pub bytes : m ≡ encode (withJobs s (restOf s) left)
   pub less : (i : ℕ) → i < count → left i ≤ remainingOf s i
   pub same : (i : ℕ) → i < count → drainedBy keys left count t i ≡ drainedBy keys (remainingOf s) count d i
 
@@ -242,20 +242,20 @@ module _ {keys : List ℕ} {count d : ℕ} {b m : List ℕ} {t : ℕ} (now : Dra
 
     left-is : (i : ℕ) → i < count → entryIn m i .remaining ≡ on .left i
     left-is i h =
-        let z : length (withJobs s (workOf s) (on .left) .entries) ≡ count = jobs-count s (workOf s) (on .left) ∙ n in
-        let v : remainingOf (withJobs s (workOf s) (on .left)) i ≡ on .left i = jobs-remaining s (workOf s) (on .left) i (omega arith) in
+        let z : length (withJobs s (restOf s) (on .left) .entries) ≡ count = jobs-count s (restOf s) (on .left) ∙ n in
+        let v : remainingOf (withJobs s (restOf s) (on .left)) i ≡ on .left i = jobs-remaining s (restOf s) (on .left) i (omega arith) in
         ap (λ (l : List ℕ). entryIn l i .remaining) (on .bytes)
-        ∙ encode-remaining (withJobs s (workOf s) (on .left)) i (omega arith) (omega (arith, on .less i h, r i h))
+        ∙ encode-remaining (withJobs s (restOf s) (on .left)) i (omega arith) (omega (arith, on .less i h, r i h))
         ∙ v
 
     -- the end has come where each task keeps what it has
     drain-end :
         ((i : ℕ) → i < count → drainedBy keys (on .left) count t i ≡ on .left i) →
-        m ≡ encode (withJobs s (workOf s) (drainedBy keys (remainingOf s) count d))
+        m ≡ encode (withJobs s (restOf s) (drainedBy keys (remainingOf s) count d))
     drain-end keeps =
         on .bytes
         ∙ ap encode
-        (jobs-eq s (workOf s) (workOf s) (on .left) (drainedBy keys (remainingOf s) count d)
+        (jobs-eq s (restOf s) (restOf s) (on .left) (drainedBy keys (remainingOf s) count d)
         (λ i k. refl)
         (λ i k. omega (arith, keeps i (omega arith), on .same i (omega arith))))
 
@@ -326,7 +326,7 @@ module _ {keys : List ℕ} {count d : ℕ} {b m : List ℕ} {t first f x : ℕ} 
       bytes =
           g
           ∙ ap₂ (λ (l : List ℕ) (y : ℕ). entryStored l remainingField f (y - t)) (k .now .so-far s e n r .bytes) (read-is f first-below)
-          ∙ store-remaining s (workOf s) left f (left f - t) (omega (arith, first-below));
+          ∙ store-remaining s (restOf s) left f (omega (arith, first-below)) (left f - t);
       less = λ i h. omega (arith, rest-less first-turn i, k .now .so-far s e n r .less i h);
       same = λ i h. drained-step first-turn i h ∙ k .now .so-far s e n r .same i h;
     }

@@ -10,10 +10,10 @@ use state::clock_at;
 use state::count_at;
 use state::period_at;
 use state::put_remaining;
-use state::put_work;
+use state::put_rest;
 use state::remaining_at;
-use state::work_at;
-use state::worst_at;
+use state::rest_at;
+use state::task_at;
 use urgency::NO_KEY;
 use urgency::deadline_in;
 use urgency::key_of;
@@ -23,16 +23,15 @@ ghost use mathlib.Core.Path.{_≡_};
 ghost use mathlib.Core.Bool.{false};
 ghost use Prim.Native.Nat.{ℕ, _-_, _%_, _<_, _≤_, min};
 ghost use lib.ListN.{length, getD};
-ghost use Rattle.arith.specs.Need.{need};
-ghost use Rattle.plan.specs.Levels.{baseSpeeds};
-ghost use Rattle.reclaiming.specs.StateBlock.{State, noEntry, workOf, remainingOf, places, workField, remainingField, stateLength, encode, decode};
+ghost use Rattle.levels.specs.Code.{loaded, Table};
+ghost use Rattle.reclaiming.specs.StateBlock.{State, noEntry, remainingOf, restOf, taskOf, places, remainingField, stateLength, encode, decode};
 ghost use Rattle.reclaiming.specs.Orders.{nextArrival};
 ghost use Rattle.reclaiming.specs.Passes.{workedOf, movedState};
 ghost use Rattle.reclaiming.specs.Questions.{largestClock};
-ghost use Rattle.state.specs.Code.{entryIn, entryStored, timingIn, withJobs};
+ghost use Rattle.state.specs.Code.{entryIn, entryStored, timingIn, withJobs, FitTask, FitRest};
 ghost use Rattle.urgency.specs.Code.{noKey, dueAt, drainedBy};
 ghost use Rattle.orders.specs.Code.{choiceOf};
-ghost use Rattle.ticks.specs.Code.{Stepping, arrivedState, renewedKeys};
+ghost use Rattle.ticks.specs.Code.{Stepping, renewedBytes, arrivedState, renewedKeys};
 
 // Takes ticks from task i's remaining ones, as many as there are; answers how many it took.
 fn take_from(block: &mut [u8], i: usize, ticks: u32) -> u32
@@ -53,7 +52,7 @@ fn take_from(block: &mut [u8], i: usize, ticks: u32) -> u32
 fn drain(block: &mut [u8], keys: &[u64; PLACES], count: usize, d: u32)
     requires { ⌜ (count ≤ places) × (length (now block) ≡ stateLength) ⌝ }
     requires { ⌜ ((i : ℕ) → i < count → (getD (now keys) i 0 % 16 ≡ i) × (getD (now keys) i 0 < noKey)) ⌝ }
-    ensures { λ _. ⌜ ((s : State) → now (block .entry) ≡ encode s → length (s .entries) ≡ count → ((i : ℕ) → i < count → remainingOf s i ≤ 65535) → now (block .exit) ≡ encode (withJobs s (workOf s) (drainedBy (now (keys .entry)) (remainingOf s) count d))) ⌝ }
+    ensures { λ _. ⌜ ((s : State) → now (block .entry) ≡ encode s → length (s .entries) ≡ count → ((i : ℕ) → i < count → remainingOf s i ≤ 65535) → now (block .exit) ≡ encode (withJobs s (restOf s) (drainedBy (now (keys .entry)) (remainingOf s) count d))) ⌝ }
 {
     let mut ticks = d;
     while 0 < ticks {
@@ -65,49 +64,40 @@ fn drain(block: &mut [u8], keys: &[u64; PLACES], count: usize, d: u32)
     }
 }
 
-// What is left of a where b is taken: nothing where b is more.
-fn less(a: u32, b: u32) -> u32
-    ensures { λ r. ⌜ r ≡ a - b ⌝ }
-{
-    if a < b {
-        return 0;
-    }
-    a - b
-}
-
-// The running job's work falls by d ticks at its level, or is 0 if it finished.
-fn work_off(block: &mut [u8], c: Choice, d: u32, finished: bool)
-    requires { ⌜ (length (now block) ≡ stateLength) × (d ≤ 65535) × ((c .task ≡ 255 → ⊥) → (c .task < places) × (c .level < 8)) ⌝ }
-    ensures { λ _. ⌜ ((s : State) → now (block .entry) ≡ encode s → c .task ≡ s .task → c .level ≡ s .level → length (s .entries) ≤ places → ((s .task ≡ 255 → ⊥) → (s .task < length (s .entries)) × (workOf s (s .task) ≤ 16777215)) → now (block .exit) ≡ encode (withJobs s (workedOf baseSpeeds s d finished) (remainingOf s))) ⌝ }
+// Of the running job d ticks at its level take their part, or nothing is left of it if it finished.
+fn work_off(speeds: &[u32; 8], levels: usize, block: &mut [u8], c: Choice, d: u32, finished: bool)
+    requires { ⌜ Table (now speeds) levels × (length (now block) ≡ stateLength) × (d ≤ 65535) ⌝ }
+    requires { ⌜ ((c .task ≡ 255 → ⊥) → (c .task < places) × (c .level < levels)) ⌝ }
+    ensures { λ _. ⌜ ((s : State) → now (block .entry) ≡ encode s → c .task ≡ s .task → c .level ≡ s .level → length (s .entries) ≤ places → ((s .task ≡ 255 → ⊥) → (s .task < length (s .entries)) × FitRest (restOf s (s .task))) → now (block .exit) ≡ encode (withJobs s (workedOf (loaded (now (speeds .entry)) levels) s d finished) (remainingOf s))) ⌝ }
 {
     if c.task == 255 {
         return;
     }
     let i = c.task as usize;
     if finished {
-        put_work(block, i, 0);
+        put_rest(block, i, times::nothing());
         return;
     }
-    let speed = admission::speed_of(c.level as usize);
-    let work = work_at(block, i);
-    put_work(block, i, less(work, d * speed));
+    let level = c.level as usize;
+    let rest = rest_at(block, i);
+    put_rest(block, i, times::worn_by(speeds[level], d, rest));
 }
 
 // Gives task i a new job with full worst case and allotment.
 fn renew(block: &mut [u8], i: usize, speed: u32)
-    requires { ⌜ (i < places) × (length (now block) ≡ stateLength) × (0 < speed) ⌝ }
-    ensures { λ _. ⌜ now (block .exit) ≡ entryStored (entryStored (now (block .entry)) workField i (entryIn (now (block .entry)) i .worst)) remainingField i (need speed (entryIn (now (block .entry)) i .worst)) ⌝ }
+    requires { ⌜ (i < places) × (length (now block) ≡ stateLength) × (0 < speed) × (speed ≤ 1000) ⌝ }
+    ensures { λ _. ⌜ now (block .exit) ≡ renewedBytes (now (block .entry)) i speed ⌝ }
 {
-    let worst = worst_at(block, i);
-    put_work(block, i, worst);
-    put_remaining(block, i, numeric::time_needed(speed, worst));
+    let t = task_at(block, i);
+    put_rest(block, i, times::whole_of(t));
+    put_remaining(block, i, times::task_time(speed, t));
 }
 
 // Gives each task whose deadline is the clock a new job.
 fn arrive(block: &mut [u8], keys: &[u64; PLACES], count: usize, clock: u32, speed: u32)
-    requires { ⌜ (count ≤ places) × (length (now block) ≡ stateLength) × (0 < speed) ⌝ }
+    requires { ⌜ (count ≤ places) × (length (now block) ≡ stateLength) × (0 < speed) × (speed ≤ 1000) ⌝ }
     requires { ⌜ ((i : ℕ) → i < count → getD (now keys) i 0 < noKey) ⌝ }
-    ensures { λ _. ⌜ ((s : State) → now (block .entry) ≡ encode s → length (s .entries) ≡ count → ((i : ℕ) → i < count → getD (s .entries) i noEntry .worst ≤ 16777215) → now (block .exit) ≡ encode (arrivedState (now (keys .entry)) clock speed s)) ⌝ }
+    ensures { λ _. ⌜ ((s : State) → now (block .entry) ≡ encode s → length (s .entries) ≡ count → ((i : ℕ) → i < count → FitTask (taskOf (getD (s .entries) i noEntry))) → now (block .exit) ≡ encode (arrivedState (now (keys .entry)) clock speed s)) ⌝ }
 {
     let mut i: usize = 0;
     while i < count {
@@ -127,9 +117,9 @@ fn arrive_if(
     speed: u32,
     some: bool,
 )
-    requires { ⌜ (count ≤ places) × (length (now block) ≡ stateLength) × (0 < speed) ⌝ }
+    requires { ⌜ (count ≤ places) × (length (now block) ≡ stateLength) × (0 < speed) × (speed ≤ 1000) ⌝ }
     requires { ⌜ ((i : ℕ) → i < count → getD (now keys) i 0 < noKey) × (some ≡ false → (i : ℕ) → i < count → dueAt (now keys) clock i ≡ false) ⌝ }
-    ensures { λ _. ⌜ ((s : State) → now (block .entry) ≡ encode s → length (s .entries) ≡ count → ((i : ℕ) → i < count → getD (s .entries) i noEntry .worst ≤ 16777215) → now (block .exit) ≡ encode (arrivedState (now (keys .entry)) clock speed s)) ⌝ }
+    ensures { λ _. ⌜ ((s : State) → now (block .entry) ≡ encode s → length (s .entries) ≡ count → ((i : ℕ) → i < count → FitTask (taskOf (getD (s .entries) i noEntry))) → now (block .exit) ≡ encode (arrivedState (now (keys .entry)) clock speed s)) ⌝ }
 {
     if some {
         arrive(block, keys, count, clock, speed);
@@ -158,6 +148,8 @@ pub fn renewed(block: &[u8], keys: &[u64; PLACES], count: usize, clock: u32) -> 
 
 // Moves a state on by d ticks, before an order is chosen.
 pub fn move_on(
+    speeds: &[u32; 8],
+    levels: usize,
     block: &mut [u8],
     keys: &[u64; PLACES],
     c: Choice,
@@ -166,15 +158,18 @@ pub fn move_on(
     d: u32,
     finished: bool,
 )
-    requires { ⌜ Stepping (now block) (now keys) highest d × (c ≡ choiceOf (decode (now block))) ⌝ }
-    requires { ⌜ next ≡ nextArrival (timingIn (now block)) (decode (now block) .clock) ⌝ }
-    ensures { λ _. ⌜ now (block .exit) ≡ encode (movedState baseSpeeds (timingIn (now (block .entry))) (decode (now (block .entry))) d finished) ⌝ }
+    requires { ⌜ Table (now speeds) levels × Stepping (loaded (now speeds) levels) (now block) (now keys) highest d ⌝ }
+    requires { ⌜ c ≡ choiceOf (loaded (now speeds) levels) (decode (now block)) ⌝ }
+    requires { ⌜ next ≡ nextArrival (timingIn (loaded (now speeds) levels) (now block)) (decode (now block) .clock) ⌝ }
+    ensures { λ _. ⌜ now (block .exit) ≡ encode (movedState (loaded (now (speeds .entry)) levels)
+        (timingIn (loaded (now (speeds .entry)) levels) (now (block .entry)))
+        (decode (now (block .entry))) d finished) ⌝ }
 {
     let count = count_at(block);
     let clock = Clock::new(clock_at(block)).after(d);
-    let speed = admission::speed_of(highest);
+    let speed = speeds[highest];
     drain(block, keys, count, d);
-    work_off(block, c, d, finished);
+    work_off(speeds, levels, block, c, d, finished);
     numeric::put_number(block, CLOCK_AT, CLOCK_WIDTH, clock.ticks);
     arrive_if(block, keys, count, clock.ticks, speed, d == next);
 }

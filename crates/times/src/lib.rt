@@ -4,13 +4,20 @@ use plan::Task;
 ghost use mathlib.Core.Path.{_≡_};
 ghost use Prim.Native.Nat.{_<_, _≤_};
 ghost use lib.Dec.{leb};
-ghost use Rattle.plan.specs.Times.{timeOf, worn, whole, taskTime};
+ghost use Rattle.plan.specs.Times.{timeOf, worn, whole, noRest, taskTime};
 
 // A whole job of a task.
 pub fn whole_of(t: Task) -> Rest
     ensures { λ r. ⌜ r ≡ whole t ⌝ }
 {
     Rest { work: t.worst }
+}
+
+// A job of which nothing is left.
+pub fn nothing() -> Rest
+    ensures { λ r. ⌜ r ≡ noRest ⌝ }
+{
+    Rest { work: 0 }
 }
 
 // The ticks that a job needs at a speed.

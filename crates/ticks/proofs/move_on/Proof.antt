@@ -5,7 +5,7 @@ use Prim.Native.Nat.{ℕ, _+_}
 use mathlib.Core.List.{List}
 use native.Mathlib.Omega.{arith}
 use borrow.Author.Needs.{needs}
-use Rattle.ticks.proofs.TickSteps.{Moving, Prepared, Stepped, highest-small, moving-short, moving-few, moving-keys, moving-none, order-form, speed-above, moved-on}
+use Rattle.ticks.proofs.TickSteps.{Moving, Prepared, Stepped, highest-small, moving-short, moving-few, moving-keys, moving-none, order-form, speed-range, moved-on}
 use Rattle.ticks.proofs.move_on.Statement.{statement}
 use Rattle.ticks.proofs.move_on.Tie as tie
 
@@ -19,16 +19,16 @@ keys c = c .args .keys .now
 abbrev begun : tie.After-count-at → tie.Start
 begun c = c .before .before .before
 
-abbrev counted : tie.After-speed-of → tie.After-count-at
+abbrev counted : tie.After-speed → tie.After-count-at
 counted c = c .before .before .before .before .before
 
-abbrev start : tie.After-speed-of → tie.Start
+abbrev start : tie.After-speed → tie.Start
 start c = begun (counted c)
 
 abbrev taken : tie.After-work-off → tie.After-drain
 taken c = c .before .before .before .before
 
-abbrev sped : tie.After-work-off → tie.After-speed-of
+abbrev sped : tie.After-work-off → tie.After-speed
 sped c = taken c .before .before
 
 abbrev clocked : tie.After-arrive-if → tie.After-put-number
@@ -37,21 +37,22 @@ clocked c = c .before .before .before .before
 abbrev worked : tie.After-arrive-if → tie.After-work-off
 worked c = clocked c .before .before .before .before
 
-moving : (c : tie.After-count-at) → Moving (block (begun c)) (keys (begun c)) (begun c .args .highest) (begun c .args .d) (begun c .args .c) (c .count-at .result)
-moving c = record { step = begun c .pre .0 .0; order = begun c .pre .0 .1; same = c .count-at .ensures }
+moving :
+    (c : tie.After-count-at) →
+    Moving (begun c .args .speeds .now) (begun c .args .levels) (block (begun c)) (keys (begun c)) (begun c .args .highest) (begun c .args .d) (begun c .args .c) (c .count-at .result)
+moving c = record { table = begun c .pre .0 .0; step = begun c .pre .0 .1; order = begun c .pre .1 .0; same = c .count-at .ensures }
 
 prepared :
-    (c : tie.After-speed-of) →
-    Prepared (block (start c)) (keys (start c)) (start c .args .highest) (start c .args .d) (start c .args .c)
-    (counted c .count-at .result) (c .before .after .result .ticks) (c .speed-of .result)
+    (c : tie.After-speed) →
+    Prepared (start c .args .speeds .now) (start c .args .levels) (block (start c)) (keys (start c)) (start c .args .highest) (start c .args .d) (start c .args .c)
+    (counted c .count-at .result) (c .before .after .result .ticks)
 prepared c = record {
   moving = moving (counted c);
   clock-is = c .before .after .ensures ∙ ap (λ (x : ℕ). x + start c .args .d) (c .before .before .new .ensures ∙ c .before .before .before .clock-at .ensures);
-  speed-is = c .speed-of .ensures;
 }
 
 count-at-requires : tie.Need-count-at-requires
-count-at-requires c κs = c .before .before .pre .0 .0 .good .holds
+count-at-requires c κs = c .before .before .pre .0 .1 .good .holds
 
 clock-at-requires : tie.Need-clock-at-requires
 clock-at-requires c κs = moving (c .before) .step .good .holds .size
@@ -62,8 +63,15 @@ new-requires c κs = search needs
 after-requires : tie.Need-after-requires
 after-requires c κs = omega (arith, moving (c .before .before .before) .step .clock, c .new .ensures, c .before .clock-at .ensures)
 
-speed-of-requires : tie.Need-speed-of-requires
-speed-of-requires c κs = omega (arith, highest-small (moving (c .before .before .before .before)))
+mul-speed : tie.Need-mul-speed
+mul-speed c =
+    let k = moving (c .before .before .before .before) in
+    omega (arith, highest-small k, k .table .few)
+
+element-copy-out-speed : tie.Need-element-copy-out-speed
+element-copy-out-speed c =
+    let k = moving (c .before .before .before .before) in
+    omega (arith, highest-small k, k .table .few)
 
 drain-requires : tie.Need-drain-requires
 drain-requires c κs =
@@ -73,17 +81,17 @@ drain-requires c κs =
 work-off-requires : tie.Need-work-off-requires
 work-off-requires c κs =
     let k = moving (counted (c .before .before .before .before .before)) in
-    (search needs, moving-short k, order-form k)
+    ((k .table, search needs, moving-short k), order-form k)
 
 put-number-requires : tie.Need-put-number-requires
 put-number-requires c κs = search needs
 
 arrive-if-requires : tie.Need-arrive-if-requires
 arrive-if-requires c κs =
-    let p : tie.After-speed-of = sped (c .before .before .before .before .before .before .before) in
+    let p : tie.After-speed = sped (c .before .before .before .before .before .before .before) in
     let k = moving (counted p) in (
-      (moving-few k, search needs, speed-above k _ (p .speed-of .ensures)),
-      (λ i h. moving-keys k i h .1, moving-none (prepared p) _ (start p .pre .1)),
+      (moving-few k, search needs, speed-range k .0, speed-range k .1),
+      (λ i h. moving-keys k i h .1, moving-none (prepared p) _ (start p .pre .1 .1)),
     )
 
 same-length : tie.Need-same-length
@@ -93,10 +101,10 @@ same-length c = search needs
 stepped :
     (c : tie.After-arrive-if) →
     let w : tie.After-work-off = worked c in
-    let p : tie.After-speed-of = sped w in
-    Stepped (block (start p)) (keys (start p)) (start p .args .highest) (start p .args .d) (start p .args .c)
-    (counted p .count-at .result) (p .before .after .result .ticks) (p .speed-of .result) (start p .args .finished)
-    (taken w .drain .last .0) (w .work-off .last .0) (clocked c .put-number .last .0) (c .arrive-if .last .0)
+    let p : tie.After-speed = sped w in
+    Stepped (start p .args .speeds .now) (start p .args .levels) (block (start p)) (keys (start p)) (start p .args .highest) (start p .args .d) (start p .args .c)
+    (counted p .count-at .result) (p .before .after .result .ticks) (start p .args .finished)
+    (taken w .drain .last .0) (w .work-off .last .2) (clocked c .put-number .last .0) (c .arrive-if .last .0)
 stepped c = record {
   prepared = prepared (sped (worked c));
   drains = taken (worked c) .drain .ensures;
@@ -116,7 +124,8 @@ move-on-spec =
     clock-at-requires
     new-requires
     after-requires
-    speed-of-requires
+    mul-speed
+    element-copy-out-speed
     drain-requires
     work-off-requires
     put-number-requires
