@@ -104,7 +104,7 @@ stepped :
     let p : tie.After-speed = sped w in
     Stepped (start p .args .speeds .now) (start p .args .levels) (block (start p)) (keys (start p)) (start p .args .highest) (start p .args .d) (start p .args .c)
     (counted p .count-at .result) (p .before .after .result .ticks) (start p .args .finished)
-    (taken w .drain .last .0) (w .work-off .last .2) (clocked c .put-number .last .0) (c .arrive-if .last .0)
+    (taken w .drain .last .0) (w .work-off .last .1 .1 .0) (clocked c .put-number .last .0) (c .arrive-if .last .0)
 stepped c = record {
   prepared = prepared (sped (worked c));
   drains = taken (worked c) .drain .ensures;
