@@ -11,10 +11,9 @@ use Rattle.arith.specs.Choice.{pick}
 use Rattle.arith.specs.Asking.{Question, ask, firstNo}
 use Rattle.arith.proofs.Tests.{passed, failed, tested}
 use Rattle.arith.proofs.QuestionLaws.{ask-no, ask-yes, no-before, yes-before}
-use Rattle.plan.specs.Levels.{baseSpeeds}
 use Rattle.reclaiming.specs.StateBlock.{State, planIn, timing}
-use Rattle.reclaiming.specs.Orders.{nextArrival}
-use Rattle.reclaiming.specs.Questions.{largestClock, runningTime, passQuestions}
+use Rattle.reclaiming.specs.Orders.{nextArrival, runningTime}
+use Rattle.reclaiming.specs.Questions.{largestClock, passQuestions}
 use Rattle.orders.specs.declared.Choice.{Choice}
 use Rattle.orders.specs.Code.{choiceOf}
 use Rattle.pass_questions.specs.Code.{finishQuestions, timeQuestions}
@@ -103,19 +102,19 @@ module _ (clock : ℕ) {c : Choice} {next d : ℕ} {finished : Bool} {n : ℕ} (
 
 -- put to a state's clock, its order and its next arrival they are the questions of a pass
 pub asked-is :
-    (s : State) (clock next d : ℕ) (finished : Bool) →
+    (speeds : List ℕ) (s : State) (clock next d : ℕ) (finished : Bool) →
     clock ≡ s .clock →
-    next ≡ nextArrival (timing baseSpeeds (planIn s)) (s .clock) →
-    firstNo (timeQuestions clock (choiceOf s) next d finished) ≡ firstNo (passQuestions baseSpeeds s d finished)
-asked-is s clock next d finished t n =
-    ap₂ (λ (x y : ℕ). firstNo (timeQuestions x (choiceOf s) y d finished)) t n
-    ∙ elim (tested (eqb (s .task) 255)) as (λ b _. asked b (pick b 0 (runningTime baseSpeeds s)) ≡ asked b (runningTime baseSpeeds s))
+    next ≡ nextArrival (timing speeds (planIn s)) (s .clock) →
+    firstNo (timeQuestions clock (choiceOf speeds s) next d finished) ≡ firstNo (passQuestions speeds s d finished)
+asked-is speeds s clock next d finished t n =
+    ap₂ (λ (x y : ℕ). firstNo (timeQuestions x (choiceOf speeds s) y d finished)) t n
+    ∙ elim (tested (eqb (s .task) 255)) as (λ b _. asked b (pick b 0 (runningTime speeds s)) ≡ asked b (runningTime speeds s))
     [ passed ↦ refl | failed ↦ refl ]
   where
     asked : Bool → ℕ → ℕ
     asked idle time =
         pick (leb 1 d)
-        (pick (leb d (nextArrival (timing baseSpeeds (planIn s)) (s .clock)))
+        (pick (leb d (nextArrival (timing speeds (planIn s)) (s .clock)))
         (pick (pick finished (not idle) true)
         (pick (pick (not idle) (pick finished (leb d time) (ltb d time)) true) (pick (leb (s .clock + d) largestClock) 0 15) 14)
         13)

@@ -11,209 +11,218 @@ use lib.Dec.{eqb}
 use lib.ListN.{length, getD, drop}
 use lib.Seq.{drop-length}
 use Rattle.arith.specs.Choice.{pick}
-use Rattle.arith.specs.Need.{need}
 use Rattle.plan.specs.declared.Task.{Task}
-use Rattle.plan.specs.Levels.{baseSpeeds, speedOf, nominal}
+use Rattle.plan.specs.Times.{timeOf}
+use Rattle.plan.specs.Levels.{Rising, speedOf, nominal}
 use Rattle.plan.specs.Blocks.{noTask}
 use Rattle.arith.specs.Asking.{firstNo}
 use Rattle.plan.specs.Answers.{storedBy}
 use Rattle.plan.proofs.Facts.{FineList}
-use Rattle.plan.proofs.LevelLaws.{baseRising}
 use Rattle.schedule.specs.PlainSchedule.{Timing}
 use Rattle.reclaiming.specs.declared.Entry.{Entry}
 use Rattle.orders.specs.declared.Choice.{Choice}
 use Rattle.soundness.specs.declared.Tested.{Tested}
 use Rattle.reclaiming.specs.declared.Reply.{Reply}
 use Rattle.reclaiming.specs.declared.Reply.the-variants as reply
-use Rattle.reclaiming.specs.StateBlock.{State, noEntry, workOf, remainingOf, planIn, timing, encode, decode, stateCount, places}
-use Rattle.reclaiming.specs.Orders.{nextArrival, holdOf, chooseOrder, orderWith}
+use Rattle.reclaiming.specs.StateBlock.{State, noEntry, remainingOf, restOf, planIn, timing, encode, decode, stateCount, places}
+use Rattle.reclaiming.specs.Orders.{nextArrival, runningTime, holdOf, chooseOrder, orderWith}
 use Rattle.arith.specs.Ranges.{someTo}
 use Rattle.reclaiming.specs.Passes.{arrivesAt, movedState, choosesAnew, passedState}
-use Rattle.reclaiming.specs.Questions.{largestClock, sound, stateSound, runningTime, passQuestions}
+use Rattle.reclaiming.specs.Questions.{largestClock, sound, stateSound, passQuestions}
 use Rattle.reclaiming.specs.Calls.{repliedBy, passNumber, passOrder, passReply, passBytes}
 use Rattle.state.specs.Code.{Holds, entryIn, timingIn}
 use Rattle.urgency.specs.Code.{keyOf, noKey, dueAt, Keyed}
-use Rattle.orders.specs.Code.{choiceOf, holdBy, orderOf, Enough}
+use Rattle.orders.specs.Code.{choiceOf, chosenIn, chosenReply, holdBy, orderOf, Enough}
 use Rattle.soundness.specs.Code.{Good, testedBy}
 use Rattle.ticks.specs.Code.{Stepping, renewedKeys}
 use Rattle.reclaiming.proofs.Fine.{FineEntries, Accepted}
 use Rattle.reclaiming.proofs.StateCodec.{Storable, StorableEntry, decode-encode, length-encode}
-use Rattle.reclaiming.proofs.Soundness.{planIn-at, length-planIn, accepted, fine-storable}
+use Rattle.reclaiming.proofs.Soundness.{planIn-at, length-planIn, pass-accepted, fine-storable, fine-small, sound-state}
 use Rattle.reclaiming.proofs.NextArrival.{next-arrives, before-next, next-on}
-use Rattle.reclaiming.proofs.PassedStates.{choose-entries, passed-entries}
+use Rattle.reclaiming.proofs.PassedStates.{choose-clock, choose-entries, passed-entries}
 use Rattle.reclaiming.proofs.PassSound.{fine-chosen, moved-fine}
 use Rattle.state.proofs.BlockLaws.{count-in, entry-at}
 use Rattle.urgency.proofs.KeyLaws.{key-below, keyed-after, keyed-on}
 use Rattle.orders.proofs.OrderLaws.{hold-is}
 use Rattle.soundness.proofs.SoundLaws.{tested-sound}
 use Rattle.arith.proofs.ArrayLaws.{value-at}
-use Rattle.soundness.proofs.SoundFacts.{sound-plan, sound-facts, nominal-small, entries-few, period-some, sound-state, sound-size, count-some}
+use Rattle.soundness.proofs.SoundFacts.{sound-plan, sound-facts, nominal-small, entries-few, period-some, sound-size, count-some}
 
 -- ticks from a sound block on, up to its next arrival
-pub record Reaching (bytes : List ℕ) (next d : ℕ) : Type 0 where
-  pub ok : sound baseSpeeds bytes ≡ true
+pub record Reaching (speeds bytes : List ℕ) (next d : ℕ) : Type 0 where
+  pub rising : Rising speeds
+  pub ok : sound speeds bytes ≡ true
   pub some : 1 ≤ d
   pub within : d ≤ next
-  pub arrival : next ≡ nextArrival (timingIn bytes) (decode bytes .clock)
+  pub arrival : next ≡ nextArrival (timingIn speeds bytes) (decode bytes .clock)
 
 -- the periods of a sound state's tasks are above 0
-periods : (s : State) → stateSound baseSpeeds s ≡ true → (i : ℕ) → i < length (planIn s) → 0 < timing baseSpeeds (planIn s) .period i
-periods s ok i h = period-some s ok i (omega (arith, length-planIn s))
+periods : (speeds : List ℕ) → Rising speeds → (s : State) → stateSound speeds s ≡ true → (i : ℕ) → i < length (planIn s) → 0 < timing speeds (planIn s) .period i
+periods speeds rising s ok i h = period-some speeds rising s ok i (omega (arith, length-planIn s))
 
-module _ {bytes : List ℕ} {next d : ℕ} (k : Reaching bytes next d) where
+module _ {speeds bytes : List ℕ} {next d : ℕ} (k : Reaching speeds bytes next d) where
   abbrev s : State
   s = decode bytes
 
   abbrev arrives : Bool
-  arrives = someTo (timingIn bytes .count) (arrivesAt (timingIn bytes) (s .clock + d))
+  arrives = someTo (timingIn speeds bytes .count) (arrivesAt (timingIn speeds bytes) (s .clock + d))
 
   -- a job arrives exactly at the next arrival
   arrives-then : eqb d next ≡ arrives
   arrives-then =
-      let ok : stateSound baseSpeeds s ≡ true = sound-state bytes (k .ok) in
-      let some : 1 ≤ timingIn bytes .count = sound-plan s ok .count-low in
+      let ok : stateSound speeds s ≡ true = sound-state speeds bytes (k .ok) in
+      let some : 1 ≤ timingIn speeds bytes .count = sound-plan speeds (k .rising) s ok .count-low in
       elim (ℕ-discrete d next) [
-        | yes e ↦ eq-eqb d next e ∙ sym (next-arrives (timingIn bytes) some (periods s ok) (s .clock) d (e ∙ k .arrival))
+        | yes e ↦ eq-eqb d next e ∙ sym (next-arrives (timingIn speeds bytes) some (periods speeds (k .rising) s ok) (s .clock) d (e ∙ k .arrival))
         | no e ↦
             ne-eqb d next e
-            ∙ sym (before-next (timingIn bytes) some (periods s ok) (s .clock) d (k .some) (omega (arith, k .arrival, k .within, e)))
+            ∙ sym (before-next (timingIn speeds bytes) some (periods speeds (k .rising) s ok) (s .clock) d (k .some) (omega (arith, k .arrival, k .within, e)))
       ]
 
   -- so an order is chosen anew if the job finished, or there
-  pub anew-finished : {finished : Bool} → finished ≡ true → true ≡ choosesAnew (timingIn bytes) s d finished
+  pub anew-finished : {finished : Bool} → finished ≡ true → true ≡ choosesAnew (timingIn speeds bytes) s d finished
   anew-finished f = sym (ap (λ (b : Bool). pick b true arrives) f)
 
-  pub anew-arrives : {finished : Bool} → finished ≡ false → eqb d next ≡ choosesAnew (timingIn bytes) s d finished
+  pub anew-arrives : {finished : Bool} → finished ≡ false → eqb d next ≡ choosesAnew (timingIn speeds bytes) s d finished
   anew-arrives f = arrives-then ∙ sym (ap (λ (b : Bool). pick b true arrives) f)
 
 -- a pass from a sound state that the questions let through
-pub record Letting (s : State) (d : ℕ) (finished : Bool) : Type 0 where
-  pub ok : stateSound baseSpeeds s ≡ true
-  pub clear : firstNo (passQuestions baseSpeeds s d finished) ≡ 0
+pub record Letting (speeds : List ℕ) (s : State) (d : ℕ) (finished : Bool) : Type 0 where
+  pub rising : Rising speeds
+  pub few : length speeds ≤ 256
+  pub ok : stateSound speeds s ≡ true
+  pub clear : firstNo (passQuestions speeds s d finished) ≡ 0
 
-module _ {s : State} {d : ℕ} {finished : Bool} (k : Letting s d finished) where
+module _ {speeds : List ℕ} {s : State} {d : ℕ} {finished : Bool} (k : Letting speeds s d finished) where
   abbrev τ : Timing
-  τ = timing baseSpeeds (planIn s)
+  τ = timing speeds (planIn s)
 
   abbrev moved : State
-  moved = movedState baseSpeeds τ s d finished
+  moved = movedState speeds τ s d finished
 
-  lets : Accepted baseSpeeds τ s d finished
-  lets = accepted baseSpeeds s d finished (k .clear)
+  lets : Accepted speeds τ s d finished
+  lets = pass-accepted speeds s d finished (k .clear) .0
 
-  plan : FineList baseSpeeds (length (planIn s)) (planIn s)
-  plan = sound-plan s (k .ok)
+  late : s .clock + d ≤ largestClock
+  late = pass-accepted speeds s d finished (k .clear) .1
+
+  plan : FineList speeds (length (planIn s)) (planIn s)
+  plan = sound-plan speeds (k .rising) s (k .ok)
 
   -- the moved state is fine but for its order, so it fits its block
-  moved-facts : FineEntries baseSpeeds (planIn s) moved
-  moved-facts = moved-fine baseSpeeds baseRising (planIn s) plan s (sound-facts s (k .ok)) d finished lets
+  moved-facts : FineEntries speeds (planIn s) moved
+  moved-facts = moved-fine speeds (k .rising) (planIn s) plan s (sound-facts speeds (k .rising) s (k .ok)) d finished lets
 
   moved-count : length (moved .entries) ≡ length (s .entries)
   moved-count = sym (length-planIn moved) ∙ ap length (moved-facts .plan) ∙ length-planIn s
 
   moved-storable : Storable moved
   moved-storable =
-      let old : Storable s = fine-storable baseSpeeds (planIn s) s plan baseRising (omega arith) (sound-facts s (k .ok)) in
-      let new : Storable (chooseOrder baseSpeeds τ moved) =
-      fine-storable baseSpeeds (planIn s) (chooseOrder baseSpeeds τ moved) plan baseRising (omega arith)
-      (fine-chosen baseSpeeds (planIn s) (plan .tasks .admitted) moved moved-facts) in
-      let same : chooseOrder baseSpeeds τ moved .entries ≡ moved .entries = choose-entries baseSpeeds τ moved in
+      let old = fine-small speeds (planIn s) s plan (k .few) (sound-facts speeds (k .rising) s (k .ok)) in
+      let clock : chooseOrder speeds τ moved .clock ≡ s .clock + d = choose-clock speeds τ moved in
+      let new : Storable (chooseOrder speeds τ moved) =
+      fine-storable speeds (planIn s) (chooseOrder speeds τ moved) plan (k .rising) (k .few)
+      (fine-chosen speeds (planIn s) (plan .tasks .admitted) moved moved-facts) (omega (arith, clock, late)) in
+      let same : chooseOrder speeds τ moved .entries ≡ moved .entries = choose-entries speeds τ moved in
       record {
-        clock = omega (arith, moved-facts .clock);
-        task = old .task;
-        level = old .level;
-        count = omega (arith, moved-count, entries-few s (k .ok));
+        clock = omega (arith, late);
+        task = old .0;
+        level = old .1;
+        count = omega (arith, moved-count, entries-few speeds (k .rising) s (k .ok));
         entries = subst (λ (l : List Entry). (i : ℕ) → i < length l → StorableEntry (getD l i noEntry)) same (new .entries);
       }
 
   -- at the nominal level every job can be done in its ticks
-  moved-enough : {highest : ℕ} → highest ≡ nominal baseSpeeds (planIn s) → Enough moved highest
+  moved-enough : {highest : ℕ} → highest ≡ nominal speeds (planIn s) → Enough speeds moved highest
   moved-enough e = record {
-    level = omega (arith, nominal-small s (k .ok));
+    level = omega (arith, nominal-small speeds (k .rising) s (k .ok));
     each = λ i h.
-        subst (λ (level : ℕ). need (speedOf baseSpeeds level) (workOf moved i) ≤ remainingOf moved i) (sym e)
+        subst (λ (level : ℕ). timeOf (speedOf speeds level) (restOf moved i) ≤ remainingOf moved i) (sym e)
         (moved-facts .ahead i (omega (arith, moved-count, length-planIn s)));
   }
 
   -- the order where it stays, and where it is chosen anew
   abbrev ordered : Bool → Reply
   ordered b =
-      orderWith (pick b (chooseOrder baseSpeeds τ moved) moved)
-      (pick b (holdOf baseSpeeds τ (pick b (chooseOrder baseSpeeds τ moved) moved)) (holdOf baseSpeeds τ s - d))
+      orderWith (pick b (chooseOrder speeds τ moved) moved)
+      (pick b (holdOf speeds τ (pick b (chooseOrder speeds τ moved) moved)) (holdOf speeds τ s - d))
 
   -- a pass leaves as many entries
-  passed-few : length (passedState baseSpeeds τ s d finished .entries) ≤ places
+  passed-few : length (passedState speeds τ s d finished .entries) ≤ places
   passed-few =
-      omega (arith, ap length (passed-entries baseSpeeds τ s d finished), moved-count, entries-few s (k .ok))
+      omega (arith, ap length (passed-entries speeds τ s d finished), moved-count, entries-few speeds (k .rising) s (k .ok))
 
 -- a pass from a sound block that the questions let through, with the order that stands and the next arrival
-pub record Passing (bytes keys : List ℕ) (highest next d : ℕ) (finished : Bool) (c : Choice) : Type 0 where
-  pub good : Good bytes keys highest
-  pub order : c ≡ choiceOf (decode bytes)
-  pub arrival : next ≡ nextArrival (timingIn bytes) (decode bytes .clock)
-  pub clear : firstNo (passQuestions baseSpeeds (decode bytes) d finished) ≡ 0
+pub record Passing (speeds bytes keys : List ℕ) (highest next d : ℕ) (finished : Bool) (c : Choice) : Type 0 where
+  pub rising : Rising speeds
+  pub few : length speeds ≤ 256
+  pub good : Good speeds bytes keys highest
+  pub order : c ≡ choiceOf speeds (decode bytes)
+  pub arrival : next ≡ nextArrival (timingIn speeds bytes) (decode bytes .clock)
+  pub clear : firstNo (passQuestions speeds (decode bytes) d finished) ≡ 0
 
-module _ {bytes keys : List ℕ} {highest next d : ℕ} {finished : Bool} {c : Choice} (k : Passing bytes keys highest next d finished c) where
-  letting : Letting (decode bytes) d finished
-  letting = record { ok = sound-state bytes (k .good .sound); clear = k .clear }
+module _ {speeds bytes keys : List ℕ} {highest next d : ℕ} {finished : Bool} {c : Choice} (k : Passing speeds bytes keys highest next d finished c) where
+  letting : Letting speeds (decode bytes) d finished
+  letting = record { rising = k .rising; few = k .few; ok = sound-state speeds bytes (k .good .sound); clear = k .clear }
 
-  pub stepping : Stepping bytes keys highest d
+  pub stepping : Stepping speeds bytes keys highest d
   stepping = record {
     good = k .good;
     some = lets letting .some;
     within = lets letting .within;
-    clock = lets letting .clock;
+    clock = late letting;
   }
 
-  pub reaching : Reaching bytes next d
+  pub reaching : Reaching speeds bytes next d
   reaching = record {
+    rising = k .rising;
     ok = k .good .sound;
     some = lets letting .some;
     within = omega (arith, lets letting .within, k .arrival);
     arrival = k .arrival;
   }
 
-  hold-now : holdBy c next ≡ holdOf baseSpeeds (timingIn bytes) (decode bytes)
-  hold-now = ap (λ (x : Choice). holdBy x next) (k .order) ∙ hold-is (timingIn bytes) (decode bytes) next (k .arrival)
+  hold-now : holdBy c next ≡ holdOf speeds (timingIn speeds bytes) (decode bytes)
+  hold-now = ap (λ (x : Choice). holdBy x next) (k .order) ∙ hold-is speeds (timingIn speeds bytes) (decode bytes) next (k .arrival)
 
   -- the hold that stands is at least the ticks of the pass
   pub hold-enough : (hold : ℕ) → hold ≡ holdBy c next → d ≤ hold
   hold-enough hold h =
       let s : State = decode bytes in
-      let at : hold ≡ holdOf baseSpeeds (timingIn bytes) s = h ∙ hold-now in
+      let at : hold ≡ holdOf speeds (timingIn speeds bytes) s = h ∙ hold-now in
       elim (ℕ-discrete (s .task) 255) [
         | yes e ↦
-            let z : holdOf baseSpeeds (timingIn bytes) s ≡ nextArrival (timingIn bytes) (s .clock) = simp (eq-eqb (s .task) 255 e) in
+            let z : holdOf speeds (timingIn speeds bytes) s ≡ nextArrival (timingIn speeds bytes) (s .clock) = simp (eq-eqb (s .task) 255 e) in
             omega (arith, lets letting .within)
         | no e ↦
-            let z : holdOf baseSpeeds (timingIn bytes) s ≡ min (runningTime baseSpeeds s) (nextArrival (timingIn bytes) (s .clock)) =
+            let z : holdOf speeds (timingIn speeds bytes) s ≡ min (runningTime speeds s) (nextArrival (timingIn speeds bytes) (s .clock)) =
             simp (ne-eqb (s .task) 255 e) in
             omega (arith, lets letting .within, lets letting .time (ap not (ne-eqb (s .task) 255 e)))
       ]
 
 -- and the bytes that it was moved on to
-pub record After (bytes keys : List ℕ) (highest next d : ℕ) (finished : Bool) (c : Choice) (m : List ℕ) : Type 0 where
-  pub passing : Passing bytes keys highest next d finished c
-  pub moved : m ≡ encode (movedState baseSpeeds (timingIn bytes) (decode bytes) d finished)
+pub record After (speeds bytes keys : List ℕ) (highest next d : ℕ) (finished : Bool) (c : Choice) (m : List ℕ) : Type 0 where
+  pub passing : Passing speeds bytes keys highest next d finished c
+  pub moved : m ≡ encode (movedState speeds (timingIn speeds bytes) (decode bytes) d finished)
 
-module _ {bytes keys : List ℕ} {highest next d : ℕ} {finished : Bool} {c : Choice} {m : List ℕ} (k : After bytes keys highest next d finished c m) where
+module _ {speeds bytes keys : List ℕ} {highest next d : ℕ} {finished : Bool} {c : Choice} {m : List ℕ} (k : After speeds bytes keys highest next d finished c m) where
   abbrev start : State
   start = decode bytes
 
   abbrev T : Timing
-  T = timingIn bytes
+  T = timingIn speeds bytes
 
   abbrev then : State
-  then = movedState baseSpeeds T start d finished
+  then = movedState speeds T start d finished
 
-  allowed : Letting start d finished
+  allowed : Letting speeds start d finished
   allowed = letting (k .passing)
 
   back : decode m ≡ then
   back = ap decode (k .moved) ∙ decode-encode then (moved-storable allowed)
 
-  same-timing : timingIn m ≡ T
-  same-timing = ap (λ (x : State). timing baseSpeeds (planIn x)) back ∙ ap (timing baseSpeeds) (moved-facts allowed .plan)
+  same-timing : timingIn speeds m ≡ T
+  same-timing = ap (λ (x : State). timing speeds (planIn x)) back ∙ ap (timing speeds) (moved-facts allowed .plan)
 
   same-count : stateCount m ≡ length (start .entries)
   same-count = sym (count-in m) ∙ ap (λ (x : State). length (x .entries)) back ∙ moved-count allowed
@@ -224,14 +233,14 @@ module _ {bytes keys : List ℕ} {highest next d : ℕ} {finished : Bool} {c : C
   pub after-holds : Holds m
   after-holds = record {
     size = ap length (k .moved) ∙ length-encode then (moved-storable allowed .count);
-    few = omega (arith, same-count, entries-few start (allowed .ok));
+    few = omega (arith, same-count, entries-few speeds (k .passing .rising) start (allowed .ok));
   }
 
   pub after-some : 1 ≤ stateCount m
-  after-some = omega (arith, same-count, count-in bytes, count-some bytes (k .passing .good .sound))
+  after-some = omega (arith, same-count, count-in bytes, count-some speeds (k .passing .rising) bytes (k .passing .good .sound))
 
   pub after-clock : (clock : ℕ) → clock ≡ decode m .clock → clock ≤ largestClock
-  after-clock clock t = omega (arith, clock-then, lets allowed .clock)
+  after-clock clock t = omega (arith, clock-then, late allowed)
 
   pub after-below : (count : ℕ) → count ≡ stateCount m → (i : ℕ) → i < count → getD keys i 0 < noKey
   after-below count n i h =
@@ -240,11 +249,11 @@ module _ {bytes keys : List ℕ} {highest next d : ℕ} {finished : Bool} {c : C
   pub after-again : encode (decode m) ≡ m
   after-again = ap encode back ∙ sym (k .moved)
 
-  pub after-enough : Enough (decode m) highest
-  after-enough = subst (λ (x : State). Enough x highest) (sym back) (moved-enough allowed (k .passing .good .nominal))
+  pub after-enough : Enough speeds (decode m) highest
+  after-enough = subst (λ (x : State). Enough speeds x highest) (sym back) (moved-enough allowed (k .passing .good .nominal))
 
   -- keys at its clock are keys of its block
-  keyed-then : (r : List ℕ) → Keyed T (start .clock + d) r → Keyed (timingIn m) (decode m .clock) r
+  keyed-then : (r : List ℕ) → Keyed T (start .clock + d) r → Keyed (timingIn speeds m) (decode m .clock) r
   keyed-then r new =
       subst (λ (x : Timing). Keyed x (decode m .clock) r) (sym same-timing)
       (subst (λ (x : ℕ). Keyed T x r) (sym clock-then) new)
@@ -262,10 +271,10 @@ module _ {bytes keys : List ℕ} {highest next d : ℕ} {finished : Bool} {c : C
       clock ≡ decode m .clock →
       (r : List ℕ) →
       r ≡ renewedKeys m keys count clock →
-      Keyed (timingIn m) (decode m .clock) r
+      Keyed (timingIn speeds m) (decode m .clock) r
   after-keyed count clock n t r e =
       keyed-then r
-      (keyed-after T (start .clock) keys (k .passing .good .keyed) d (lets allowed .some) (lets allowed .within) r (lets allowed .clock)
+      (keyed-after T (start .clock) keys (k .passing .good .keyed) d (lets allowed .some) (lets allowed .within) r (late allowed)
       (λ i h.
       let w : i < stateCount m = omega (arith, same-count, length-planIn start) in
       ap (λ (l : List ℕ). getD l i 0) e
@@ -277,40 +286,40 @@ module _ {bytes keys : List ℕ} {highest next d : ℕ} {finished : Bool} {c : C
     before : d < nextArrival T (start .clock)
     before = omega (arith, k .passing .arrival)
 
-    pub after-kept : Keyed (timingIn m) (decode m .clock) keys
-    after-kept = keyed-then keys (keyed-on T (start .clock) keys (k .passing .good .keyed) d (lets allowed .some) before (lets allowed .clock))
+    pub after-kept : Keyed (timingIn speeds m) (decode m .clock) keys
+    after-kept = keyed-then keys (keyed-on T (start .clock) keys (k .passing .good .keyed) d (lets allowed .some) before (late allowed))
 
-    pub after-next : next - d ≡ nextArrival (timingIn m) (decode m .clock)
+    pub after-next : next - d ≡ nextArrival (timingIn speeds m) (decode m .clock)
     after-next =
         ap (λ (x : ℕ). x - d) (k .passing .arrival)
-        ∙ sym (next-on T (plan allowed .count-low) (periods start (allowed .ok)) (start .clock) d before)
+        ∙ sym (next-on T (plan allowed .count-low) (periods speeds (k .passing .rising) start (allowed .ok)) (start .clock) d before)
         ∙ ap₂ nextArrival (sym same-timing) (sym clock-then)
 
   -- an order stays, or is chosen
   module _ (stays : choosesAnew T start d finished ≡ false) where
-    pub kept-bytes : m ≡ encode (passedState baseSpeeds T start d finished)
-    kept-bytes = k .moved ∙ ap (λ (b : Bool). encode (pick b (chooseOrder baseSpeeds T then) then)) (sym stays)
+    pub kept-bytes : m ≡ encode (passedState speeds T start d finished)
+    kept-bytes = k .moved ∙ ap (λ (b : Bool). encode (pick b (chooseOrder speeds T then) then)) (sym stays)
 
-    pub kept-reply : (hold : ℕ) → hold ≡ holdBy c next → (r : Reply) → r ≡ orderOf c (hold - d) → r ≡ passOrder baseSpeeds start d finished
+    pub kept-reply : (hold : ℕ) → hold ≡ holdBy c next → (r : Reply) → r ≡ orderOf c (hold - d) → r ≡ passOrder speeds start d finished
     kept-reply hold e r q =
         q
         ∙ ap₂ (λ (x : Choice) (y : ℕ). orderOf x (y - d)) (k .passing .order) (e ∙ hold-now (k .passing))
         ∙ ap (ordered allowed) (sym stays)
 
   module _ (anew : choosesAnew T start d finished ≡ true) where
-    pub chosen-bytes : (l : List ℕ) → l ≡ encode (chooseOrder baseSpeeds (timingIn m) (decode m)) → l ≡ encode (passedState baseSpeeds T start d finished)
+    pub chosen-bytes : (l : List ℕ) → l ≡ encode (chosenIn speeds m) → l ≡ encode (passedState speeds T start d finished)
     chosen-bytes l h =
         h
-        ∙ ap₂ (λ (x : Timing) (y : State). encode (chooseOrder baseSpeeds x y)) same-timing back
-        ∙ ap (λ (b : Bool). encode (pick b (chooseOrder baseSpeeds T then) then)) (sym anew)
+        ∙ ap₂ (λ (x : Timing) (y : State). encode (chooseOrder speeds x y)) same-timing back
+        ∙ ap (λ (b : Bool). encode (pick b (chooseOrder speeds T then) then)) (sym anew)
 
     pub chosen-reply :
         (r : Reply) →
-        r ≡ orderWith (chooseOrder baseSpeeds (timingIn m) (decode m)) (holdOf baseSpeeds (timingIn m) (chooseOrder baseSpeeds (timingIn m) (decode m))) →
-        r ≡ passOrder baseSpeeds start d finished
+        r ≡ chosenReply speeds m →
+        r ≡ passOrder speeds start d finished
     chosen-reply r h =
         h
-        ∙ ap₂ (λ (x : Timing) (y : State). orderWith (chooseOrder baseSpeeds x y) (holdOf baseSpeeds x (chooseOrder baseSpeeds x y))) same-timing back
+        ∙ ap₂ (λ (x : Timing) (y : State). orderWith (chooseOrder speeds x y) (holdOf speeds x (chooseOrder speeds x y))) same-timing back
         ∙ ap (ordered allowed) (sym anew)
 
 -- a reply that is a refusal or an order, and the bytes that go with it
@@ -327,49 +336,53 @@ stored-all : (bytes buffer : List ℕ) → length bytes ≡ length buffer → by
 stored-all bytes buffer e =
     sym (append-nil bytes) ∙ ap (λ (l : List ℕ). bytes ++ l) (sym (ap (λ (k : ℕ). drop k buffer) e ∙ drop-length buffer))
 
--- the number of a pass, by whether its block is sound
-module _ (bytes : List ℕ) (d : ℕ) (finished : Bool) where
-  abbrev numbered : Bool → ℕ
-  numbered b = pick b (firstNo (passQuestions baseSpeeds (decode bytes) d finished)) 10
+-- what a pass answers and leaves
+abbrev pub Passes : List ℕ → List ℕ → ℕ → Bool → Reply → List ℕ → Type 0
+Passes speeds bytes d finished r m = (r ≡ passReply speeds bytes d finished) × (m ≡ passBytes speeds bytes d finished)
 
-  pub number-10 : (r : Tested) → r ≡ testedBy (sound baseSpeeds bytes) bytes → r .sound ≡ false → 10 ≡ passNumber baseSpeeds bytes d finished
-  number-10 r e u = ap numbered (sym u ∙ tested-sound bytes r e)
+-- the number of a pass, by whether its block is sound
+module _ (speeds bytes : List ℕ) (d : ℕ) (finished : Bool) where
+  abbrev numbered : Bool → ℕ
+  numbered b = pick b (firstNo (passQuestions speeds (decode bytes) d finished)) 10
+
+  pub number-10 : (r : Tested) → r ≡ testedBy speeds (sound speeds bytes) bytes → r .sound ≡ false → 10 ≡ passNumber speeds bytes d finished
+  number-10 r e u = ap numbered (sym u ∙ tested-sound speeds bytes r e)
 
   pub number-is :
-      sound baseSpeeds bytes ≡ true →
+      sound speeds bytes ≡ true →
       (n : ℕ) →
-      n ≡ firstNo (passQuestions baseSpeeds (decode bytes) d finished) →
-      n ≡ passNumber baseSpeeds bytes d finished
+      n ≡ firstNo (passQuestions speeds (decode bytes) d finished) →
+      n ≡ passNumber speeds bytes d finished
   number-is ok n e = e ∙ ap numbered (sym ok)
 
   -- the bytes after a pass
   abbrev after : List ℕ
-  after = encode (passedState baseSpeeds (timingIn bytes) (decode bytes) d finished)
+  after = encode (passedState speeds (timingIn speeds bytes) (decode bytes) d finished)
 
   -- a refusal, and what it leaves
   pub refused :
       (n : ℕ) →
-      n ≡ passNumber baseSpeeds bytes d finished →
+      n ≡ passNumber speeds bytes d finished →
       (n ≡ 0 → ⊥) →
-      (reply.Refused n ≡ passReply baseSpeeds bytes d finished) × (bytes ≡ passBytes baseSpeeds bytes d finished)
+      Passes speeds bytes d finished (reply.Refused n) bytes
   refused n e h = (
-    replied-no n (passOrder baseSpeeds (decode bytes) d finished) h ∙ ap (λ (k : ℕ). repliedBy k (passOrder baseSpeeds (decode bytes) d finished)) e,
+    replied-no n (passOrder speeds (decode bytes) d finished) h ∙ ap (λ (k : ℕ). repliedBy k (passOrder speeds (decode bytes) d finished)) e,
     stored-no n after bytes h ∙ ap (λ (k : ℕ). storedBy k after bytes) e,
   )
 
 -- an order, and the bytes that it leaves
 pub accepts :
-    {bytes keys : List ℕ} {highest next d : ℕ} {finished : Bool} {c : Choice} →
-    Passing bytes keys highest next d finished c →
+    {speeds bytes keys : List ℕ} {highest next d : ℕ} {finished : Bool} {c : Choice} →
+    Passing speeds bytes keys highest next d finished c →
     (r : Reply) (l : List ℕ) →
-    r ≡ passOrder baseSpeeds (decode bytes) d finished →
-    l ≡ encode (passedState baseSpeeds (timingIn bytes) (decode bytes) d finished) →
-    (r ≡ passReply baseSpeeds bytes d finished) × (l ≡ passBytes baseSpeeds bytes d finished)
-accepts {bytes} {keys} {highest} {next} {d} {finished} k r l a b =
-    let ok : sound baseSpeeds bytes ≡ true = k .good .sound in
-    let none : 0 ≡ passNumber baseSpeeds bytes d finished = number-is bytes d finished ok 0 (sym (k .clear)) in
-    let same : length (after bytes d finished) ≡ length bytes =
-    length-encode (passedState baseSpeeds (timingIn bytes) (decode bytes) d finished) (passed-few (letting k)) ∙ sym (sound-size bytes ok) in (
-      a ∙ ap (λ (n : ℕ). repliedBy n (passOrder baseSpeeds (decode bytes) d finished)) none,
-      b ∙ stored-all (after bytes d finished) bytes same ∙ ap (λ (n : ℕ). storedBy n (after bytes d finished) bytes) none,
+    r ≡ passOrder speeds (decode bytes) d finished →
+    l ≡ encode (passedState speeds (timingIn speeds bytes) (decode bytes) d finished) →
+    Passes speeds bytes d finished r l
+accepts {speeds} {bytes} {keys} {highest} {next} {d} {finished} k r l a b =
+    let ok : sound speeds bytes ≡ true = k .good .sound in
+    let none : 0 ≡ passNumber speeds bytes d finished = number-is speeds bytes d finished ok 0 (sym (k .clear)) in
+    let same : length (after speeds bytes d finished) ≡ length bytes =
+    length-encode (passedState speeds (timingIn speeds bytes) (decode bytes) d finished) (passed-few (letting k)) ∙ sym (sound-size speeds (k .rising) bytes ok) in (
+      a ∙ ap (λ (n : ℕ). repliedBy n (passOrder speeds (decode bytes) d finished)) none,
+      b ∙ stored-all (after speeds bytes d finished) bytes same ∙ ap (λ (n : ℕ). storedBy n (after speeds bytes d finished) bytes) none,
     )

@@ -19,6 +19,7 @@ ghost use mathlib.Core.Path.{_≡_};
 ghost use mathlib.Core.Bool.{true};
 ghost use Prim.Native.Nat.{_≤_};
 ghost use Rattle.plan.specs.Levels.{baseSpeeds};
+ghost use Rattle.levels.specs.Code.{loaded, Table};
 ghost use Rattle.arith.specs.Asking.{firstNo};
 ghost use Rattle.reclaiming.specs.StateBlock.{encode, decode};
 ghost use Rattle.reclaiming.specs.Orders.{nextArrival};
@@ -30,10 +31,17 @@ ghost use Rattle.orders.specs.Code.{choiceOf};
 ghost use Rattle.soundness.specs.Code.{Good};
 
 // Whether an order is chosen anew after d ticks, of which the block knows nothing yet: the job finished, or one arrives.
-fn chooses_anew(block: &[u8], next: u32, d: u32, finished: bool) -> bool
-    requires { ⌜ (sound baseSpeeds (now block) ≡ true) × (1 ≤ d) × (d ≤ next) ⌝ }
-    requires { ⌜ next ≡ nextArrival (timingIn (now block)) (decode (now block) .clock) ⌝ }
-    ensures { λ r. ⌜ r ≡ choosesAnew (timingIn (now (block .entry))) (decode (now (block .entry))) d finished ⌝ }
+fn chooses_anew(
+    speeds: &[u32; 8],
+    levels: usize,
+    block: &[u8],
+    next: u32,
+    d: u32,
+    finished: bool,
+) -> bool
+    requires { ⌜ Table (now speeds) levels × (sound (loaded (now speeds) levels) (now block) ≡ true) × (1 ≤ d) × (d ≤ next) ⌝ }
+    requires { ⌜ next ≡ nextArrival (timingIn (loaded (now speeds) levels) (now block)) (decode (now block) .clock) ⌝ }
+    ensures { λ r. ⌜ r ≡ choosesAnew (timingIn (loaded (now (speeds .entry)) levels) (now (block .entry))) (decode (now (block .entry))) d finished ⌝ }
 {
     if finished {
         return true;
@@ -43,6 +51,8 @@ fn chooses_anew(block: &[u8], next: u32, d: u32, finished: bool) -> bool
 
 // A pass that the questions let through: the state after it, and its order.
 fn passed(
+    speeds: &[u32; 8],
+    levels: usize,
     block: &mut [u8],
     keys: &[u64; PLACES],
     c: Choice,
@@ -51,22 +61,25 @@ fn passed(
     d: u32,
     finished: bool,
 ) -> Reply
-    requires { ⌜ Good (now block) (now keys) highest × (c ≡ choiceOf (decode (now block))) ⌝ }
-    requires { ⌜ next ≡ nextArrival (timingIn (now block)) (decode (now block) .clock) ⌝ }
-    requires { ⌜ firstNo (passQuestions baseSpeeds (decode (now block)) d finished) ≡ 0 ⌝ }
-    ensures { λ r. ⌜ r ≡ passOrder baseSpeeds (decode (now (block .entry))) d finished ⌝ }
-    ensures { λ _. ⌜ now (block .exit) ≡ encode (passedState baseSpeeds (timingIn (now (block .entry))) (decode (now (block .entry))) d finished) ⌝ }
+    requires { ⌜ Table (now speeds) levels × Good (loaded (now speeds) levels) (now block) (now keys) highest ⌝ }
+    requires { ⌜ c ≡ choiceOf (loaded (now speeds) levels) (decode (now block)) ⌝ }
+    requires { ⌜ next ≡ nextArrival (timingIn (loaded (now speeds) levels) (now block)) (decode (now block) .clock) ⌝ }
+    requires { ⌜ firstNo (passQuestions (loaded (now speeds) levels) (decode (now block)) d finished) ≡ 0 ⌝ }
+    ensures { λ r. ⌜ r ≡ passOrder (loaded (now (speeds .entry)) levels) (decode (now (block .entry))) d finished ⌝ }
+    ensures { λ _. ⌜ now (block .exit) ≡ encode (passedState (loaded (now (speeds .entry)) levels)
+        (timingIn (loaded (now (speeds .entry)) levels) (now (block .entry)))
+        (decode (now (block .entry))) d finished) ⌝ }
 {
-    let anew = chooses_anew(block, next, d, finished);
-    move_on(block, keys, c, highest, next, d, finished);
+    let anew = chooses_anew(speeds, levels, block, next, d, finished);
+    move_on(speeds, levels, block, keys, c, highest, next, d, finished);
     if !anew {
         return order_of(c, hold_of(c, next) - d);
     }
     if d < next {
-        return choose_until(block, keys, highest, next - d);
+        return choose_until(speeds, levels, block, keys, highest, next - d);
     }
     let u = renewed(block, keys, count_at(block), clock_at(block));
-    choose(block, &u, highest)
+    choose(speeds, levels, block, &u, highest)
 }
 
 // A pass over the state in a block. Refused, it leaves every byte; accepted, the block holds the state after it.
@@ -74,17 +87,28 @@ pub fn pass(state: &mut [u8], d: u32, finished: bool) -> Reply
     ensures { λ r. ⌜ r ≡ passReply baseSpeeds (now (state .entry)) d finished ⌝ }
     ensures { λ _. ⌜ now (state .exit) ≡ passBytes baseSpeeds (now (state .entry)) d finished ⌝ }
 {
-    let b = test_block(state);
+    let speeds = levels::base();
+    let b = test_block(&speeds, levels::LEVELS, state);
     if !b.sound {
         return Reply::Refused(10);
     }
     let keys = b.keys;
     let clock = clock_at(state);
     let next = next_arrival(&keys, count_at(state), clock);
-    let c = standing(state);
+    let c = standing(&speeds, levels::LEVELS, state);
     let n = pass_number(Clock::new(clock), c, next, d, finished);
     if n != 0 {
         return Reply::Refused(n);
     }
-    passed(state, &keys, c, b.nominal, next, d, finished)
+    passed(
+        &speeds,
+        levels::LEVELS,
+        state,
+        &keys,
+        c,
+        b.nominal,
+        next,
+        d,
+        finished,
+    )
 }

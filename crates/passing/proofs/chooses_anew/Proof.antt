@@ -1,11 +1,12 @@
 -- `chooses_anew` meets its contract.
 -- Assumes nothing.
+use Rattle.levels.specs.Code.{loaded}
 use Rattle.passing.proofs.PassLaws.{Reaching, anew-finished, anew-arrives}
 use Rattle.passing.proofs.chooses_anew.Statement.{statement}
 use Rattle.passing.proofs.chooses_anew.Tie as tie
 
-reaching : (c : tie.Start) → Reaching (c .args .block .now) (c .args .next) (c .args .d)
-reaching c = record { ok = c .pre .0 .0; some = c .pre .0 .1; within = c .pre .0 .2; arrival = c .pre .1 }
+reaching : (c : tie.Start) → Reaching (loaded (c .args .speeds .now) (c .args .levels)) (c .args .block .now) (c .args .next) (c .args .d)
+reaching c = record { rising = c .pre .0 .0 .rising; ok = c .pre .0 .1; some = c .pre .0 .2; within = c .pre .0 .3; arrival = c .pre .1 }
 
 returns : tie.Need-returns
 returns c = let s : tie.Start = search in anew-finished (reaching s) (c .if1 .taken)

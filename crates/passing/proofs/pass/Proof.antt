@@ -1,12 +1,14 @@
 -- `pass` meets its contract: the block is not sound, a question is answered no, or the pass is made.
 -- Assumes nothing.
 use Prim.Native.Nat.{ℕ}
-use mathlib.Core.Path.{_≡_, sym, ap, _∙_}
+use mathlib.Core.Path.{_≡_, sym, subst, ap, _∙_}
 use mathlib.Core.List.{List}
 use native.Mathlib.Omega.{arith}
 use borrow.Author.Needs.{needs}
 use borrow.Author.Tests.{not-true, not-false}
-use Rattle.plan.specs.Levels.{baseSpeeds}
+use Rattle.plan.specs.Levels.{Rising, baseSpeeds}
+use Rattle.levels.specs.Code.{loaded}
+use Rattle.levels.proofs.Tables.{levels-are, loaded-base}
 use Rattle.arith.specs.Asking.{firstNo}
 use Rattle.reclaiming.specs.StateBlock.{decode}
 use Rattle.reclaiming.specs.Orders.{nextArrival}
@@ -14,24 +16,30 @@ use Rattle.reclaiming.specs.Questions.{passQuestions}
 use Rattle.state.specs.Code.{timingIn}
 use Rattle.orders.specs.declared.Choice.{Choice}
 use Rattle.soundness.specs.Code.{Good}
-use Rattle.soundness.proofs.SoundFacts.{runnable, sound-state, sound-clock, count-some}
+use Rattle.soundness.proofs.SoundFacts.{runnable, count-some}
+use Rattle.reclaiming.proofs.Soundness.{sound-state, sound-clock}
+use Rattle.reclaiming.specs.declared.Reply.{Reply}
+use Rattle.orders.specs.Code.{Runnable}
 use Rattle.soundness.proofs.SoundLaws.{tested-good}
 use Rattle.orders.proofs.OrderLaws.{Timed, choose-next, choose-when}
 use Rattle.pass_questions.specs.Code.{timeQuestions}
 use Rattle.pass_questions.proofs.QuestionSteps.{asked-is}
-use Rattle.passing.proofs.PassLaws.{Passing, number-10, number-is, refused, accepts}
+use Rattle.passing.proofs.PassLaws.{Passing, Passes, number-10, number-is, refused, accepts}
 use Rattle.passing.proofs.pass.Statement.{statement}
 use Rattle.passing.proofs.pass.Tie as tie
 
 -- the places that others are reached from
+abbrev made : tie.Else1 → tie.After-base
+made c = c .before .before .before .before .before
+
 abbrev begun : tie.Else1 → tie.Start
-begun c = c .before .before .before .before .before
+begun c = made c .before .before
 
 abbrev sound : tie.After-count-at → tie.Else1
 sound c = c .before .before .before .before .before .before
 
 abbrev arrival : tie.After-pass-number → tie.After-next-arrival
-arrival c = c .before .before .before .before
+arrival c = c .before .before .before .before .before
 
 abbrev tested : tie.After-pass-number → tie.Else1
 tested c = sound (arrival c .before)
@@ -39,60 +47,87 @@ tested c = sound (arrival c .before)
 abbrev start : tie.After-pass-number → tie.Start
 start c = begun (tested c)
 
+-- the speeds of 01's table, as they are handed over
+abbrev table : tie.After-base → List ℕ
+table c = loaded (c .base .result) 8
+
+-- what is answered and left over them is so over 01's
+over-base :
+    (c : tie.After-base) {r : Reply} {m : List ℕ} →
+    let s : tie.Start = c .before .before in
+    Passes (table c) (s .args .state .now) (s .args .d) (s .args .finished) r m →
+    Passes baseSpeeds (s .args .state .now) (s .args .d) (s .args .finished) r m
+over-base c {r} {m} l =
+    let s : tie.Start = c .before .before in
+    subst (λ (x : List ℕ). Passes x (s .args .state .now) (s .args .d) (s .args .finished) r m) (loaded-base (c .base .ensures .0)) l
+
 -- past the first test the block is sound
 abbrev bytes : tie.Else1 → List ℕ
 bytes c = begun c .args .state .now
 
-good : (c : tie.Else1) → Good (bytes c) (c .before .before .test-block .result .keys) (c .before .before .test-block .result .nominal)
+abbrev speeds : tie.Else1 → List ℕ
+speeds c = table (made c)
+
+rising : (c : tie.Else1) → Rising (speeds c)
+rising c = made c .base .ensures .1 .rising
+
+good : (c : tie.Else1) → Good (speeds c) (bytes c) (c .before .before .test-block .result .keys) (c .before .before .test-block .result .nominal)
 good c =
-    tested-good (bytes c) (c .before .before .test-block .result) (c .before .before .test-block .ensures)
+    tested-good (speeds c) (bytes c) (c .before .before .test-block .result) (c .before .before .test-block .ensures) (rising c)
     (not-false (c .before .before .test-block .result .sound) (c .if1 .left))
 
-timed : (c : tie.After-count-at) → Timed (bytes (sound c)) (sound c .before .before .test-block .result .keys) (c .count-at .result) (c .before .before .before .clock-at .result)
+timed : (c : tie.After-count-at) → Timed (speeds (sound c)) (bytes (sound c)) (sound c .before .before .test-block .result .keys) (c .count-at .result) (c .before .before .before .clock-at .result)
 timed c = record {
   holds = good (sound c) .holds;
-  some = count-some (bytes (sound c)) (good (sound c) .sound);
+  some = count-some (speeds (sound c)) (rising (sound c)) (bytes (sound c)) (good (sound c) .sound);
   keyed = good (sound c) .keyed;
   same = c .count-at .ensures;
   clock-is = c .before .before .before .clock-at .ensures;
 }
 
 -- the ticks to the next arrival, and the first no of the questions
-next : (c : tie.After-next-arrival) → c .next-arrival .result ≡ nextArrival (timingIn (bytes (sound (c .before)))) (decode (bytes (sound (c .before))) .clock)
+next : (c : tie.After-next-arrival) → c .next-arrival .result ≡ nextArrival (timingIn (speeds (sound (c .before))) (bytes (sound (c .before)))) (decode (bytes (sound (c .before))) .clock)
 next c = choose-when (timed (c .before)) (c .next-arrival .result) (c .next-arrival .ensures)
 
-number : (c : tie.After-pass-number) → c .pass-number .result ≡ firstNo (passQuestions baseSpeeds (decode (bytes (tested c))) (start c .args .d) (start c .args .finished))
+number : (c : tie.After-pass-number) → c .pass-number .result ≡ firstNo (passQuestions (speeds (tested c)) (decode (bytes (tested c))) (start c .args .d) (start c .args .finished))
 number c =
     c .pass-number .ensures
     ∙ ap (λ (x : Choice). firstNo (timeQuestions (c .before .new .result .ticks) x (arrival c .next-arrival .result) (start c .args .d) (start c .args .finished)))
     (c .before .before .standing .ensures)
-    ∙ asked-is (decode (bytes (tested c))) (c .before .new .result .ticks) (arrival c .next-arrival .result) (start c .args .d) (start c .args .finished)
+    ∙ asked-is (speeds (tested c)) (decode (bytes (tested c))) (c .before .new .result .ticks) (arrival c .next-arrival .result) (start c .args .d) (start c .args .finished)
     (c .before .new .ensures ∙ timed (arrival c .before) .clock-is) (next (arrival c))
 
 passing :
     (c : tie.Else2) →
-    Passing (bytes (tested (c .before))) (tested (c .before) .before .before .test-block .result .keys) (tested (c .before) .before .before .test-block .result .nominal)
+    Passing (speeds (tested (c .before))) (bytes (tested (c .before))) (tested (c .before) .before .before .test-block .result .keys) (tested (c .before) .before .before .test-block .result .nominal)
     (arrival (c .before) .next-arrival .result) (start (c .before) .args .d) (start (c .before) .args .finished) (c .before .before .before .standing .result)
 passing c = record {
+  rising = rising (tested (c .before));
+  few = omega (arith, levels-are (made (tested (c .before)) .base .ensures .1));
   good = good (tested (c .before));
   order = c .before .before .before .standing .ensures;
   arrival = next (arrival (c .before));
   clear = sym (number (c .before)) ∙ c .if2 .left;
 }
 
+base-requires : tie.Need-base-requires
+base-requires c κs = search needs
+
 test-block-requires : tie.Need-test-block-requires
-test-block-requires c κs = search needs
+test-block-requires c κs = c .before .before .base .ensures .1
 
 same-length : tie.Need-same-length
 same-length c = search needs
 
 returns : tie.Need-returns
 returns c =
-    let s : tie.Start = c .before .before .before .before .before in
-    refused (s .args .state .now) (s .args .d) (s .args .finished) 10
-    (number-10 (s .args .state .now) (s .args .d) (s .args .finished) (c .before .before .test-block .result) (c .before .before .test-block .ensures)
+    let b : tie.After-base = c .before .before .before .before .before in
+    let s : tie.Start = b .before .before in
+    over-base b
+    (refused (table b) (s .args .state .now) (s .args .d) (s .args .finished) 10
+    (number-10 (table b) (s .args .state .now) (s .args .d) (s .args .finished) (c .before .before .test-block .result) (c .before .before .test-block .ensures)
     (not-true (c .before .before .test-block .result .sound) (c .if1 .taken)))
-    (λ e. omega arith)
+    (λ e. omega arith))
 
 clock-at-requires : tie.Need-clock-at-requires
 clock-at-requires c κs = good (c .before .before) .holds .size
@@ -105,16 +140,21 @@ next-arrival-requires c κs = choose-next (timed c)
 
 standing-requires : tie.Need-standing-requires
 standing-requires c κs =
-    let e : tie.Else1 = sound (c .before .before) in
-    (good e .holds, runnable (decode (bytes e)) (sound-state (bytes e) (good e .sound)))
+    let e : tie.Else1 = sound (c .before .before .before) in
+    let table-is = made e .base .ensures .1 in (
+      table-is,
+      good e .holds,
+      subst (λ (n : ℕ). Runnable n (decode (bytes e))) (levels-are table-is)
+          (runnable (speeds e) (rising e) (decode (bytes e)) (sound-state (speeds e) (bytes e) (good e .sound))),
+    )
 
 new-requires : tie.Need-new-requires
 new-requires c κs = search needs
 
 pass-number-requires : tie.Need-pass-number-requires
 pass-number-requires c κs =
-    let e : tie.Else1 = sound (c .before .before .before .before) in
-    omega (arith, c .new .ensures, timed (c .before .before .before .before) .clock-is, sound-clock (bytes e) (good e .sound))
+    let e : tie.Else1 = sound (c .before .before .before .before .before) in
+    omega (arith, c .new .ensures, timed (c .before .before .before .before .before) .clock-is, sound-clock (speeds e) (bytes e) (good e .sound))
 
 same-length-2 : tie.Need-same-length-2
 same-length-2 c = search needs
@@ -122,27 +162,33 @@ same-length-2 c = search needs
 returns-2 : tie.Need-returns-2
 returns-2 c =
     let s : tie.Start = start (c .before) in
-    refused (s .args .state .now) (s .args .d) (s .args .finished) (c .before .pass-number .result)
-    (number-is (s .args .state .now) (s .args .d) (s .args .finished) (good (tested (c .before)) .sound) (c .before .pass-number .result) (number (c .before)))
-    (c .if2 .taken)
+    let e : tie.Else1 = tested (c .before) in
+    over-base (made e)
+    (refused (speeds e) (s .args .state .now) (s .args .d) (s .args .finished) (c .before .pass-number .result)
+    (number-is (speeds e) (s .args .state .now) (s .args .d) (s .args .finished) (good e .sound) (c .before .pass-number .result) (number (c .before)))
+    (c .if2 .taken))
 
 passed-requires : tie.Need-passed-requires
 passed-requires c κs =
-    let k = passing (c .before .before) in
-    ((k .good, k .order), (k .arrival, k .clear))
+    let e : tie.Else2 = c .before .before .before in
+    let k = passing e in
+    ((made (tested (e .before)) .base .ensures .1, k .good), (k .order, (k .arrival, k .clear)))
 
 same-length-3 : tie.Need-same-length-3
 same-length-3 c = search needs
 
 returns-3 : tie.Need-returns-3
 returns-3 c =
-    accepts (passing (c .before .before .before .before .before)) (c .before .before .passed .result) (c .before .before .passed .last .0)
-    (c .before .before .passed .ensures .0) (c .before .before .passed .ensures .1)
+    let e : tie.Else2 = c .before .before .before .before .before .before in
+    over-base (made (tested (e .before)))
+    (accepts (passing e) (c .before .before .passed .result) (c .before .before .passed .last .1 .1 .0)
+    (c .before .before .passed .ensures .0) (c .before .before .passed .ensures .1))
 
 pub pass-spec : {M : Type 1} → statement M
 pass-spec =
     tie.close
     (tie.spec
+    base-requires
     test-block-requires
     same-length
     returns

@@ -7,6 +7,8 @@ use mathlib.Core.List.{List}
 use native.Mathlib.Omega.{arith}
 use borrow.Author.Needs.{needs}
 use borrow.Author.Tests.{not-true, not-false}
+use Rattle.levels.specs.Code.{loaded}
+use Rattle.levels.proofs.Tables.{levels-are}
 use Rattle.reclaiming.specs.StateBlock.{decode}
 use Rattle.reclaiming.specs.Passes.{choosesAnew}
 use Rattle.state.specs.Code.{timingIn}
@@ -21,8 +23,18 @@ block c = c .args .block .now
 abbrev keys : tie.Start → List ℕ
 keys c = c .args .keys .now
 
-passing : (c : tie.Start) → Passing (block c) (keys c) (c .args .highest) (c .args .next) (c .args .d) (c .args .finished) (c .args .c)
-passing c = record { good = c .pre .0 .0; order = c .pre .0 .1; arrival = c .pre .1 .0; clear = c .pre .1 .1 }
+abbrev table : tie.Start → List ℕ
+table c = loaded (c .args .speeds .now) (c .args .levels)
+
+passing : (c : tie.Start) → Passing (table c) (block c) (keys c) (c .args .highest) (c .args .next) (c .args .d) (c .args .finished) (c .args .c)
+passing c = record {
+  rising = c .pre .0 .0 .rising;
+  few = omega (arith, levels-are (c .pre .0 .0), c .pre .0 .0 .few);
+  good = c .pre .0 .1;
+  order = c .pre .1 .0;
+  arrival = c .pre .1 .1 .0;
+  clear = c .pre .1 .1 .1;
+}
 
 -- what is known once the block is moved on
 abbrev asked : tie.After-slice-known2 → tie.After-chooses-anew
@@ -33,31 +45,33 @@ start c = asked c .before .before .before
 
 moved :
     (c : tie.After-slice-known2) →
-    After (block (start c)) (keys (start c)) (start c .args .highest) (start c .args .next) (start c .args .d) (start c .args .finished) (start c .args .c)
-    (c .before .before .move-on .last .0)
+    After (table (start c)) (block (start c)) (keys (start c)) (start c .args .highest) (start c .args .next) (start c .args .d) (start c .args .finished) (start c .args .c)
+    (c .before .before .move-on .last .1 .1 .0)
 moved c = record { passing = passing (start c); moved = c .before .before .move-on .ensures }
 
 stays :
     (c : tie.Then1) →
     let s : tie.Start = start (c .before) in
-    choosesAnew (timingIn (block s)) (decode (block s)) (s .args .d) (s .args .finished) ≡ false
+    choosesAnew (timingIn (table s) (block s)) (decode (block s)) (s .args .d) (s .args .finished) ≡ false
 stays c = sym (asked (c .before) .chooses-anew .ensures) ∙ not-true _ (c .if1 .taken)
 
 anew :
     (c : tie.Else1) →
     let s : tie.Start = start (c .before) in
-    choosesAnew (timingIn (block s)) (decode (block s)) (s .args .d) (s .args .finished) ≡ true
+    choosesAnew (timingIn (table s) (block s)) (decode (block s)) (s .args .d) (s .args .finished) ≡ true
 anew c = sym (asked (c .before) .chooses-anew .ensures) ∙ not-false _ (c .if1 .left)
 
 chooses-anew-requires : tie.Need-chooses-anew-requires
 chooses-anew-requires c κs =
-    let k = reaching (passing (c .before .before)) in
-    ((k .ok, k .some, k .within), k .arrival)
+    let s : tie.Start = c .before .before in
+    let k = reaching (passing s) in
+    ((s .pre .0 .0, k .ok, k .some, k .within), k .arrival)
 
 move-on-requires : tie.Need-move-on-requires
 move-on-requires c κs =
-    let k = passing (c .before .before .before .before) in
-    ((stepping k, k .order), k .arrival)
+    let s : tie.Start = c .before .before .before .before in
+    let k = passing s in
+    ((s .pre .0 .0, stepping k), (k .order, k .arrival))
 
 hold-of-requires : tie.Need-hold-of-requires
 hold-of-requires c κs = search needs
@@ -85,8 +99,10 @@ sub-choose-until c = omega (arith, reaching (passing (start (c .before .before .
 choose-until-requires : tie.Need-choose-until-requires
 choose-until-requires c κs =
     let early : tie.Then2 = c .before in
-    let k = moved (early .before .before) in
-    ((after-holds k, after-again k, after-enough k), (after-kept k (early .if2 .taken), after-next k (early .if2 .taken)))
+    let k = moved (early .before .before) in (
+      (start (early .before .before) .pre .0 .0, after-holds k, after-again k),
+      (after-enough k, (after-kept k (early .if2 .taken), after-next k (early .if2 .taken))),
+    )
 
 same-length-2 : tie.Need-same-length-2
 same-length-2 c = search needs
@@ -97,7 +113,7 @@ returns-2 c =
     let e : tie.Else1 = done .before .before .before in
     let k = moved (e .before) in (
       chosen-reply k (anew e) (done .choose-until .result) (done .choose-until .ensures .0),
-      chosen-bytes k (anew e) (done .choose-until .last .0) (done .choose-until .ensures .1),
+      chosen-bytes k (anew e) (done .choose-until .last .1 .1 .0) (done .choose-until .ensures .1),
     )
 
 count-at-requires : tie.Need-count-at-requires
@@ -118,10 +134,14 @@ choose-requires c κs =
     let new : tie.After-renewed = c .before .before in
     let clocked : tie.After-clock-at = new .before in
     let counted : tie.After-count-at = clocked .before in
-    let k = moved (counted .before .before .before .before) in (
-      (after-holds k, after-some k, after-again k, after-enough k),
-      after-keyed k (counted .count-at .result) (clocked .clock-at .result) (counted .count-at .ensures) (clocked .clock-at .ensures)
-          (new .renewed .result) (new .renewed .ensures),
+    let m : tie.After-slice-known2 = counted .before .before .before .before in
+    let k = moved m in (
+      (start m .pre .0 .0, after-holds k, after-some k, after-again k),
+      (
+        after-enough k,
+        after-keyed k (counted .count-at .result) (clocked .clock-at .result) (counted .count-at .ensures) (clocked .clock-at .ensures)
+            (new .renewed .result) (new .renewed .ensures),
+      ),
     )
 
 same-length-3 : tie.Need-same-length-3
@@ -133,7 +153,7 @@ returns-3 c =
     let e : tie.Else1 = search in
     let k = moved (e .before) in (
       chosen-reply k (anew e) (done .choose .result) (done .choose .ensures .0),
-      chosen-bytes k (anew e) (done .choose .last .0) (done .choose .ensures .1),
+      chosen-bytes k (anew e) (done .choose .last .1 .1 .0) (done .choose .ensures .1),
     )
 
 pub passed-spec : {M : Type 1} → statement M
