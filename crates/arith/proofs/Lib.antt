@@ -7,6 +7,7 @@ pub mod BitLaws
 pub mod FieldLaws
 pub mod Stores
 pub mod Sums
+pub mod Rearrangements
 pub mod QuestionLaws
 pub mod RangeLaws
 pub mod Searches

@@ -1,5 +1,6 @@
 pub mod Choice
 pub mod Sum
+pub mod Rearranging
 pub mod Need
 pub mod Divisor
 pub mod Digits

@@ -12,7 +12,7 @@ use Rattle.arith.specs.Choice.{every}
 use Rattle.arith.specs.Need.{need}
 use Rattle.arith.specs.Digits.{number, digits}
 use Rattle.arith.specs.Bits.{fieldsBits, unpacked}
-use Rattle.arith.proofs.ListLaws.{getD-early, getD-later}
+use Rattle.arith.proofs.ListLaws.{getD-early}
 use Rattle.arith.proofs.BitLaws.{every-zero, length-unpacked, length-packed, packed-at}
 use Rattle.arith.proofs.FieldLaws.{Below, below-append, digits-below, field-bit, field-past, length-fields, fields-below}
 use Rattle.plan.specs.declared.Task.{Task}

@@ -1,13 +1,12 @@
 -- `slowest_for` meets its contract.
 -- Assumes nothing.
 use Prim.Native.Nat.{ℕ, zero-le, _≤_, _-_, _*_}
-use mathlib.Core.List.{List}
 use native.Mathlib.Nat.{mul-le-mul}
 use native.Mathlib.Omega.{arith}
 use borrow.Author.Tests.{le-leb, lt-leb}
 use lib.ListN.{getD}
 use Rattle.arith.specs.Choice.{first}
-use Rattle.levels.specs.Code.{loaded, Table}
+use Rattle.levels.specs.Code.{loaded}
 use Rattle.levels.proofs.Tables.{speed-most}
 use Rattle.admission.proofs.Admissions.{does, Trying, level-found, level-next, level-none}
 use Rattle.admission.proofs.slowest_for.Statement.{statement}
