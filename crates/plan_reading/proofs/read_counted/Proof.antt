@@ -81,7 +81,7 @@ refused-requires c κs = search needs
 returns : tie.Need-returns
 returns c =
     let read = c .before .before in
-    read-closing (speeds (read .before)) (closing read) (c .refused .ensures) (c .before .if1 .taken)
+    read-closing (speeds (read .before)) (closing read) (c .refused .ensures) (λ e. omega (arith, c .before .if1 .taken, e))
 
 plan-in-requires : tie.Need-plan-in-requires
 plan-in-requires c κs =
