@@ -142,8 +142,8 @@ pub fn copy(block: &[u8], buffer: &mut [u8]) -> Written
     if let Verdict::Refused(n) = v {
         return Written::Refused(n);
     }
-    let p = j.plan;
-    write_over(&speeds, levels::LEVELS, p, buffer)
+    let q = j.plan;
+    write_over(&speeds, levels::LEVELS, q, buffer)
 }
 
 // A plan written and read back: judged as the plan itself is, where there is room for its block.
