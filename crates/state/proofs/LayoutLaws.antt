@@ -306,21 +306,23 @@ module _ {block : List ℕ} (known : BlockBytes block) where
     zero-not f =
         sym
         (layout
-        ∙ ap (λ (t : Bool). both t (both (pairsIn block) (both (zerosPast block) true))) (head-is ∙ ne-eqb z 0 f))
+        ∙ ap (λ (t : Bool). both t (both (pairsIn block) (both (zerosPast block) (zerosIn tailFields 0 tail)))) (head-is ∙ ne-eqb z 0 f))
 
     module _ (zero-byte : z ≡ 0) {count : ℕ} (counted : count ≡ stateCount block) {x : Bool} (paired : x ≡ pairsZero count (drop headLength block)) where
-      head-zero : laidOut block ≡ both x (zerosPast block)
+      abbrev past : Bool
+      past = both (zerosPast block) (zerosIn tailFields 0 tail)
+
+      head-zero : laidOut block ≡ both x past
       head-zero =
           layout
-          ∙ ap₂ (λ (s t : Bool). both s (both t (both (zerosPast block) true))) (head-is ∙ eq-eqb z 0 zero-byte)
+          ∙ ap₂ (λ (s t : Bool). both s (both t past)) (head-is ∙ eq-eqb z 0 zero-byte)
           (sym (paired ∙ ap (λ (n : ℕ). pairsZero n (drop headLength block)) counted))
-          ∙ ap (λ (t : Bool). both x t) (both-yes (zerosPast block))
 
       pub pairs-decide : x ≡ false → false ≡ laidOut block
-      pairs-decide f = sym (head-zero ∙ ap (λ (t : Bool). both t (zerosPast block)) f)
+      pairs-decide f = sym (head-zero ∙ ap (λ (t : Bool). both t past) f)
 
       pub zeros-decide : {y : Bool} → x ≡ true → y ≡ every (eqb 0) (drop (entryAt count) (take tailAt block)) → y ≡ laidOut block
-      zeros-decide f past =
-          past
+      zeros-decide f found =
+          found
           ∙ ap (λ (n : ℕ). every (eqb 0) (drop (entryAt n) (take tailAt block))) counted
-          ∙ sym (head-zero ∙ ap (λ (t : Bool). both t (zerosPast block)) f)
+          ∙ sym (head-zero ∙ ap (λ (t : Bool). both t past) f ∙ both-yes (zerosPast block))
