@@ -1,2 +1,1 @@
-pub mod LevelSpeeds
 pub mod Admissions

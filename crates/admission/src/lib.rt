@@ -19,14 +19,6 @@ ghost use Rattle.arith.specs.Asking.{firstNo};
 ghost use Rattle.plan.specs.Blocks.{noTask, tasksOf};
 ghost use Rattle.plan.specs.Answers.{answered};
 
-// The ticks that a task's worst case needs at a speed.
-pub fn task_time(speed: u32, t: Task) -> u32
-    requires { ⌜ (0 < speed) × (speed ≤ 1000) × (t .worst < 16777216) ⌝ }
-    ensures { λ r. ⌜ r ≡ taskTime speed t ⌝ }
-{
-    numeric::time_needed(speed, t.worst)
-}
-
 fn task_in_range(t: Task) -> bool
     ensures { λ r. ⌜ r ≡ inRange t ⌝ }
 {
@@ -105,7 +97,7 @@ fn demand(p: Plan, jobs: &[u32; 16], speed: u32) -> u64
     let mut i: usize = 0;
     while i < count {
         let t = p.tasks[i];
-        let ticks = task_time(speed, t);
+        let ticks = times::task_time(speed, t);
         let n = jobs[i];
         total += (ticks as u64) * (n as u64);
         i += 1;

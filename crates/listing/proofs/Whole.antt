@@ -2,7 +2,7 @@
 -- Assumes nothing.
 use Prim.Native.Nat.{ℕ, _-_, _<_, _≤_}
 use mathlib.Core.Bool.{Bool}
-use mathlib.Core.Path.{_≡_, sym, subst, ap, ap₂, _∙_}
+use mathlib.Core.Path.{_≡_, refl, sym, subst, ap, ap₂, _∙_}
 use mathlib.Core.List.{List, _++_, append-assoc}
 use native.Mathlib.Nat.{zero-add}
 use native.Mathlib.Omega.{arith}
@@ -13,13 +13,15 @@ use lib.Seq.{sets-eq, length-sets, length-take-le, take-all}
 use Rattle.arith.specs.Choice.{pick}
 use Rattle.arith.specs.Asking.{numberOf}
 use Rattle.plan.specs.declared.Judged.{Judged}
+use Rattle.plan.specs.declared.Task.{Task}
 use Rattle.plan.specs.declared.Verdict.{Verdict}
 use Rattle.plan.specs.declared.Verdict.the-variants as verdict
 use Rattle.plan.specs.Levels.{baseSpeeds}
 use Rattle.plan.specs.Blocks.{tasksIn}
 use Rattle.plan.specs.Answers.{verdictAnswer, readBlock}
 use Rattle.reclaiming.specs.declared.Reply.{Reply}
-use Rattle.reclaiming.specs.StateBlock.{timing, stateLength}
+use Rattle.reclaiming.specs.declared.Reply.the-variants as reply
+use Rattle.reclaiming.specs.StateBlock.{stateLength}
 use Rattle.reclaiming.specs.Calls.{startReply, startBuffer}
 use Rattle.reclaiming.specs.Run.{trace, startedBytes, openedBook, linesFrom}
 use Rattle.transcript.specs.Listing.{planLine, replyLine, refusedLine, planCut, passesIn, oddLine, linesText, startedLines, judgedLines, readLines, listing}
@@ -47,16 +49,23 @@ front {m} {r} {text} {whole} {before} {after} p room e =
     ∙ ap (λ (k : ℕ). text ++ drop k before) (zero-add (length text)) in
     subst (λ (t : List ℕ). Front t before r after) e (size, (bytes, (inside, sym (length-take-le r after inside))))
 
+-- a book is opened at clock 0, whatever the start replied
+pub opened-clock : (ts : List Task) (r : Reply) → openedBook ts r .clock ≡ 0
+opened-clock ts (reply.Run task level hold) = refl
+opened-clock ts (reply.Idle hold) = refl
+opened-clock ts (reply.Refused n) = refl
+
 -- the lines from the start on
 pub started-is :
     (block passes : List ℕ) {r : Reply} {s : List ℕ} →
     r ≡ startReply baseSpeeds block stateLength →
     s ≡ startBuffer baseSpeeds block (replicate stateLength 0) →
     length s ≡ stateLength →
-    replyLine 0 r ++ passesText (timing baseSpeeds (tasksIn block)) (openedBook r) s passes ≡ startedLines baseSpeeds block passes
+    replyLine 0 r ++ passesText baseSpeeds (tasksIn block) (openedBook (tasksIn block) r) s passes ≡ startedLines baseSpeeds block passes
 started-is block passes {r} {s} a b size =
     let begun : s ≡ startedBytes baseSpeeds block (replicate stateLength 0) = sym (take-all stateLength s (omega arith)) ∙ ap (take stateLength) b in
-    let lines : Reply → List ℕ → List ℕ = λ x y. linesText (linesFrom (timing baseSpeeds (tasksIn block)) (openedBook x) (trace baseSpeeds y (passesIn passes))) in
+    let ts : List Task = tasksIn block in
+    let lines : Reply → List ℕ → List ℕ = λ x y. linesText (linesFrom baseSpeeds ts (openedBook ts x) (trace baseSpeeds y (passesIn passes))) in
     sym (append-assoc (replyLine 0 r) (lines r s) (oddLine passes))
     ∙ ap₂ (λ (x : Reply) (y : List ℕ). replyLine 0 x ++ lines x y ++ oddLine passes) a begun
 

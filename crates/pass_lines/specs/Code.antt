@@ -2,11 +2,10 @@
 -- Assumes nothing.
 use Prim.Native.Nat.{ℕ}
 use mathlib.Core.List.{List, _++_}
-use Rattle.plan.specs.Levels.{baseSpeeds}
-use Rattle.schedule.specs.PlainSchedule.{Timing}
+use Rattle.plan.specs.declared.Task.{Task}
 use Rattle.reclaiming.specs.Run.{DispatcherBook, trace, linesFrom}
 use Rattle.transcript.specs.Listing.{passesIn, oddLine, linesText}
 
 -- the lines of an input's passes on a state, with a book that stands as the dispatcher's does before them; then the odd byte's
-abbrev pub passesText : Timing → DispatcherBook → List ℕ → List ℕ → List ℕ
-passesText τ b state passes = linesText (linesFrom τ b (trace baseSpeeds state (passesIn passes))) ++ oddLine passes
+abbrev pub passesText : List ℕ → List Task → DispatcherBook → List ℕ → List ℕ → List ℕ
+passesText speeds ts b state passes = linesText (linesFrom speeds ts b (trace speeds state (passesIn passes))) ++ oddLine passes

@@ -4,10 +4,11 @@ use lines::reply_line;
 use passing::pass;
 use reclaiming::Reply;
 ghost use mathlib.Core.Path.{_≡_};
-ghost use Prim.Native.Nat.{_+_, _^_, _<_, _≤_};
+ghost use mathlib.Core.List.{List};
+ghost use Prim.Native.Nat.{ℕ, _+_, _^_, _<_, _≤_};
 ghost use lib.ListN.{length};
 ghost use Rattle.plan.specs.Levels.{baseSpeeds};
-ghost use Rattle.schedule.specs.PlainSchedule.{Timing};
+ghost use Rattle.plan.specs.declared.Task.{Task};
 ghost use Rattle.reclaiming.specs.Run.{Pass, DispatcherBook, booked, bytesAfter};
 ghost use Rattle.transcript.specs.Listing.{passesIn};
 ghost use Rattle.lines.specs.Stores.{Put};
@@ -16,7 +17,7 @@ ghost use Rattle.pass_lines.specs.Code.{passesText};
 // The clock of the dispatcher's book after a reply: it rises by d where the pass was accepted.
 fn clock_after(clock: u32, d: u32, r: Reply) -> u32
     requires { ⌜ clock + d < 2 ^ 32 ⌝ }
-    ensures { λ q. ⌜ ((τ : Timing) (b : DispatcherBook) (p : Pass) → b .clock ≡ clock → p .d ≡ d → booked τ b p r .clock ≡ q) ⌝ }
+    ensures { λ q. ⌜ ((speeds : List ℕ) (ts : List Task) (b : DispatcherBook) (p : Pass) → b .clock ≡ clock → p .d ≡ d → booked speeds ts b p r .clock ≡ q) ⌝ }
     ensures { λ q. ⌜ q ≤ clock + d ⌝ }
 {
     match r {
@@ -29,8 +30,8 @@ fn clock_after(clock: u32, d: u32, r: Reply) -> u32
 // Stores the lines of all passes from a state on: of a book only its clock is told, so they are those of any book at clock 0.
 pub fn pass_lines(passes: &[u8], state: &mut [u8], out: &mut [u8], from: usize) -> usize
     requires { ⌜ (length (now passes) ≤ 65536) × (from + 1800000 ≤ length (now out)) ⌝ }
-    ensures { λ r. ⌜ ((τ : Timing) (b : DispatcherBook) → b .clock ≡ 0 →
-        Put 1800000 (now (out .entry)) from (passesText τ b (now (state .entry)) (now (passes .entry))) r (now (out .exit))) ⌝ }
+    ensures { λ r. ⌜ ((ts : List Task) (b : DispatcherBook) → b .clock ≡ 0 →
+        Put 1800000 (now (out .entry)) from (passesText baseSpeeds ts b (now (state .entry)) (now (passes .entry))) r (now (out .exit))) ⌝ }
     ensures { λ _. ⌜ now (state .exit) ≡ bytesAfter baseSpeeds (now (state .entry)) (passesIn (now (passes .entry))) ⌝ }
 {
     let mut at = from;

@@ -160,3 +160,7 @@ rising speeds h = record { positive = rises-above 0 speeds h; faster = rises-fas
 
 pub baseRising : Rising baseSpeeds
 baseRising = rising baseSpeeds refl
+
+-- a level of them fits a byte
+pub base-few : length baseSpeeds ≤ 256
+base-few = omega arith

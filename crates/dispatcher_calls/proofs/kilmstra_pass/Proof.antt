@@ -4,6 +4,7 @@ use mathlib.Core.Path.{_≡_, ap, _∙_}
 use Rattle.plan.specs.Levels.{baseSpeeds}
 use Rattle.reclaiming.specs.Calls.{passReply}
 use Rattle.reclaiming.specs.Numbers.{replyNumber, isYes}
+use Rattle.plan.proofs.LevelLaws.{baseRising, base-few}
 use Rattle.reclaiming.proofs.NumberLaws.{pass-most}
 use borrow.Author.Needs.{needs}
 use Rattle.dispatcher_calls.proofs.kilmstra_pass.Statement.{statement}
@@ -23,7 +24,7 @@ reply-number-requires : tie.Need-reply-number-requires
 reply-number-requires c κs =
     let passed = c .before .before in
     let s = start passed in
-    pass-most (s .args .state .now) (s .args .d) (isYes (s .args .finished)) (passed .pass .result) (replied passed)
+    pass-most baseSpeeds baseRising base-few (s .args .state .now) (s .args .d) (isYes (s .args .finished)) (passed .pass .result) (replied passed)
 
 same-length : tie.Need-same-length
 same-length c = search needs

@@ -1,16 +1,14 @@
 -- `started_lines` meets its contract.
 -- Assumes nothing.
 use Prim.Native.Nat.{ℕ}
-use mathlib.Core.Path.{refl}
 use mathlib.Core.List.{List}
 use native.Mathlib.Omega.{arith}
-use Rattle.plan.specs.Levels.{baseSpeeds}
+use Rattle.plan.specs.declared.Task.{Task}
 use Rattle.plan.specs.Blocks.{tasksIn}
-use Rattle.schedule.specs.PlainSchedule.{Timing}
-use Rattle.reclaiming.specs.StateBlock.{timing}
+use Rattle.reclaiming.specs.declared.Reply.{Reply}
 use Rattle.reclaiming.specs.Run.{openedBook}
 use Rattle.lines.proofs.Puts.{_then_, as-text}
-use Rattle.listing.proofs.Whole.{started-is}
+use Rattle.listing.proofs.Whole.{opened-clock, started-is}
 use borrow.Author.Needs.{needs}
 use Rattle.listing.proofs.started_lines.Statement.{statement}
 use Rattle.listing.proofs.started_lines.Tie as tie
@@ -40,8 +38,9 @@ returns c =
     let started : tie.After-start = search in
     let start : tie.Start = search in
     let block : List ℕ = start .args .block .now in
-    let τ : Timing = timing baseSpeeds (tasksIn block) in
-    as-text (replied .reply-line .ensures then listed .pass-lines .ensures .0 τ (openedBook (started .start .result)) refl)
+    let ts : List Task = tasksIn block in
+    let r : Reply = started .start .result in
+    as-text (replied .reply-line .ensures then listed .pass-lines .ensures .0 ts (openedBook ts r) (opened-clock ts r))
     (started-is block (start .args .passes .now) (started .start .ensures .0) (started .start .ensures .1) (started .start .kept .1 .0))
     (omega arith)
 

@@ -21,13 +21,13 @@ enum-told-3 : tie.Need-enum-told-3
 enum-told-3 c = search needs
 
 returns : tie.Need-returns
-returns c = (λ τ b p e f. rw (c .enum-told .given .1) (omega arith), omega arith)
+returns c = (λ speeds ts b p e f. rw (c .enum-told .given .1) (omega arith), omega arith)
 
 returns-2 : tie.Need-returns-2
-returns-2 c = (λ τ b p e f. rw (c .enum-told2 .given .1) (omega arith), omega arith)
+returns-2 c = (λ speeds ts b p e f. rw (c .enum-told2 .given .1) (omega arith), omega arith)
 
 returns-3 : tie.Need-returns-3
-returns-3 c = (λ τ b p e f. rw (c .enum-told3 .given .1) e, omega arith)
+returns-3 c = (λ speeds ts b p e f. rw (c .enum-told3 .given .1) e, omega arith)
 
 pub clock-after-spec : {M : Type 1} → statement M
 clock-after-spec =
