@@ -1,16 +1,15 @@
 -- What each function finds of a job's time and rest is what the definitions give.
 -- Assumes nothing.
-use Prim.Native.Nat.{ℕ, _-_, _*_, _<_, _≤_}
+use Prim.Native.Nat.{ℕ, zero, suc, _+_, _-_, _*_, _<_, _≤_}
 use mathlib.Core.Path.{_≡_, sym, ap, _∙_}
-use native.Mathlib.Nat.{mul-comm, mul-le-mul}
-use mathlib.Core.Bool.{Bool, true, not}
+use native.Mathlib.Nat.{mul-comm, mul-zero, mul-suc, mul-le-mul}
 use native.Mathlib.Decide.{decLe}
 use native.Mathlib.Omega.{arith}
-use borrow.Author.Tests.{le-leb, lt-leb}
-use lib.Dec.{leb}
+use borrow.Author.Tests.{leb-true, leb-false, lt-ltb, le-ltb, le-leb, lt-leb}
+use lib.Dec.{leb, ltb}
 use Rattle.arith.specs.Need.{need}
 use Rattle.plan.specs.declared.Rest.{Rest}
-use Rattle.plan.specs.Times.{timeOf, worn}
+use Rattle.plan.specs.Times.{timeOf, worn, noRest}
 use Rattle.plan.proofs.TimeLaws.{time-test}
 
 -- a time is the quotient, rounded up
@@ -26,7 +25,7 @@ pub enough-is : (speed ticks : ℕ) (r : Rest) → 0 < speed → leb (r .work) (
 enough-is speed ticks r h = ap (leb (r .work)) (mul-comm speed ticks) ∙ sym (time-test speed ticks r h)
 
 -- what is left of the work
-pub worn-none : (speed d : ℕ) (r : Rest) → r .work < d * speed → _≡_ {A = Rest} (record { work = 0 }) (worn speed d r)
+pub worn-none : (speed d : ℕ) (r : Rest) → r .work < d * speed → noRest ≡ worn speed d r
 unfolding worn
 worn-none speed d r h =
     let e : 0 ≡ r .work - d * speed = omega arith in
@@ -36,14 +35,18 @@ pub worn-some : (speed d : ℕ) (r : Rest) → _≡_ {A = Rest} (record { work =
 unfolding worn
 worn-some speed d r = λ i. record { work = r .work - d * speed }
 
--- some ticks are within a time where one tick less is not enough for it
-pub within-none : (time ticks : ℕ) → ticks ≡ 0 → true ≡ leb ticks time
-within-none time ticks e = sym (le-leb ticks time (omega arith))
-
-pub within-some : (time ticks : ℕ) → (ticks ≡ 0 → ⊥) → {found : Bool} → found ≡ leb time (ticks - 1) → not found ≡ leb ticks time
-within-some time ticks some e =
-    ap not e
-    ∙ elim (decLe ticks time) [
-      | yes h ↦ simp (lt-leb time (ticks - 1) (omega arith), le-leb ticks time h)
-      | no h ↦ simp (le-leb time (ticks - 1) (omega arith), lt-leb ticks time (omega arith))
+-- some ticks are within a time where one tick less is not enough for it: where they do no more than the work and less than a tick's part
+pub within-is : (speed ticks : ℕ) (r : Rest) → 0 < speed → ltb (speed * ticks) (r .work + speed) ≡ leb ticks (timeOf speed r)
+within-is speed zero r h =
+    lt-ltb (speed * 0) (r .work + speed) (omega (arith, mul-zero speed)) ∙ sym (le-leb 0 (timeOf speed r) (omega arith))
+within-is speed (suc n) r h =
+    let test : leb (r .work) (speed * n) ≡ leb (timeOf speed r) n = enough-is speed n r h in
+    let more : speed * suc n ≡ speed * n + speed = mul-suc speed n in
+    elim (decLe (r .work) (speed * n)) [
+      | yes k ↦
+          let time : timeOf speed r ≤ n = leb-true (timeOf speed r) n (sym test ∙ le-leb (r .work) (speed * n) k) in
+          le-ltb (speed * suc n) (r .work + speed) (omega (arith, more)) ∙ sym (lt-leb (suc n) (timeOf speed r) (omega arith))
+      | no k ↦
+          let time : n < timeOf speed r = leb-false (timeOf speed r) n (sym test ∙ lt-leb (r .work) (speed * n) (omega arith)) in
+          lt-ltb (speed * suc n) (r .work + speed) (omega (arith, more)) ∙ sym (le-leb (suc n) (timeOf speed r) (omega arith))
     ]

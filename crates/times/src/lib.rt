@@ -46,13 +46,10 @@ pub fn is_enough(speed: u32, rest: Rest, ticks: u32) -> bool
 
 // Whether some ticks are at most the time that a job needs at a speed: one tick less is not enough for it.
 pub fn is_within(speed: u32, ticks: u32, rest: Rest) -> bool
-    requires { ⌜ (0 < speed) × (speed ≤ 1000) × (ticks ≤ 1048560) ⌝ }
+    requires { ⌜ (0 < speed) × (speed ≤ 1000) × (ticks ≤ 1048560) × (rest .work < 16777216) ⌝ }
     ensures { λ r. ⌜ r ≡ leb ticks (timeOf speed rest) ⌝ }
 {
-    if ticks == 0 {
-        return true;
-    }
-    !is_enough(speed, rest, ticks - 1)
+    speed * ticks < rest.work + speed
 }
 
 // What so many ticks at a speed leave of a job.
@@ -62,7 +59,7 @@ pub fn worn_by(speed: u32, ticks: u32, rest: Rest) -> Rest
 {
     let done = ticks * speed;
     if rest.work < done {
-        return Rest { work: 0 };
+        return nothing();
     }
     Rest {
         work: rest.work - done,

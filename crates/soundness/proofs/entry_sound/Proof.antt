@@ -1,9 +1,11 @@
 -- `entry_sound` meets its contract, by each way out.
 -- Assumes nothing.
-use mathlib.Core.Path.{ap, _∙_}
+use Prim.Native.Nat.{_<_}
+use mathlib.Core.Path.{sym, subst, ap, _∙_}
 use native.Mathlib.Omega.{arith}
 use borrow.Author.Needs.{needs}
 use borrow.Author.Tests.{not-true, not-false}
+use Rattle.plan.specs.declared.Rest.{Rest}
 use Rattle.plan.specs.Times.{whole}
 use Rattle.soundness.proofs.SoundLaws.{Compared, Measured, work-high, remaining-high, remaining-last}
 use Rattle.soundness.proofs.entry_sound.Statement.{statement}
@@ -57,10 +59,16 @@ whole-of-requires c κs = search needs
 remaining-at-requires : tie.Need-remaining-at-requires
 remaining-at-requires c κs = search needs
 
+-- a whole job as it is read has less work than three bytes hold
+whole-small : (w : tie.After-whole-of) → w .whole-of .result .work < 16777216
+whole-small w =
+    subst (λ (r : Rest). r .work < 16777216) (sym (w .whole-of .ensures)) (omega (arith, w .before .task-at .ensures .1))
+
 is-within-requires : tie.Need-is-within-requires
 is-within-requires c κs =
-    let s : tie.Start = start (c .before .before .before .before) in
-    (s .pre .2, s .pre .3, omega (arith, c .remaining-at .ensures .1))
+    let w : tie.After-whole-of = c .before .before .before .before in
+    let s : tie.Start = start w in
+    (s .pre .2, s .pre .3, omega (arith, c .remaining-at .ensures .1), whole-small w)
 
 is-enough-requires : tie.Need-is-enough-requires
 is-enough-requires c κs =
