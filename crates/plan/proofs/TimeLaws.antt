@@ -1,8 +1,8 @@
 -- The laws of the time that a job needs, all that is used of it: more needs no less; a faster speed needs no more; no time is needed
 -- exactly where nothing is left; d ticks make it d less. And how the code tells it, and bounds it, without dividing.
 -- Assumes nothing.
-use Prim.Native.Nat.{ℕ, suc, _-_, _*_, _<_, _≤_}
-use mathlib.Core.Path.{_≡_, refl, sym, subst, ap, _∙_}
+use Prim.Native.Nat.{ℕ, _-_, _*_, _<_, _≤_}
+use mathlib.Core.Path.{_≡_, ap, _∙_}
 use native.Mathlib.Nat.{le-trans, mul-le-mul-right}
 use native.Mathlib.Decide.{decLe}
 use native.Mathlib.Omega.{arith}
@@ -11,9 +11,8 @@ use lib.Dec.{leb}
 use Rattle.arith.specs.Need.{need}
 use Rattle.arith.proofs.Tests.{same-test}
 use Rattle.arith.proofs.Needs.{need-covers, need-least, need-mono, need-faster, need-zero, need-zero-work, need-after, need-le}
-use Rattle.plan.specs.declared.Task.{Task}
 use Rattle.plan.specs.declared.Rest.{Rest}
-use Rattle.plan.specs.Times.{whole, noRest, Within, timeOf, worn}
+use Rattle.plan.specs.Times.{noRest, Within, timeOf, worn}
 
 -- 1. what has more left needs no less
 pub time-more : (s : ℕ) (a b : Rest) → 0 < s → Within a b → timeOf s a ≤ timeOf s b

@@ -15,8 +15,6 @@ use Rattle.arith.specs.Bits.{unpacked}
 use Rattle.plan.specs.declared.Task.{Task}
 use Rattle.plan.specs.declared.Plan.{Plan}
 use Rattle.plan.specs.declared.Judged.{Judged}
-use Rattle.plan.specs.declared.Verdict.the-variants as verdict
-use Rattle.plan.specs.declared.Written.the-variants as written
 use Rattle.plan.specs.Blocks.{taskWidth, bitCount, blockLength, editionIn, countIn, closingBits, taskFrom, tasksFrom, tasksIn, tasksOf, planOf, noTask}
 use Rattle.plan.specs.Questions.{countQuestion, taskQuestions, reading}
 use Rattle.arith.specs.Asking.{Question, ask, firstNo}

@@ -30,7 +30,7 @@ use Rattle.schedule.proofs.Span.{canonical-span, after-add, renewed, nothing-ol
 use Rattle.reclaiming.specs.declared.Reply.{Reply}
 use Rattle.reclaiming.specs.StateBlock.{State, encode, decode, laidOut, planIn, timing, workOf, remainingOf, restOf, stateLength}
 use Rattle.reclaiming.specs.Orders.{holdOf, orderWith}
-use Rattle.reclaiming.specs.Passes.{passedState, passedHold, workedBy, workedOf, drainedOf}
+use Rattle.reclaiming.specs.Passes.{passedState, passedHold, workedOf, drainedOf}
 use Rattle.reclaiming.specs.Questions.{largestClock, inTime, sound, stateSound, passQuestions}
 use Rattle.reclaiming.specs.Calls.{repliedBy, passNumber, passReply, passBytes}
 use Rattle.reclaiming.specs.Run.{Pass, DispatcherBook, ordered, moved, booked, ran, leftAfter}
@@ -40,7 +40,7 @@ use Rattle.reclaiming.proofs.Replies.{is-idle, is-run, viewOrder, order
 use Rattle.reclaiming.proofs.Plans.{nominal-positive, plan-fits}
 use Rattle.reclaiming.proofs.StateCodec.{Storable, decode-encode, length-encode, laid-out}
 use Rattle.reclaiming.proofs.Soundness.{fine-sound, pass-accepted, fine-storable}
-use Rattle.reclaiming.proofs.OrderFacts.{Ordered, idles, runs}
+use Rattle.reclaiming.proofs.OrderFacts.{idles, runs}
 use Rattle.reclaiming.proofs.NextArrival.{next-quiet}
 use Rattle.reclaiming.proofs.Worked.{worked-other, worked-mine, worked-less, worked-open, stays-ahead}
 use Rattle.reclaiming.proofs.Worked as worked

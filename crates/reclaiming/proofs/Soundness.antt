@@ -27,7 +27,7 @@ use Rattle.reclaiming.specs.Questions.{largestClock, entrySound, orderSo
 use Rattle.reclaiming.proofs.Fine.{nominalSpeed, FineEntries, Fine, Accepted}
 use Rattle.reclaiming.proofs.Plans.{task-range, allotment-short}
 use Rattle.reclaiming.proofs.StateCodec.{StorableEntry, Storable}
-use Rattle.reclaiming.proofs.OrderFacts.{Ordered, idles, runs, order-facts}
+use Rattle.reclaiming.proofs.OrderFacts.{idles, runs, order-facts}
 
 -- an entry of the plan in a state
 pub planIn-at : (s : State) (i : ℕ) → getD (planIn s) i noTask ≡ taskOf (getD (s .entries) i noEntry)

@@ -16,7 +16,6 @@ use Rattle.plan.specs.Levels.{baseSpeeds, speedOf, hyperperiod, demandWithin, n
 use Rattle.plan.specs.Blocks.{planBlock, planOf}
 use Rattle.plan.specs.Answers.{verdictAnswer, writtenAnswer, judgedList, readBlock}
 use Rattle.schedule.specs.PlainSchedule.{moreUrgent}
-use Rattle.reclaiming.specs.declared.Reply.{Reply}
 use Rattle.reclaiming.specs.declared.Reply.the-variants as reply
 use Rattle.reclaiming.specs.StateBlock.{sameBytes, stateLength}
 use Rattle.reclaiming.specs.Calls.{replyAnswer, passReply, showReply, showBuffer}

@@ -1,13 +1,14 @@
 -- `standing` meets its contract: the order is to stay idle, or runs one of the tasks.
 -- Assumes nothing.
 use Prim.Native.Nat.{ℕ}
-use mathlib.Core.Path.{sym, ap, ap₂, _∙_}
+use mathlib.Core.Path.{_≡_, sym, ap, ap₂, _∙_}
 use mathlib.Core.List.{List}
 use native.Mathlib.Omega.{arith}
 use borrow.Author.Needs.{needs}
+use Rattle.plan.specs.declared.Rest.{Rest}
 use Rattle.levels.specs.Code.{loaded}
 use Rattle.reclaiming.specs.Fields.{offsetOf}
-use Rattle.reclaiming.specs.StateBlock.{restIn, headFields, taskField, levelField}
+use Rattle.reclaiming.specs.StateBlock.{restIn, decode, headFields, taskField, levelField}
 use Rattle.state.specs.Code.{entryIn}
 use Rattle.state.proofs.BlockLaws.{task-byte, level-byte}
 use Rattle.orders.specs.declared.Choice.{Choice}
@@ -61,10 +62,13 @@ running-order-requires c κs = (
 
 returns-2 : tie.Need-returns-2
 returns-2 c =
-    let b : List ℕ = start (c .before .before) .args .block .now in
-    c .running-order .ensures
-    ∙ ap₂ (λ (x y : ℕ). runOf (table (start (c .before .before))) x y (c .before .rest-at .result)) (task-byte b) (level-byte b)
-    ∙ standing-run (runs (c .before .before)) (table (start (c .before .before))) (c .before .rest-at .ensures .0 ∙ ap (λ (x : ℕ). restIn (entryIn b x)) (task-byte b))
+    let s : tie.Start = start (c .before .before) in
+    let b : List ℕ = s .args .block .now in
+    let r : Rest = c .before .rest-at .result in
+    let left : r ≡ restIn (entryIn b (decode b .task)) =
+    c .before .rest-at .ensures .0 ∙ ap (λ (x : ℕ). restIn (entryIn b x)) (task-byte b) in
+    let run : ℕ → ℕ → Choice = λ x y. runOf (table s) x y r in
+    c .running-order .ensures ∙ ap₂ run (task-byte b) (level-byte b) ∙ standing-run (runs (c .before .before)) (table s) left
 
 pub standing-spec : {M : Type 1} → statement M
 standing-spec =

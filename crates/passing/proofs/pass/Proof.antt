@@ -15,6 +15,7 @@ use Rattle.reclaiming.specs.Orders.{nextArrival}
 use Rattle.reclaiming.specs.Questions.{passQuestions}
 use Rattle.state.specs.Code.{timingIn}
 use Rattle.orders.specs.declared.Choice.{Choice}
+use Rattle.soundness.specs.declared.Tested.{Tested}
 use Rattle.soundness.specs.Code.{Good}
 use Rattle.soundness.proofs.SoundFacts.{runnable, count-some}
 use Rattle.reclaiming.proofs.Soundness.{sound-state, sound-clock}
@@ -71,12 +72,18 @@ speeds c = table (made c)
 rising : (c : tie.Else1) → Rising (speeds c)
 rising c = made c .base .ensures .1 .rising
 
-good : (c : tie.Else1) → Good (speeds c) (bytes c) (c .before .before .test-block .result .keys) (c .before .before .test-block .result .nominal)
-good c =
-    tested-good (speeds c) (bytes c) (c .before .before .test-block .result) (c .before .before .test-block .ensures) (rising c)
-    (not-false (c .before .before .test-block .result .sound) (c .if1 .left))
+abbrev found : tie.Else1 → Tested
+found c = c .before .before .test-block .result
 
-timed : (c : tie.After-count-at) → Timed (speeds (sound c)) (bytes (sound c)) (sound c .before .before .test-block .result .keys) (c .count-at .result) (c .before .before .before .clock-at .result)
+good : (c : tie.Else1) → Good (speeds c) (bytes c) (found c .keys) (found c .nominal)
+good c =
+    tested-good (speeds c) (bytes c) (found c) (c .before .before .test-block .ensures) (rising c)
+    (not-false (found c .sound) (c .if1 .left))
+
+timed :
+    (c : tie.After-count-at) →
+    let e : tie.Else1 = sound c in
+    Timed (speeds e) (bytes e) (found e .keys) (c .count-at .result) (c .before .before .before .clock-at .result)
 timed c = record {
   holds = good (sound c) .holds;
   some = count-some (speeds (sound c)) (rising (sound c)) (bytes (sound c)) (good (sound c) .sound);
@@ -86,21 +93,32 @@ timed c = record {
 }
 
 -- the ticks to the next arrival, and the first no of the questions
-next : (c : tie.After-next-arrival) → c .next-arrival .result ≡ nextArrival (timingIn (speeds (sound (c .before))) (bytes (sound (c .before)))) (decode (bytes (sound (c .before))) .clock)
+next :
+    (c : tie.After-next-arrival) →
+    let e : tie.Else1 = sound (c .before) in
+    c .next-arrival .result ≡ nextArrival (timingIn (speeds e) (bytes e)) (decode (bytes e) .clock)
 next c = choose-when (timed (c .before)) (c .next-arrival .result) (c .next-arrival .ensures)
 
-number : (c : tie.After-pass-number) → c .pass-number .result ≡ firstNo (passQuestions (speeds (tested c)) (decode (bytes (tested c))) (start c .args .d) (start c .args .finished))
+number :
+    (c : tie.After-pass-number) →
+    let e : tie.Else1 = tested c in
+    c .pass-number .result ≡ firstNo (passQuestions (speeds e) (decode (bytes e)) (start c .args .d) (start c .args .finished))
 number c =
+    let e : tie.Else1 = tested c in
+    let s : tie.Start = start c in
+    let ticks : ℕ = c .before .new .result .ticks in
+    let until : ℕ = arrival c .next-arrival .result in
     c .pass-number .ensures
-    ∙ ap (λ (x : Choice). firstNo (timeQuestions (c .before .new .result .ticks) x (arrival c .next-arrival .result) (start c .args .d) (start c .args .finished)))
-    (c .before .before .standing .ensures)
-    ∙ asked-is (speeds (tested c)) (decode (bytes (tested c))) (c .before .new .result .ticks) (arrival c .next-arrival .result) (start c .args .d) (start c .args .finished)
+    ∙ ap (λ (x : Choice). firstNo (timeQuestions ticks x until (s .args .d) (s .args .finished))) (c .before .before .standing .ensures)
+    ∙ asked-is (speeds e) (decode (bytes e)) ticks until (s .args .d) (s .args .finished)
     (c .before .new .ensures ∙ timed (arrival c .before) .clock-is) (next (arrival c))
 
 passing :
     (c : tie.Else2) →
-    Passing (speeds (tested (c .before))) (bytes (tested (c .before))) (tested (c .before) .before .before .test-block .result .keys) (tested (c .before) .before .before .test-block .result .nominal)
-    (arrival (c .before) .next-arrival .result) (start (c .before) .args .d) (start (c .before) .args .finished) (c .before .before .before .standing .result)
+    let e : tie.Else1 = tested (c .before) in
+    let s : tie.Start = start (c .before) in
+    Passing (speeds e) (bytes e) (found e .keys) (found e .nominal) (arrival (c .before) .next-arrival .result) (s .args .d) (s .args .finished)
+    (c .before .before .before .standing .result)
 passing c = record {
   rising = rising (tested (c .before));
   few = omega (arith, levels-are (made (tested (c .before)) .base .ensures .1));
@@ -123,10 +141,11 @@ returns : tie.Need-returns
 returns c =
     let b : tie.After-base = c .before .before .before .before .before in
     let s : tie.Start = b .before .before in
+    let r : Tested = c .before .before .test-block .result in
     over-base b
     (refused (table b) (s .args .state .now) (s .args .d) (s .args .finished) 10
-    (number-10 (table b) (s .args .state .now) (s .args .d) (s .args .finished) (c .before .before .test-block .result) (c .before .before .test-block .ensures)
-    (not-true (c .before .before .test-block .result .sound) (c .if1 .taken)))
+    (number-10 (table b) (s .args .state .now) (s .args .d) (s .args .finished) r (c .before .before .test-block .ensures)
+    (not-true (r .sound) (c .if1 .taken)))
     (λ e. omega arith))
 
 clock-at-requires : tie.Need-clock-at-requires
