@@ -33,7 +33,7 @@ use Rattle.arith.proofs.Sums.{sumTo-eq, sumOf-taken}
 use Rattle.arith.proofs.Tests.{both-false}
 use Rattle.plan.proofs.Facts.{InRange, in-range, span-asked, level-asked, length-tasksOf}
 use Rattle.plan.proofs.LevelLaws.{admits-covers, hyperperiod-drop, range-positive}
-use Rattle.plan.proofs.TimeLaws.{time-most}
+use Rattle.plan.proofs.TimeLaws.{time-short}
 use Rattle.levels.specs.Code.{loaded, Table}
 use Rattle.levels.proofs.Tables.{levels-are, speed-is}
 
@@ -166,7 +166,7 @@ module _ {p : Plan} {jobs : List ℕ} {speed i ticks : ℕ} (a : Added p jobs sp
   pub added-small : ticks * getD jobs i 0 ≤ 1048575000000
   added-small =
       let t : Task = getD (p .tasks) i noTask in
-      let short : ticks ≤ 1048575 = omega (arith, a .needed, time-most speed (whole t) (a .asked .positive), task-at (a .asked .plan) i (a .below) .worst-high) in
+      let short : ticks ≤ 1048575 = omega (arith, a .needed, time-short speed (whole t) (a .asked .positive), task-at (a .asked .plan) i (a .below) .worst-high) in
       mul-le-mul short (a .asked .few i (a .below))
 
   pub summed-more : {total : ℕ} → Summed p jobs speed total i → Summed p jobs speed (total + ticks * getD jobs i 0) (i + 1)

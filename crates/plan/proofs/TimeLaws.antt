@@ -69,9 +69,9 @@ leb-same m n p q f g =
     same-test (leb m n) (leb p q) (λ h. le-leb p q (f (leb-true m n h))) (λ h. le-leb m n (g (leb-true p q h)))
 
 -- some ticks are enough where the work is at most what they do
-pub time-test : (s t : ℕ) (a : Rest) → 0 < s → leb (timeOf s a) t ≡ leb (a .work) (t * s)
+pub time-enough : (s t : ℕ) (a : Rest) → 0 < s → leb (timeOf s a) t ≡ leb (a .work) (t * s)
 unfolding timeOf
-time-test s t a h =
+time-enough s t a h =
     leb-same (timeOf s a) t (a .work) (t * s)
     (λ k. le-trans (need-covers s (a .work) h) (mul-le-mul-right s k))
     (λ k. need-least s (a .work) t h k)
@@ -83,6 +83,6 @@ time-slowed s a h =
     need-least 1 (a .work) (timeOf s a * s) (omega arith) (omega (arith, need-covers s (a .work) h))
 
 -- no time is longer than that of as many ticks as there is work
-pub time-most : (s : ℕ) (a : Rest) → 0 < s → timeOf s a ≤ a .work
+pub time-short : (s : ℕ) (a : Rest) → 0 < s → timeOf s a ≤ a .work
 unfolding timeOf
-time-most s a h = need-le s (a .work) h
+time-short s a h = need-le s (a .work) h

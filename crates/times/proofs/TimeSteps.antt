@@ -10,7 +10,7 @@ use lib.Dec.{leb, ltb}
 use Rattle.arith.specs.Need.{need}
 use Rattle.plan.specs.declared.Rest.{Rest}
 use Rattle.plan.specs.Times.{timeOf, worn, noRest}
-use Rattle.plan.proofs.TimeLaws.{time-test}
+use Rattle.plan.proofs.TimeLaws.{time-enough}
 
 -- a time is the quotient, rounded up
 pub time-is : (speed : ℕ) (r : Rest) {n : ℕ} → n ≡ need speed (r .work) → n ≡ timeOf speed r
@@ -22,7 +22,7 @@ pub work-fits : (m n speed ticks : ℕ) → speed ≤ m → ticks ≤ n → tick
 work-fits m n speed ticks h k = mul-le-mul k h
 
 pub enough-is : (speed ticks : ℕ) (r : Rest) → 0 < speed → leb (r .work) (speed * ticks) ≡ leb (timeOf speed r) ticks
-enough-is speed ticks r h = ap (leb (r .work)) (mul-comm speed ticks) ∙ sym (time-test speed ticks r h)
+enough-is speed ticks r h = ap (leb (r .work)) (mul-comm speed ticks) ∙ sym (time-enough speed ticks r h)
 
 -- what is left of the work
 pub worn-none : (speed d : ℕ) (r : Rest) → r .work < d * speed → noRest ≡ worn speed d r

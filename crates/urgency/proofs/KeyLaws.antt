@@ -25,6 +25,7 @@ use Rattle.reclaiming.specs.Orders.{nextArrival, allowance}
 use Rattle.arith.specs.Ranges.{leastTo}
 use Rattle.reclaiming.specs.Passes.{drainedOf, arrivesAt}
 use Rattle.reclaiming.specs.Calls.{queueBytes}
+use Rattle.reclaiming.specs.Questions.{largestClock}
 use Rattle.urgency.specs.Code.{Keyed, keyOf, noKey, deadlineIn, dueAt, urgentBy, leastKey, allowedBy, drainedBy, placed, readyTo, tasksBytes}
 use Rattle.arith.proofs.RangeLaws.{least-le, Attained, least-at}
 
@@ -273,7 +274,7 @@ module _ (τ : Timing) (t : ℕ) (keys : List ℕ) (keyed : Keyed τ t keys) whe
         ))
 
     pub keyed-after :
-        (r : List ℕ) → t + d ≤ 4000000000 →
+        (r : List ℕ) → t + d ≤ largestClock →
         ((i : ℕ) → i < τ .count → getD r i 0 ≡ pick (dueAt keys (t + d) i) (keyOf (t + d + τ .period i) (τ .period i) i) (getD keys i 0)) →
         Keyed τ (t + d) r
     keyed-after r room e = record {
@@ -302,7 +303,7 @@ module _ (τ : Timing) (t : ℕ) (keys : List ℕ) (keyed : Keyed τ t keys) whe
 
 -- before the next arrival the keys stay
 pub keyed-on :
-    (τ : Timing) (t : ℕ) (keys : List ℕ) → Keyed τ t keys → (d : ℕ) → 1 ≤ d → d < nextArrival τ t → t + d ≤ 4000000000 → Keyed τ (t + d) keys
+    (τ : Timing) (t : ℕ) (keys : List ℕ) → Keyed τ t keys → (d : ℕ) → 1 ≤ d → d < nextArrival τ t → t + d ≤ largestClock → Keyed τ (t + d) keys
 keyed-on τ t keys keyed d some before room =
     let within : d ≤ nextArrival τ t = omega arith in
     keyed-after τ t keys keyed d some within keys room
