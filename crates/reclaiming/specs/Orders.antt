@@ -9,7 +9,7 @@ use Rattle.arith.specs.Ranges.{leastTo}
 use Rattle.plan.specs.declared.Rest.{Rest}
 use Rattle.plan.specs.Times.{timeOf}
 use Rattle.plan.specs.Levels.{speedOf}
-use Rattle.schedule.specs.PlainSchedule.{Timing, Pending, moreUrgent, latest, queueOf}
+use Rattle.schedule.specs.PlainSchedule.{Timing, Pending, deadline, moreUrgent, latest, queueOf}
 use Rattle.reclaiming.specs.declared.Reply.{Reply}
 use Rattle.reclaiming.specs.declared.Reply.the-variants as reply
 use Rattle.reclaiming.specs.StateBlock.{State, workOf, remainingOf, restOf}
