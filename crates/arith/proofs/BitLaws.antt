@@ -16,7 +16,7 @@ use Rattle.arith.specs.Digits.{number, digits}
 use Rattle.arith.specs.Bits.{unpacked, packedTo}
 use Rattle.arith.proofs.Tests.{same-test}
 use Rattle.arith.proofs.ListLaws.{getD-early, getD-later, every-at, at-every}
-use Rattle.arith.proofs.DigitLaws.{length-digits, digit-at, digit-below, digit-number, number-digits, number-same, number-within, number-regrouped}
+use Rattle.arith.proofs.DigitLaws.{length-digits, digit-below, digit-number, number-digits, number-same, number-within, number-regrouped}
 
 -- a number is zero exactly if its bits are
 pub number-zero : (n : ℕ) (ds : List ℕ) → ((k : ℕ) → k < n → getD ds k 0 ≡ 0) → number 2 n ds ≡ 0
@@ -37,22 +37,6 @@ every-zero ds =
     same-test (every (eqb 0) ds) (eqb (number 2 (length ds) ds) 0)
     (λ h. eq-eqb (number 2 (length ds) ds) 0 (number-zero (length ds) ds (λ k l. sym (eqb-true 0 (getD ds k 0) (every-at (eqb 0) ds k 0 h l)))))
     (λ h. at-every (eqb 0) ds 0 (λ k l. eq-eqb 0 (getD ds k 0) (sym (zero-number (length ds) ds (eqb-true (number 2 (length ds) ds) 0 h) k l))))
-
--- a bit of a number of n bits that stands at a place, by that number
-pub number-bit :
-    (bits : List ℕ) →
-    ((k : ℕ) → getD bits k 0 < 2) →
-    (at n j e k : ℕ) →
-    j < n →
-    e ≡ n - suc j →
-    at + j ≡ k →
-    number 2 n (drop at bits) / 2 ^ e % 2 ≡ getD bits k 0
-number-bit bits below at n j e k h same place =
-    ap (λ (m : ℕ). number 2 n (drop at bits) / 2 ^ m % 2) same
-    ∙ sym (digit-at 2 n (number 2 n (drop at bits)) j h)
-    ∙ digit-number 2 n (drop at bits) (λ i l. subst (λ (x : ℕ). x < 2) (sym (getD-drop at bits i 0)) (below (at + i))) j h
-    ∙ getD-drop at bits j 0
-    ∙ ap (λ (m : ℕ). getD bits m 0) place
 
 -- how many bits bytes have
 pub length-unpacked : (s : List ℕ) → length (unpacked s) ≡ 8 * length s

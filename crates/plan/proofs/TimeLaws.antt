@@ -10,7 +10,7 @@ use borrow.Author.Tests.{leb-true, le-leb}
 use lib.Dec.{leb}
 use Rattle.arith.specs.Need.{need}
 use Rattle.arith.proofs.Tests.{same-test}
-use Rattle.arith.proofs.Needs.{need-covers, need-least, need-mono, need-faster, need-zero, need-zero-work, need-after, need-le}
+use Rattle.arith.proofs.Needs.{need-covers, need-least, need-mono, need-faster, need-zero, need-positive, need-after, need-le}
 use Rattle.plan.specs.declared.Rest.{Rest}
 use Rattle.plan.specs.Times.{noRest, Within, timeOf, worn}
 
@@ -31,8 +31,7 @@ time-none s h = need-zero s h
 
 pub time-some : (s : ℕ) (a : Rest) → 0 < s → 0 < a .work → 0 < timeOf s a
 unfolding timeOf
-time-some s a h w =
-    elim (decLe 1 (timeOf s a)) [ yes l ↦ l | no l ↦ absurd (omega (arith, need-zero-work s (a .work) h (omega arith))) ]
+time-some s a h w = need-positive s (a .work) h w
 
 -- 4. d ticks at the speed make it d less
 pub time-after : (s d : ℕ) (a : Rest) → 0 < s → d ≤ timeOf s a → timeOf s (worn s d a) ≡ timeOf s a - d

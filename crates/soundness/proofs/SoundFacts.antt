@@ -20,8 +20,8 @@ use Rattle.reclaiming.specs.StateBlock.{State, noEntry, taskOf, remainingOf, re
 use Rattle.reclaiming.specs.Orders.{nextArrival}
 use Rattle.reclaiming.specs.Questions.{inTime, sound, stateSound}
 use Rattle.orders.specs.Code.{Runnable}
-use Rattle.reclaiming.proofs.Fine.{nominalSpeed, Fine}
-use Rattle.reclaiming.proofs.Plans.{task-range, allotment-short, nominal-positive}
+use Rattle.reclaiming.proofs.Fine.{Fine}
+use Rattle.reclaiming.proofs.Plans.{task-range, allotment-short}
 use Rattle.reclaiming.proofs.StateCodec.{laid-length, laid-back}
 use Rattle.reclaiming.proofs.Soundness.{planIn-at, length-planIn, sound-fine, sound-state}
 use Rattle.arith.proofs.RangeLaws.{least-le}
@@ -45,9 +45,6 @@ module _ (speeds : List ℕ) (rising : Rising speeds) (s : State) (ok : stateSou
 
   pub nominal-small : nominal speeds (planIn s) < length speeds
   nominal-small = sound-plan .tasks .admitted
-
-  pub nominal-above : 0 < nominalSpeed speeds (planIn s)
-  nominal-above = nominal-positive speeds (planIn s) sound-plan rising
 
   -- its order is to stay idle, or runs one of the tasks at one of the levels
   pub runnable : Runnable (length speeds) s
