@@ -1,6 +1,7 @@
 pub mod BlockBits
 pub mod Facts
 pub mod LevelLaws
+pub mod LevelBlockLaws
 pub mod TimeLaws
 pub mod RoundTrip
 pub mod NumberLaws

@@ -20,6 +20,7 @@ use Rattle.arith.specs.Asking.{isAccepted, firstNo}
 use Rattle.arith.proofs.Tests.{both-left, both-right}
 use Rattle.arith.proofs.ListLaws.{at-every, zero-at}
 use Rattle.arith.proofs.Needs.{need-covers}
+use Rattle.arith.proofs.QuestionLaws.{yes-before, yes-of, yes-after}
 use Rattle.arith.proofs.DigitLaws.{number-digits, number-drop-same, digits-number}
 use Rattle.arith.proofs.BitLaws.{length-unpacked, unpacked-packed, unpacked-below, packed-same, packed-unpacked}
 use Rattle.arith.proofs.FieldLaws.{Same, Below, same-drop, below-drop, fields-read, fields-bits, fields-same}
@@ -27,6 +28,7 @@ use Rattle.plan.specs.declared.Task.{Task}
 use Rattle.plan.specs.declared.Plan.{Plan}
 use Rattle.plan.specs.Blocks.{taskWidths, taskNumbers, taskOf, taskWidth, taskBits, tasksBits, planBits, editionOf, planBlock, bitCount, blockLength}
 use Rattle.plan.specs.Blocks.{editionIn, countIn, taskFrom, tasksFrom, tasksIn, closingBits, tasksOf, planOf, noTask}
+use Rattle.plan.specs.LevelBlocks.{loading, speedsIn}
 use Rattle.plan.specs.Questions.{inRange, judging, reading}
 use Rattle.plan.specs.Answers.{verdictAnswer, answered, judgedBy}
 use Rattle.plan.specs.Laws.{Bytes, WrittenReadsBack, AcceptedWritesBack}
@@ -142,17 +144,22 @@ module _ (speeds : List ℕ) (ts : List Task) where
 same-answer : (speeds : List ℕ) (m n : ℕ) (xs ys : List Task) → m ≡ 0 → n ≡ 0 → xs ≡ ys → judgedBy m speeds xs ≡ judgedBy n speeds ys
 same-answer speeds m n xs ys p q e = ap₂ (λ (k : ℕ) (l : List Task). judgedBy k speeds l) (p ∙ sym q) e
 
-pub written-reads-back : (speeds : List ℕ) → WrittenReadsBack speeds
-written-reads-back speeds p len accepted =
+pub written-reads-back : WrittenReadsBack
+written-reads-back levels p len accepted =
+    let speeds : List ℕ = speedsIn levels in
     let ts : List Task = tasksOf p in
-    let h : firstNo (judging speeds (p .count) ts) ≡ 0 = accepted-none speeds ts (firstNo (judging speeds (p .count) ts)) accepted in
+    let all : firstNo (loading levels ++ judging speeds (p .count) ts) ≡ 0 =
+    accepted-none speeds ts (firstNo (loading levels ++ judging speeds (p .count) ts)) accepted in
+    let h : firstNo (judging speeds (p .count) ts) ≡ 0 = yes-after (loading levels) (judging speeds (p .count) ts) refl all in
     let f : FineList speeds (p .count) ts = fine-list speeds (p .count) ts h in
     let n : length ts ≡ p .count = length-take-le (p .count) (p .tasks) (omega (arith, f .count-high)) in
     let low : 1 ≤ length ts = omega (arith, f .count-low) in
     let high : length ts ≤ 16 = omega (arith, f .count-high) in
-    same-answer speeds (firstNo (reading speeds (planBlock ts))) (firstNo (judging speeds (p .count) ts)) (tasksIn (planBlock ts)) ts
-    (block-yes speeds (planBlock ts) (block-fine ts high (f .tasks .ranges) speeds low (f .tasks)))
-    h
+    same-answer speeds (firstNo (loading levels ++ reading speeds (planBlock ts))) (firstNo (loading levels ++ judging speeds (p .count) ts))
+    (tasksIn (planBlock ts)) ts
+    (yes-before (loading levels) (reading speeds (planBlock ts)) refl (yes-of (loading levels) (judging speeds (p .count) ts) all)
+    ∙ block-yes speeds (planBlock ts) (block-fine ts high (f .tasks .ranges) speeds low (f .tasks)))
+    all
     (block-reads ts high (f .tasks .ranges))
 
 -- an accepted block: its tasks are written in the edition that it names, and their bits are the block's
@@ -224,8 +231,11 @@ read-judged speeds block p accepted e =
     ∙ ap (λ (l : List Task). firstNo (judging speeds (length ts) l)) (tasksOf-planOf ts)
     ∙ list-yes speeds (length ts) ts (block-list speeds block (fine-block speeds block accepted))
 
-pub accepted-writes-back : (speeds : List ℕ) → AcceptedWritesBack speeds
-accepted-writes-back speeds block bytes accepted =
-    let h : firstNo (reading speeds block) ≡ 0 = accepted-none speeds (tasksIn block) (firstNo (reading speeds block)) accepted in
-    subst (λ (n : ℕ). planBlock (tasksOf (judgedBy n speeds (tasksIn block) .plan)) ≡ block) (sym h)
+pub accepted-writes-back : AcceptedWritesBack
+accepted-writes-back levels block bytes accepted =
+    let speeds : List ℕ = speedsIn levels in
+    let all : firstNo (loading levels ++ reading speeds block) ≡ 0 =
+    accepted-none speeds (tasksIn block) (firstNo (loading levels ++ reading speeds block)) accepted in
+    let h : firstNo (reading speeds block) ≡ 0 = yes-after (loading levels) (reading speeds block) refl all in
+    subst (λ (n : ℕ). planBlock (tasksOf (judgedBy n speeds (tasksIn block) .plan)) ≡ block) (sym all)
     (ap planBlock (tasksOf-planOf (tasksIn block)) ∙ accepted-block speeds block (fine-block speeds block h) bytes)

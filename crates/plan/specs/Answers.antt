@@ -12,8 +12,9 @@ use Rattle.plan.specs.declared.Verdict.the-variants as verdict
 use Rattle.plan.specs.declared.Written.{Written}
 use Rattle.plan.specs.declared.Written.the-variants as written
 use Rattle.plan.specs.Levels.{hyperperiod, nominal}
+use Rattle.plan.specs.LevelBlocks.{loading, speedsIn}
 use Rattle.plan.specs.Blocks.{planOf, tasksOf, tasksIn, planBlock}
-use Rattle.plan.specs.Questions.{judging, reading, roomQuestion}
+use Rattle.plan.specs.Questions.{judging, reading, writing, roomQuestion}
 
 -- 01's number and values of each case: "Reading and judging return the plan, its nominal level and hyperperiod", the plan beside them;
 -- "writing and showing the count of bytes written"
@@ -42,26 +43,27 @@ judgedBy n speeds ts = record { verdict = answered n speeds ts; plan = beside n 
 abbrev pub refusedWith : ℕ → Judged
 refusedWith n = record { verdict = verdict.Refused n; plan = planOf [] }
 
+-- 02: "Every call that takes a plan takes this block before it": a level block, and its questions "before all else"
+
 -- a list of tasks judged
 abbrev pub judgedList : List ℕ → ℕ → List Task → Judged
-judgedList speeds count ts = judgedBy (firstNo (judging speeds count ts)) speeds ts
+judgedList levels count ts = judgedBy (firstNo (loading levels ++ judging (speedsIn levels) count ts)) (speedsIn levels) ts
 
 -- a plan judged
 abbrev pub judgedPlan : List ℕ → Plan → Judged
-judgedPlan speeds p = judgedList speeds (p .count) (tasksOf p)
+judgedPlan levels p = judgedList levels (p .count) (tasksOf p)
 
 -- a block read
 abbrev pub readBlock : List ℕ → List ℕ → Judged
-readBlock speeds block = judgedBy (firstNo (reading speeds block)) speeds (tasksIn block)
+readBlock levels block = judgedBy (firstNo (loading levels ++ reading (speedsIn levels) block)) (speedsIn levels) (tasksIn block)
 
 -- the number that so much room for so many bytes is answered with: 9, or 0
 abbrev pub roomNumber : ℕ → ℕ → ℕ
 roomNumber wanted room = firstNo (roomQuestion wanted room ∷ [])
 
--- the number that writing a plan into so much room is answered with: 3, 6, 7, 8, "then" 9
+-- the number that writing a plan into so much room is answered with
 abbrev pub writeNumber : List ℕ → Plan → ℕ → ℕ
-writeNumber speeds p room =
-    firstNo (judging speeds (p .count) (tasksOf p) ++ (roomQuestion (length (planBlock (tasksOf p))) room ∷ []))
+writeNumber levels p room = firstNo (loading levels ++ writing (speedsIn levels) p room)
 
 -- 01: "writing and showing [return] the count of bytes written"
 abbrev pub writtenBy : ℕ → List ℕ → Written
@@ -74,11 +76,11 @@ storedBy zero bytes buffer = bytes ++ drop (length bytes) buffer
 storedBy (suc n) bytes buffer = buffer
 
 abbrev pub writePlan : List ℕ → Plan → ℕ → Written
-writePlan speeds p room = writtenBy (writeNumber speeds p room) (planBlock (tasksOf p))
+writePlan levels p room = writtenBy (writeNumber levels p room) (planBlock (tasksOf p))
 
 abbrev pub writeBuffer : List ℕ → Plan → List ℕ → List ℕ
-writeBuffer speeds p buffer = storedBy (writeNumber speeds p (length buffer)) (planBlock (tasksOf p)) buffer
+writeBuffer levels p buffer = storedBy (writeNumber levels p (length buffer)) (planBlock (tasksOf p)) buffer
 
 -- a block read, then written again: reading's questions, then 9
 abbrev pub copyNumber : List ℕ → List ℕ → ℕ → ℕ
-copyNumber speeds block room = firstNo (reading speeds block ++ (roomQuestion (length block) room ∷ []))
+copyNumber levels block room = firstNo (loading levels ++ (reading (speedsIn levels) block ++ (roomQuestion (length block) room ∷ [])))

@@ -1,4 +1,4 @@
--- What is promised of plans as a whole, each as a type that a proof has.
+-- What is promised of plans as a whole, each as a type that a proof has. What is asked of a level block is that the call accepted it.
 -- Assumes nothing.
 use Prim.Native.Nat.{ℕ, _<_, _≤_, _∣_}
 use mathlib.Core.Path.{_≡_}
@@ -18,20 +18,20 @@ abbrev pub Bytes : List ℕ → Type 0
 Bytes s = (k : ℕ) → k < length s → getD s k 0 < 256
 
 -- demand 2: "a written plan reads back as the same plan"
-abbrev pub WrittenReadsBack : List ℕ → Type 0
-WrittenReadsBack speeds =
-    (p : Plan) →
+abbrev pub WrittenReadsBack : Type 0
+WrittenReadsBack =
+    (levels : List ℕ) (p : Plan) →
     length (p .tasks) ≡ 16 →
-    isAccepted (verdictAnswer (judgedPlan speeds p .verdict)) ≡ true →
-    readBlock speeds (planBlock (tasksOf p)) ≡ judgedPlan speeds p
+    isAccepted (verdictAnswer (judgedPlan levels p .verdict)) ≡ true →
+    readBlock levels (planBlock (tasksOf p)) ≡ judgedPlan levels p
 
 -- demand 2: "and an accepted block written again has the same bytes"
-abbrev pub AcceptedWritesBack : List ℕ → Type 0
-AcceptedWritesBack speeds =
-    (block : List ℕ) →
+abbrev pub AcceptedWritesBack : Type 0
+AcceptedWritesBack =
+    (levels block : List ℕ) →
     Bytes block →
-    isAccepted (verdictAnswer (readBlock speeds block .verdict)) ≡ true →
-    planBlock (tasksOf (readBlock speeds block .plan)) ≡ block
+    isAccepted (verdictAnswer (readBlock levels block .verdict)) ≡ true →
+    planBlock (tasksOf (readBlock levels block .plan)) ≡ block
 
 -- a level admits exactly from the nominal one up
 abbrev pub AdmitsFromNominal : List ℕ → Type 0

@@ -1,5 +1,6 @@
 pub mod Times
 pub mod Levels
+pub mod LevelBlocks
 pub mod Blocks
 pub mod Questions
 pub mod Answers

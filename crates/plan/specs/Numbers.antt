@@ -6,6 +6,8 @@ use lib.ListN.{getD}
 use Rattle.arith.specs.Ranges.{listTo}
 use Rattle.plan.specs.declared.Task.{Task}
 use Rattle.plan.specs.declared.Plan.{Plan}
+use Rattle.plan.specs.declared.Load.{Load}
+use Rattle.plan.specs.declared.Load.the-variants as load
 use Rattle.plan.specs.declared.Verdict.{Verdict}
 use Rattle.plan.specs.declared.Verdict.the-variants as verdict
 use Rattle.plan.specs.declared.Written.{Written}
@@ -17,6 +19,11 @@ taskAt numbers i = record { period = getD numbers (2 * i) 0; worst = getD number
 
 abbrev pub planFrom : ℕ → List ℕ → Plan
 planFrom count numbers = record { count = count; tasks = listTo 16 (taskAt numbers) }
+
+-- a refusal is its number; else the count of levels times 256
+abbrev pub loadNumber : Load → ℕ
+loadNumber (load.Levels count) = 256 * count
+loadNumber (load.Refused n) = n
 
 -- a refusal is its number; else the level times 256 and the hyperperiod times 65,536
 abbrev pub verdictNumber : Verdict → ℕ

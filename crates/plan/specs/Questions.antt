@@ -2,14 +2,15 @@
 -- Assumes nothing.
 use Prim.Native.Nat.{ℕ}
 use mathlib.Core.Bool.{Bool}
-use mathlib.Core.List.{List, [], _∷_}
+use mathlib.Core.List.{List, [], _∷_, _++_}
 use lib.Dec.{leb, ltb, eqb}
 use lib.ListN.{length}
 use Rattle.arith.specs.Choice.{both, every}
 use Rattle.arith.specs.Asking.{Question, ask, within}
 use Rattle.plan.specs.declared.Task.{Task}
+use Rattle.plan.specs.declared.Plan.{Plan}
 use Rattle.plan.specs.Levels.{hyperperiod, nominal}
-use Rattle.plan.specs.Blocks.{editionIn, countIn, tasksIn, blockLength, closingBits}
+use Rattle.plan.specs.Blocks.{editionIn, countIn, tasksIn, tasksOf, planBlock, blockLength, closingBits}
 
 -- 01: "A task has a period (1 to 65,535 ticks) and a worst case (1 to 1,048,575 units of work)."
 abbrev pub inRange : Task → Bool
@@ -52,3 +53,7 @@ reading speeds block =
 -- 01: "is the lent buffer long enough? 9"
 abbrev pub roomQuestion : ℕ → ℕ → Question
 roomQuestion wanted room = ask 9 (leb wanted room)
+
+-- 01: "Writing a plan then asks: [..] 9"
+abbrev pub writing : List ℕ → Plan → ℕ → List Question
+writing speeds p room = judging speeds (p .count) (tasksOf p) ++ (roomQuestion (length (planBlock (tasksOf p))) room ∷ [])

@@ -18,6 +18,18 @@ pub struct Plan {
     pub tasks: [Task; 16],
 }
 
+// What reading a level block answers: the count of levels, or a refusal's number.
+pub enum Load {
+    Levels(usize),
+    Refused(u32),
+}
+
+// The answer, beside the speeds of the levels; past their count, and beside a refusal, they are zero.
+pub struct Board {
+    pub answer: Load,
+    pub speeds: [u32; 8],
+}
+
 // What judging and reading answer: the nominal level and the hyperperiod, or a refusal's number.
 pub enum Verdict {
     Admitted { nominal: usize, hyperperiod: u32 },

@@ -8,6 +8,7 @@ use lib.ListN.{length}
 use Rattle.arith.specs.Digits.{digits}
 use Rattle.arith.specs.Asking.{Answer, values, refusal, isAccepted, firstNo}
 use Rattle.plan.specs.declared.Written.{Written}
+use Rattle.plan.specs.LevelBlocks.{speedsIn}
 use Rattle.plan.specs.Blocks.{tasksIn}
 use Rattle.plan.specs.Answers.{writtenBy, storedBy}
 use Rattle.schedule.specs.PlainSchedule.{Pending, queueOf}
@@ -35,35 +36,37 @@ isOrder r = isAccepted (replyAnswer r)
 
 -- starting
 abbrev pub startNumber : List ℕ → List ℕ → ℕ → ℕ
-startNumber speeds block room = firstNo (starting speeds block room)
+startNumber levels block room = firstNo (starting levels block room)
 
 abbrev pub startOrder : List ℕ → State → Reply
 startOrder speeds s = orderWith s (holdOf speeds (timing speeds (planIn s)) s)
 
 abbrev pub startReply : List ℕ → List ℕ → ℕ → Reply
-startReply speeds block room =
-    repliedBy (startNumber speeds block room) (startOrder speeds (startState speeds (tasksIn block)))
+startReply levels block room =
+    repliedBy (startNumber levels block room) (startOrder (speedsIn levels) (startState (speedsIn levels) (tasksIn block)))
 
 abbrev pub startBuffer : List ℕ → List ℕ → List ℕ → List ℕ
-startBuffer speeds block buffer =
-    storedBy (startNumber speeds block (length buffer)) (encode (startState speeds (tasksIn block))) buffer
+startBuffer levels block buffer =
+    storedBy (startNumber levels block (length buffer)) (encode (startState (speedsIn levels) (tasksIn block))) buffer
 
 -- passing
-abbrev pub passNumber : List ℕ → List ℕ → ℕ → Bool → ℕ
-passNumber speeds bytes d finished = firstNo (passing speeds bytes d finished)
+abbrev pub passNumber : List ℕ → ℕ → Bool → ℕ
+passNumber bytes d finished = firstNo (passing bytes d finished)
 
 abbrev pub passOrder : List ℕ → State → ℕ → Bool → Reply
 passOrder speeds s d finished =
     orderWith (passedState speeds (timing speeds (planIn s)) s d finished)
     (passedHold speeds (timing speeds (planIn s)) s d finished)
 
-abbrev pub passReply : List ℕ → List ℕ → ℕ → Bool → Reply
-passReply speeds bytes d finished =
-    repliedBy (passNumber speeds bytes d finished) (passOrder speeds (decode bytes) d finished)
+-- 02, No. 1: orders "are from now on those of the loaded speeds": a state has its own
+abbrev pub passReply : List ℕ → ℕ → Bool → Reply
+passReply bytes d finished =
+    repliedBy (passNumber bytes d finished) (passOrder (decode bytes .speeds) (decode bytes) d finished)
 
-abbrev pub passBytes : List ℕ → List ℕ → ℕ → Bool → List ℕ
-passBytes speeds bytes d finished =
-    storedBy (passNumber speeds bytes d finished)
+abbrev pub passBytes : List ℕ → ℕ → Bool → List ℕ
+passBytes bytes d finished =
+    let speeds : List ℕ = decode bytes .speeds in
+    storedBy (passNumber bytes d finished)
     (encode (passedState speeds (timing speeds (planIn (decode bytes))) (decode bytes) d finished))
     bytes
 
@@ -75,15 +78,14 @@ queueBytes (e ∷ q) = e .job .task ∷ digits 256 2 (e .remaining) ++ queueByte
 abbrev pub readyQueue : List ℕ → State → List Pending
 readyQueue speeds s = queueOf (timing speeds (planIn s)) (s .clock) (remainingOf s) (length (s .entries))
 
-abbrev pub shownBytes : List ℕ → List ℕ → List ℕ
-shownBytes speeds bytes = queueBytes (readyQueue speeds (decode bytes))
+abbrev pub shownBytes : List ℕ → List ℕ
+shownBytes bytes = queueBytes (readyQueue (decode bytes .speeds) (decode bytes))
 
-abbrev pub showNumber : List ℕ → List ℕ → ℕ → ℕ
-showNumber speeds bytes room = firstNo (showing speeds bytes (length (shownBytes speeds bytes)) room)
+abbrev pub showNumber : List ℕ → ℕ → ℕ
+showNumber bytes room = firstNo (showing bytes (length (shownBytes bytes)) room)
 
-abbrev pub showReply : List ℕ → List ℕ → ℕ → Written
-showReply speeds bytes room = writtenBy (showNumber speeds bytes room) (shownBytes speeds bytes)
+abbrev pub showReply : List ℕ → ℕ → Written
+showReply bytes room = writtenBy (showNumber bytes room) (shownBytes bytes)
 
-abbrev pub showBuffer : List ℕ → List ℕ → List ℕ → List ℕ
-showBuffer speeds bytes buffer =
-    storedBy (showNumber speeds bytes (length buffer)) (shownBytes speeds bytes) buffer
+abbrev pub showBuffer : List ℕ → List ℕ → List ℕ
+showBuffer bytes buffer = storedBy (showNumber bytes (length buffer)) (shownBytes bytes) buffer

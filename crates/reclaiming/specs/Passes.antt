@@ -25,7 +25,7 @@ newEntry τ ts i = entryWith (getD ts i noTask) (whole (getD ts i noTask)) (τ .
 abbrev pub startState : List ℕ → List Task → State
 startState speeds ts =
     chooseOrder speeds (timing speeds ts)
-    (record { clock = 0; task = 255; level = 0; entries = listTo (length ts) (newEntry (timing speeds ts) ts) })
+    (record { clock = 0; task = 255; level = 0; entries = listTo (length ts) (newEntry (timing speeds ts) ts); speeds = speeds })
 
 -- 01: "d ticks are taken from the queue, most urgent entry first, entries at 0 leaving it"
 abbrev pub drainedOf : Timing → State → ℕ → ℕ → ℕ
@@ -61,6 +61,7 @@ movedState speeds τ s d finished = record {
   task = s .task;
   level = s .level;
   entries = listTo (τ .count) (entryAfter speeds τ s d finished);
+  speeds = s .speeds;
 }
 
 -- 01: "If a job finished or one arrived, a new order is chosen; otherwise task and level stay and the hold falls by d."

@@ -9,6 +9,7 @@ use lib.ListN.{length, take, drop}
 use Rattle.arith.specs.Choice.{pick}
 use Rattle.plan.specs.declared.Written.{Written}
 use Rattle.plan.specs.declared.Written.the-variants as written
+use Rattle.plan.specs.LevelBlocks.{speedsIn}
 use Rattle.plan.specs.Blocks.{tasksIn}
 use Rattle.schedule.specs.PlainSchedule.{Book, opened}
 use Rattle.reclaiming.specs.declared.Reply.{Reply}
@@ -44,15 +45,15 @@ leftBy zero done found = done
 leftBy (suc n) done found = found
 
 abbrev pub playedState : List ℕ → List ℕ → List ℕ → List Pass → List ℕ
-playedState speeds block state passes =
-    leftBy (startNumber speeds block (length state))
-    (bytesAfter speeds (startedBytes speeds block state) passes ++ drop stateLength state)
+playedState levels block state passes =
+    leftBy (startNumber levels block (length state))
+    (bytesAfter (startedBytes levels block state) passes ++ drop stateLength state)
     state
 
 abbrev pub playedReplies : List ℕ → List ℕ → List ℕ → List Pass → List ℕ → List ℕ
-playedReplies speeds block state passes replies =
-    leftBy (startNumber speeds block (length state))
-    (replyNumbers (trace speeds (startedBytes speeds block state) passes) ++ drop (length passes) replies)
+playedReplies levels block state passes replies =
+    leftBy (startNumber levels block (length state))
+    (replyNumbers (trace (startedBytes levels block state) passes) ++ drop (length passes) replies)
     replies
 
 -- the passes with the replies that stand in the lent block
@@ -63,39 +64,39 @@ answersFrom (p ∷ ps) (x ∷ xs) = record { pass = p; reply = replyFrom x } ∷
 
 -- what showing the queue after the passes answers, no bytes where the start was refused and nothing is shown; and what it leaves
 abbrev pub playedShown : List ℕ → List ℕ → List ℕ → List Pass → ℕ → Written
-playedShown speeds block state passes room =
-    leftBy (startNumber speeds block (length state))
-    (showReply speeds (bytesAfter speeds (startedBytes speeds block state) passes) room)
+playedShown levels block state passes room =
+    leftBy (startNumber levels block (length state))
+    (showReply (bytesAfter (startedBytes levels block state) passes) room)
     (written.Bytes 0)
 
 abbrev pub playedQueue : List ℕ → List ℕ → List ℕ → List Pass → List ℕ → List ℕ
-playedQueue speeds block state passes lent =
-    leftBy (startNumber speeds block (length state))
-    (showBuffer speeds (bytesAfter speeds (startedBytes speeds block state) passes) lent)
+playedQueue levels block state passes lent =
+    leftBy (startNumber levels block (length state))
+    (showBuffer (bytesAfter (startedBytes levels block state) passes) lent)
     lent
 
 -- the promises, said of the number that was returned and of those that were left in the lent block
-module _ (speeds block : List ℕ) (first : ℕ) (passes : List Pass) (replies : List ℕ) where
+module _ (levels block : List ℕ) (first : ℕ) (passes : List Pass) (replies : List ℕ) where
   abbrev answersTo : ℕ → List Answered
   answersTo n = take n (answersFrom passes replies)
 
   -- the two books after the first n passes
   abbrev pub actualTo : ℕ → DispatcherBook
-  actualTo n = bookedAll speeds (tasksIn block) (openedBook (tasksIn block) (replyFrom first)) (answersTo n)
+  actualTo n = bookedAll (speedsIn levels) (tasksIn block) (openedBook (tasksIn block) (replyFrom first)) (answersTo n)
 
   abbrev pub plainTo : ℕ → Book
-  plainTo n = ranAll (timing speeds (tasksIn block)) (opened (timing speeds (tasksIn block))) (answersTo n)
+  plainTo n = ranAll (timing (speedsIn levels) (tasksIn block)) (opened (timing (speedsIn levels) (tasksIn block))) (answersTo n)
 
   -- demand 3 along the way: after the first n passes, for every n, so after the last one too
   abbrev pub PlayedOnTime : Type 0
-  PlayedOnTime = isOrder (replyFrom first) ≡ true → (n : ℕ) → OnTime (timing speeds (tasksIn block)) (actualTo n) (plainTo n)
+  PlayedOnTime = isOrder (replyFrom first) ≡ true → (n : ℕ) → OnTime (timing (speedsIn levels) (tasksIn block)) (actualTo n) (plainTo n)
 
   -- the order that stands after them names the most urgent open job
   abbrev pub PlayedMostUrgent : Type 0
   PlayedMostUrgent =
       isOrder (replyFrom first) ≡ true →
       (n : ℕ) →
-      NamesMostUrgent (timing speeds (tasksIn block)) (actualTo n) (lastOrder (replyFrom first) (answersTo n))
+      NamesMostUrgent (timing (speedsIn levels) (tasksIn block)) (actualTo n) (lastOrder (replyFrom first) (answersTo n))
 
   -- demand 2: the queue shown after all passes is that of the plain schedule's book
   abbrev pub PlayedQueueShown : List ℕ → Written → List ℕ → Type 0

@@ -11,6 +11,7 @@ use Rattle.arith.specs.Choice.{both}
 use Rattle.plan.specs.declared.Written.{Written}
 use Rattle.plan.specs.Times.{timeOf}
 use Rattle.plan.specs.Levels.{speedOf}
+use Rattle.plan.specs.LevelBlocks.{speedsIn}
 use Rattle.plan.specs.Blocks.{tasksIn}
 use Rattle.plan.specs.Answers.{roomNumber, writtenBy, storedBy}
 use Rattle.schedule.specs.PlainSchedule.{Timing, Job, Pending, Book, deadline, moreUrgent, latest, opened}
@@ -53,61 +54,69 @@ NamesMostUrgent τ b (reply.Run task level hold) = MostUrgent τ b (latest τ (b
 NamesMostUrgent τ b (reply.Idle hold) = (j : Job) → OpenActual τ b j → ⊥
 NamesMostUrgent τ b (reply.Refused n) = ⊥
 
--- "on an accepted plan": starting answered with an order
+-- "on an accepted plan": starting answered with an order, so the level block before it was accepted too
 abbrev pub Started : List ℕ → List ℕ → List ℕ → Type 0
-Started speeds block buffer = isOrder (startReply speeds block (length buffer)) ≡ true
+Started levels block buffer = isOrder (startReply levels block (length buffer)) ≡ true
 
 -- a queue is shown in a lent buffer: 9 if it is not long enough, else the count of the queue's bytes, and these at its front
 pub record Shows (queue : List Pending) (lent : List ℕ) (answer : Written) (left : List ℕ) : Type 0 where
   pub answers : answer ≡ writtenBy (roomNumber (length (queueBytes queue)) (length lent)) (queueBytes queue)
   pub leaves : left ≡ storedBy (roomNumber (length (queueBytes queue)) (length lent)) (queueBytes queue) lent
 
--- a run: a start on a lent buffer, then any list of passes
-module _ (speeds block buffer : List ℕ) (passes : List Pass) where
+-- a run: a start on a lent buffer, over a level block, then any list of passes
+module _ (levels block buffer : List ℕ) (passes : List Pass) where
   abbrev pub replies : List Answered
-  replies = trace speeds (startedBytes speeds block buffer) passes
+  replies = trace (startedBytes levels block buffer) passes
 
   abbrev pub stateAfter : List ℕ
-  stateAfter = bytesAfter speeds (startedBytes speeds block buffer) passes
+  stateAfter = bytesAfter (startedBytes levels block buffer) passes
 
   abbrev pub actualBook : DispatcherBook
-  actualBook = bookedAll speeds (tasksIn block) (openedBook (tasksIn block) (startReply speeds block (length buffer))) replies
+  actualBook = bookedAll (speedsIn levels) (tasksIn block) (openedBook (tasksIn block) (startReply levels block (length buffer))) replies
 
   abbrev pub plainBook : Book
-  plainBook = ranAll (timing speeds (tasksIn block)) (opened (timing speeds (tasksIn block))) replies
+  plainBook = ranAll (timing (speedsIn levels) (tasksIn block)) (opened (timing (speedsIn levels) (tasksIn block))) replies
 
--- Demand 3, in one piece: for every accepted start and every list of passes, refused ones included.
-abbrev pub Demand3 : List ℕ → Type 0
-Demand3 speeds =
-    (block buffer : List ℕ) (passes : List Pass) →
-    Started speeds block buffer →
-    OnTime (timing speeds (tasksIn block)) (actualBook speeds block buffer passes) (plainBook speeds block buffer passes)
+-- Demand 3, in one piece: for every level block, every accepted start and every list of passes, refused ones included. 02, No. 1: "Demands
+-- 2 and 3 are shown once for any accepted table, not for each."
+abbrev pub Demand3 : Type 0
+Demand3 =
+    (levels block buffer : List ℕ) (passes : List Pass) →
+    Started levels block buffer →
+    OnTime (timing (speedsIn levels) (tasksIn block)) (actualBook levels block buffer passes) (plainBook levels block buffer passes)
 
 -- Demand 2: "The queue shown is the ready queue of the plain schedule at that tick, from any accepted start on."
 -- Said of the call: of what showing answers and leaves, for any lent buffer.
-abbrev pub QueueShown : List ℕ → Type 0
-QueueShown speeds =
-    (block buffer : List ℕ) (passes : List Pass) (lent : List ℕ) →
-    Started speeds block buffer →
-    Shows (plainBook speeds block buffer passes .pending) lent
-    (showReply speeds (stateAfter speeds block buffer passes) (length lent))
-    (showBuffer speeds (stateAfter speeds block buffer passes) lent)
+abbrev pub QueueShown : Type 0
+QueueShown =
+    (levels block buffer : List ℕ) (passes : List Pass) (lent : List ℕ) →
+    Started levels block buffer →
+    Shows (plainBook levels block buffer passes .pending) lent
+    (showReply (stateAfter levels block buffer passes) (length lent))
+    (showBuffer (stateAfter levels block buffer passes) lent)
 
 -- A started state is sound, and so is every state that a pass leaves: in a run refusal 10 never comes.
-abbrev pub StaysSound : List ℕ → Type 0
-StaysSound speeds =
-    (block buffer : List ℕ) (passes : List Pass) →
-    Started speeds block buffer →
-    sound speeds (stateAfter speeds block buffer passes) ≡ true
+abbrev pub StaysSound : Type 0
+StaysSound =
+    (levels block buffer : List ℕ) (passes : List Pass) →
+    Started levels block buffer →
+    sound (stateAfter levels block buffer passes) ≡ true
+
+-- Its speeds stay those that were loaded.
+abbrev pub SameSpeeds : Type 0
+SameSpeeds =
+    (levels block buffer : List ℕ) (passes : List Pass) →
+    Started levels block buffer →
+    decode (stateAfter levels block buffer passes) .speeds ≡ speedsIn levels
 
 -- What is left of each task's latest job by the dispatcher's book, which takes nothing from the state, is what the state holds.
-abbrev pub SameLeft : List ℕ → Type 0
-SameLeft speeds =
-    (block buffer : List ℕ) (passes : List Pass) →
-    Started speeds block buffer →
+abbrev pub SameLeft : Type 0
+SameLeft =
+    (levels block buffer : List ℕ) (passes : List Pass) →
+    Started levels block buffer →
     (i : ℕ) →
     i < length (tasksIn block) →
-    actualBook speeds block buffer passes .left i ≡ restOf (decode (stateAfter speeds block buffer passes)) i
+    actualBook levels block buffer passes .left i ≡ restOf (decode (stateAfter levels block buffer passes)) i
 
 -- the running job's time left at the order's level, by the book
 abbrev pub timeLeft : List ℕ → DispatcherBook → ℕ
@@ -136,31 +145,31 @@ lastOrder last [] = last
 lastOrder last (a ∷ rest) = lastOrder (orderAfter last (a .reply)) rest
 
 -- After any run the order that stands names the most urgent open job.
-abbrev pub RunsMostUrgent : List ℕ → Type 0
-RunsMostUrgent speeds =
-    (block buffer : List ℕ) (passes : List Pass) →
-    Started speeds block buffer →
-    NamesMostUrgent (timing speeds (tasksIn block)) (actualBook speeds block buffer passes)
-    (lastOrder (startReply speeds block (length buffer)) (replies speeds block buffer passes))
+abbrev pub RunsMostUrgent : Type 0
+RunsMostUrgent =
+    (levels block buffer : List ℕ) (passes : List Pass) →
+    Started levels block buffer →
+    NamesMostUrgent (timing (speedsIn levels) (tasksIn block)) (actualBook levels block buffer passes)
+    (lastOrder (startReply levels block (length buffer)) (replies levels block buffer passes))
 
 -- No dead end: after any run, the pass that the order itself suggests (its hold; finished exactly if that is the whole time needed) is
 -- accepted, and so is every earlier finish, as long as the clock stays within the largest.
 pub record Open (speeds bytes : List ℕ) (order : Reply) (book : DispatcherBook) : Type 0 where
   pub suggested :
       book .clock + holdIn order ≤ largestClock →
-      isOrder (passReply speeds bytes (holdIn order) (both (isRun order) (eqb (holdIn order) (timeLeft speeds book)))) ≡ true
+      isOrder (passReply bytes (holdIn order) (both (isRun order) (eqb (holdIn order) (timeLeft speeds book)))) ≡ true
   pub early :
       (d : ℕ) →
       1 ≤ d →
       d ≤ holdIn order →
       book .clock + d ≤ largestClock →
       isRun order ≡ true →
-      isOrder (passReply speeds bytes d true) ≡ true
+      isOrder (passReply bytes d true) ≡ true
 
-abbrev pub NoDeadEnd : List ℕ → Type 0
-NoDeadEnd speeds =
-    (block buffer : List ℕ) (passes : List Pass) →
-    Started speeds block buffer →
-    Open speeds (stateAfter speeds block buffer passes)
-    (lastOrder (startReply speeds block (length buffer)) (replies speeds block buffer passes))
-    (actualBook speeds block buffer passes)
+abbrev pub NoDeadEnd : Type 0
+NoDeadEnd =
+    (levels block buffer : List ℕ) (passes : List Pass) →
+    Started levels block buffer →
+    Open (speedsIn levels) (stateAfter levels block buffer passes)
+    (lastOrder (startReply levels block (length buffer)) (replies levels block buffer passes))
+    (actualBook levels block buffer passes)

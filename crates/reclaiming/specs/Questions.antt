@@ -9,6 +9,7 @@ use Rattle.arith.specs.Choice.{pick, both, every}
 use Rattle.arith.specs.Asking.{Question, ask, firstNo}
 use Rattle.plan.specs.Times.{timeOf, taskTime}
 use Rattle.plan.specs.Levels.{speedOf, nominal}
+use Rattle.plan.specs.LevelBlocks.{tableGood, loading, speedsIn}
 use Rattle.plan.specs.Questions.{judging, reading, roomQuestion}
 use Rattle.schedule.specs.PlainSchedule.{Timing, Pending}
 use Rattle.reclaiming.specs.declared.Entry.{Entry}
@@ -45,9 +46,13 @@ stateSound speeds s =
 abbrev pub inTime : ℕ → Bool
 inTime clock = leb clock largestClock
 
--- 01: "Sound means exactly 200 bytes, laid out as above; [..] a clock in range;" and what is asked of the state
-abbrev pub sound : List ℕ → List ℕ → Bool
-sound speeds bytes = both (laidOut bytes) (both (inTime (decode bytes .clock)) (stateSound speeds (decode bytes)))
+-- 01: "Sound means exactly [217] bytes, laid out as above; [..] a clock in range;" and what is asked of the state, at a table of speeds
+abbrev pub soundAt : List ℕ → List ℕ → Bool
+soundAt speeds bytes = both (laidOut bytes) (both (inTime (decode bytes .clock)) (stateSound speeds (decode bytes)))
+
+-- 02, No. 1: "the soundness question covers them": a state's own speeds may be loaded, and it is sound at them
+abbrev pub sound : List ℕ → Bool
+sound bytes = both (tableGood (decode bytes .speeds)) (soundAt (decode bytes .speeds) bytes)
 
 -- a job is running unless the order is to stay idle
 abbrev pub running : State → Bool
@@ -67,13 +72,13 @@ abbrev pub passQuestions : List ℕ → State → ℕ → Bool → List Question
 passQuestions speeds s d finished = stepQuestions speeds s d finished ++ (ask 15 (inTime (clockAfter s d)) ∷ [])
 
 -- 01: "Passing, and showing the queue, ask first whether the state is sound: 10."
-abbrev pub passing : List ℕ → List ℕ → ℕ → Bool → List Question
-passing speeds bytes d finished = ask 10 (sound speeds bytes) ∷ passQuestions speeds (decode bytes) d finished
+abbrev pub passing : List ℕ → ℕ → Bool → List Question
+passing bytes d finished = ask 10 (sound bytes) ∷ passQuestions (decode bytes .speeds) (decode bytes) d finished
 
 -- "Showing then puts 9."
-abbrev pub showing : List ℕ → List ℕ → ℕ → ℕ → List Question
-showing speeds bytes wanted room = ask 10 (sound speeds bytes) ∷ roomQuestion wanted room ∷ []
+abbrev pub showing : List ℕ → ℕ → ℕ → List Question
+showing bytes wanted room = ask 10 (sound bytes) ∷ roomQuestion wanted room ∷ []
 
--- "Starting reads the block, then puts 9 for the 200 bytes."
+-- "Starting reads the block, then puts 9 for the [217] bytes."; the level block's questions come "before all else"
 abbrev pub starting : List ℕ → List ℕ → ℕ → List Question
-starting speeds block room = reading speeds block ++ (roomQuestion stateLength room ∷ [])
+starting levels block room = loading levels ++ (reading (speedsIn levels) block ++ (roomQuestion stateLength room ∷ []))

@@ -11,6 +11,7 @@ use Rattle.plan.specs.declared.Task.{Task}
 use Rattle.plan.specs.declared.Rest.{Rest}
 use Rattle.plan.specs.Times.{whole}
 use Rattle.plan.specs.Levels.{speedOf}
+use Rattle.plan.specs.LevelBlocks.{speedsIn}
 use Rattle.plan.specs.Blocks.{noTask, tasksIn}
 use Rattle.schedule.specs.PlainSchedule.{Timing, Job, Book, latest, after}
 use Rattle.reclaiming.specs.declared.Reply.{Reply}
@@ -30,20 +31,19 @@ pub record Answered : Type 0 where
   pub reply : Reply
 
 -- demand 3: "each further one the state as the last left it, and nobody else writes it meanwhile"
-abbrev pub trace : List ℕ → List ℕ → List Pass → List Answered
-trace speeds bytes [] = []
-trace speeds bytes (p ∷ ps) =
-    record { pass = p; reply = passReply speeds bytes (p .d) (p .finished) }
-    ∷ trace speeds (passBytes speeds bytes (p .d) (p .finished)) ps
+abbrev pub trace : List ℕ → List Pass → List Answered
+trace bytes [] = []
+trace bytes (p ∷ ps) =
+    record { pass = p; reply = passReply bytes (p .d) (p .finished) } ∷ trace (passBytes bytes (p .d) (p .finished)) ps
 
 -- the state's bytes after the list
-abbrev pub bytesAfter : List ℕ → List ℕ → List Pass → List ℕ
-bytesAfter speeds bytes [] = bytes
-bytesAfter speeds bytes (p ∷ ps) = bytesAfter speeds (passBytes speeds bytes (p .d) (p .finished)) ps
+abbrev pub bytesAfter : List ℕ → List Pass → List ℕ
+bytesAfter bytes [] = bytes
+bytesAfter bytes (p ∷ ps) = bytesAfter (passBytes bytes (p .d) (p .finished)) ps
 
--- demand 3: "the first gets the state that starting gave on an accepted plan": the first 200 bytes of the lent buffer
+-- demand 3: "the first gets the state that starting gave on an accepted plan": the first 217 bytes of the lent buffer
 abbrev pub startedBytes : List ℕ → List ℕ → List ℕ → List ℕ
-startedBytes speeds block buffer = take stateLength (startBuffer speeds block buffer)
+startedBytes levels block buffer = take stateLength (startBuffer levels block buffer)
 
 -- the dispatcher's book: its clock, the jobs that it has closed, the running task and its level, which are those of "the order last
 -- returned" (255 and 0 for none), and what is left of each task's latest job
@@ -129,7 +129,7 @@ linesFrom speeds ts b (a ∷ rest) =
 
 -- the lines of a run: one for the start, at clock 0, and one for each pass
 abbrev pub runLines : List ℕ → List ℕ → List ℕ → List Pass → List Line
-runLines speeds block buffer passes =
-    let first : Reply = startReply speeds block (length buffer) in
+runLines levels block buffer passes =
+    let first : Reply = startReply levels block (length buffer) in
     line 0 first
-    ∷ linesFrom speeds (tasksIn block) (openedBook (tasksIn block) first) (trace speeds (startedBytes speeds block buffer) passes)
+    ∷ linesFrom (speedsIn levels) (tasksIn block) (openedBook (tasksIn block) first) (trace (startedBytes levels block buffer) passes)

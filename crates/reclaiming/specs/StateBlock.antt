@@ -1,4 +1,4 @@
--- 01, "Blocks": the state, and its block of 200 bytes.
+-- 01, "Blocks": the state, and its block; 02, No. 1: it "grows to 217 bytes".
 -- Assumes nothing.
 use Prim.Native.Nat.{ℕ, zero, suc, _+_, _-_, _*_}
 use mathlib.Core.Bool.{Bool, true, false}
@@ -6,6 +6,7 @@ use mathlib.Core.List.{List, [], _∷_, _++_, map}
 use lib.Dec.{eqb}
 use lib.ListN.{length, getD, drop, replicate}
 use Rattle.arith.specs.Choice.{both}
+use Rattle.arith.specs.Ranges.{listTo}
 use Rattle.plan.specs.declared.Task.{Task}
 use Rattle.plan.specs.declared.Rest.{Rest}
 use Rattle.plan.specs.Times.{taskTime}
@@ -15,12 +16,13 @@ use Rattle.schedule.specs.PlainSchedule.{Timing}
 use Rattle.reclaiming.specs.declared.Entry.{Entry}
 use Rattle.reclaiming.specs.Fields.{Field, field, zeros, fieldsBytes, fieldsLength, readField}
 
--- the clock, the order that stands (its task, or 255 for idle; its level, or 0 for idle), and an entry for each task
+-- the clock, the order that stands (its task, or 255 for idle; its level, or 0 for idle), an entry for each task, and the speeds of the levels
 pub record State : Type 0 where
   pub clock : ℕ
   pub task : ℕ
   pub level : ℕ
   pub entries : List Entry
+  pub speeds : List ℕ
 
 abbrev pub noEntry : Entry
 noEntry = record { period = 0; worst = 0; work = 0; remaining = 0 }
@@ -116,11 +118,23 @@ remainingField = 3
 abbrev pub pairField : ℕ
 pairField = 4
 
--- past the entries nothing stands
-abbrev pub tailFields : List (Field State)
-tailFields = []
+-- 02, No. 1: "at its end the count and eight speeds of two bytes, unused ones zero"
+abbrev pub levelPlaces : ℕ
+levelPlaces = 8
 
--- 8 bytes, 12 for an entry, and "200 bytes" in all
+abbrev pub speedRow : ℕ → Field State
+speedRow k = field 2 (λ s. getD (s .speeds) k 0)
+
+abbrev pub tailFields : List (Field State)
+tailFields = field 1 (λ s. length (s .speeds)) ∷ listTo levelPlaces speedRow
+
+abbrev pub levelsField : ℕ
+levelsField = 0
+
+abbrev pub speedField : ℕ → ℕ
+speedField k = suc k
+
+-- 8 bytes, 12 for an entry, and "217 bytes" in all
 abbrev pub headLength : ℕ
 headLength = fieldsLength headFields
 
@@ -163,12 +177,19 @@ entriesFrom (suc n) bytes = entryFrom bytes ∷ entriesFrom n (drop entryLength 
 abbrev pub stateCount : List ℕ → ℕ
 stateCount bytes = readField headFields countField bytes
 
+abbrev pub levelCount : List ℕ → ℕ
+levelCount bytes = readField tailFields levelsField (drop tailAt bytes)
+
+abbrev pub speedIn : List ℕ → ℕ → ℕ
+speedIn bytes k = readField tailFields (speedField k) (drop tailAt bytes)
+
 abbrev pub decode : List ℕ → State
 decode bytes = record {
   clock = readField headFields clockField bytes;
   task = readField headFields taskField bytes;
   level = readField headFields levelField bytes;
   entries = entriesFrom (stateCount bytes) (drop headLength bytes);
+  speeds = listTo (levelCount bytes) (speedIn bytes);
 }
 
 -- two lists of bytes are the same
@@ -178,6 +199,6 @@ sameBytes [] (y ∷ ys) = false
 sameBytes (x ∷ xs) [] = false
 sameBytes (x ∷ xs) (y ∷ ys) = both (eqb x y) (sameBytes xs ys)
 
--- 01: "exactly 200 bytes, laid out as above": a block is what its own fields are written as
+-- 01: "exactly [217] bytes, laid out as above": a block is what its own fields are written as
 abbrev pub laidOut : List ℕ → Bool
 laidOut bytes = both (eqb (length bytes) stateLength) (sameBytes (encode (decode bytes)) bytes)
