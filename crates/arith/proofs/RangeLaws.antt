@@ -8,7 +8,7 @@ use native.Mathlib.Nat.{not-suc-le-zero}
 use native.Mathlib.Decide.{decLe}
 use native.Mathlib.Omega.{arith}
 use lib.ListN.{length, getD, length-append, List·getD-append}
-use lib.Seq.{getD-at}
+use lib.Seq.{ext-getD, getD-at}
 use Rattle.arith.specs.Choice.{pick}
 use Rattle.arith.specs.Ranges.{leastTo, listTo, someTo}
 use Rattle.arith.proofs.Tests.{passed, failed, tested}
@@ -88,6 +88,12 @@ module _ (f : ℕ → Bool) where
         | passed ↦ λ x. sym (some-yes n i k x) ∙ h
         | failed ↦ λ x. refl
       ] refl
+
+-- a list whose values are known
+pub listTo-is {ℓ} :
+    {A : Type ℓ} (n : ℕ) (f : ℕ → A) (l : List A) (d : A) → length l ≡ n → ((i : ℕ) → i < n → getD l i d ≡ f i) → l ≡ listTo n f
+listTo-is n f l d size each =
+    ext-getD d l (listTo n f) (size ∙ sym (length-listTo n f)) (λ i h. each i (omega arith) ∙ sym (getD-listTo n f i d (omega arith)))
 
 -- lists that agree at each place
 pub listTo-same {ℓ} : {A : Type ℓ} (n : ℕ) (f g : ℕ → A) → ((i : ℕ) → i < n → f i ≡ g i) → listTo n f ≡ listTo n g

@@ -80,6 +80,10 @@ fine-table speeds h =
       rising = rising speeds rise;
     }
 
+-- a level of such a table fits a byte
+pub few-levels : {speeds : List ℕ} → FineTable speeds → length speeds ≤ 256
+few-levels t = omega (arith, t .few)
+
 -- an accepted level block has such a table
 pub length-speedsIn : (block : List ℕ) → length (speedsIn block) ≡ levelCountIn block
 length-speedsIn block = length-listTo (levelCountIn block) (speedAt block)

@@ -1,5 +1,4 @@
--- The promises of the dispatcher, for any rising table of speeds of at most 256 levels: demand 3 in one piece, the queue shown, soundness
--- kept, and no dead end.
+-- The promises of the dispatcher, for any accepted level block: demand 3 in one piece, the queue shown, soundness kept, and no dead end.
 -- Assumes nothing.
 use Prim.Native.Nat.{ℕ, _+_, _≤_, _<_}
 use mathlib.Core.Path.{_≡_, refl, sym, subst, subst₂, ap, ap₂, _∙_}
@@ -8,24 +7,24 @@ use mathlib.Core.List.{List, [], _∷_}
 use mathlib.Core.Logic.{_⊎_, inl, inr, ⊎-elim}
 use native.Mathlib.Decide.{ℕ-discrete}
 use native.Mathlib.Omega.{arith}
-use borrow.Author.Tests.{leb-true, eq-eqb}
+use borrow.Author.Tests.{eq-eqb}
 use lib.Dec.{eqb}
 use lib.ListN.{length, getD, take, drop}
 use lib.Seq.{take-at, drop-at}
 use Rattle.arith.specs.Choice.{both}
-use Rattle.arith.specs.Asking.{Question}
 use Rattle.arith.specs.Ranges.{listTo}
 use Rattle.arith.proofs.Tests.{passed, failed, tested}
-use Rattle.arith.proofs.QuestionLaws.{ask-yes, yes-of, yes-after, all-yes}
+use Rattle.arith.proofs.QuestionLaws.{ask-yes}
 use Rattle.arith.proofs.RangeLaws.{getD-listTo}
 use Rattle.plan.specs.declared.Task.{Task}
 use Rattle.plan.specs.Times.{timeOf}
 use Rattle.plan.specs.Levels.{Rising, speedOf, hyperperiod, nominal}
+use Rattle.plan.specs.LevelBlocks.{speedsIn}
 use Rattle.plan.specs.Blocks.{tasksIn}
-use Rattle.plan.specs.Questions.{reading, roomQuestion}
 use Rattle.plan.specs.Answers.{roomNumber, writtenBy, storedBy}
 use Rattle.plan.proofs.TimeLaws.{time-some}
-use Rattle.plan.proofs.Facts.{FineList, fine-block, block-list, range-at}
+use Rattle.plan.proofs.LevelBlockLaws.{FineTable, few-levels}
+use Rattle.plan.proofs.Facts.{FineList, range-at}
 use Rattle.schedule.specs.PlainSchedule.{Timing, Job, Pending, Book, latest, deadline, moreUrgent, canonicalAt, queueOf, opened}
 use Rattle.schedule.specs.Feasibility.{In, Fitting}
 use Rattle.schedule.proofs.Members.{all-in}
@@ -45,138 +44,149 @@ use Rattle.reclaiming.specs.Calls.{repliedBy, isOrder, startReply, start
 use Rattle.reclaiming.specs.Calls.{showNumber, showReply, showBuffer}
 use Rattle.reclaiming.specs.Run.{Pass, DispatcherBook, Arrived, bookedAll, ranAll, bytesAfter, trace, unopenedBook, openedBook, ordered, startedBytes}
 use Rattle.reclaiming.specs.Promises.{Started, OpenPlain, OpenActual, OnTime, MostUrgent, NamesMostUrgent, Shows}
-use Rattle.reclaiming.specs.Promises.{Demand3, QueueShown, StaysSound, RunsMostUrgent, SameLeft, NoDeadEnd, Open}
+use Rattle.reclaiming.specs.Promises.{Demand3, QueueShown, StaysSound, SameSpeeds, RunsMostUrgent, SameLeft, NoDeadEnd, Open}
 use Rattle.reclaiming.specs.Promises.{timeLeft, isRun, holdIn, lastOrder, stateAfter, actualBook, plainBook, replies}
 use Rattle.reclaiming.proofs.Fine.{Fine, Accepted, nominalSpeed}
 use Rattle.reclaiming.proofs.Replies.{is-idle, is-run, viewOrder, order-accepted, order-booked, order-runs, order-held, not-refused}
 use Rattle.reclaiming.proofs.Plans.{nominal-positive, plan-fits}
-use Rattle.reclaiming.proofs.StateCodec.{length-encode}
-use Rattle.reclaiming.proofs.Soundness.{fine-length, fine-storable, pass-yes}
-use Rattle.reclaiming.proofs.PassedStates.{choose-clock, choose-entries}
+use Rattle.reclaiming.proofs.StateCodec.{StorableTable, length-encode}
+use Rattle.reclaiming.proofs.Soundness.{fine-length, fine-stored, fine-storable, pass-yes, Starts, start-facts}
+use Rattle.reclaiming.proofs.PassedStates.{choose-clock, choose-entries, choose-speeds}
 use Rattle.reclaiming.proofs.PassSound.{start-fine, hold-accepted, finish-accepted}
 use Rattle.reclaiming.proofs.Books.{OpenLatest, Held, held-start, Ended, ended-start, latest-arrived, latest-deadline}
 use Rattle.reclaiming.proofs.OrderFacts.{Runs, Ordered, idles, runs}
 use Rattle.reclaiming.proofs.Worked as worked
-use Rattle.reclaiming.proofs.Runs.{Tied, Kept, idle-level, kept-pass, stored-sound, stored-length, decoded, reply-is}
+use Rattle.reclaiming.proofs.Runs.{Tied, Kept, idle-level, kept-pass, stored-sound, stored-length, speeds-are, decoded, reply-is}
 
-module _ (speeds : List ℕ) (rising : Rising speeds) (few : length speeds ≤ 256) where
-  -- what an accepted start has shown
-  module _ (block buffer : List ℕ) (ok : Started speeds block buffer) where
-    abbrev ts : List Task
-    ts = tasksIn block
+-- what an accepted start has shown
+module _ (levels block buffer : List ℕ) (ok : Started levels block buffer) where
+  abbrev speeds : List ℕ
+  speeds = speedsIn levels
 
-    abbrev τ : Timing
-    τ = timing speeds ts
+  abbrev ts : List Task
+  ts = tasksIn block
 
-    abbrev s : State
-    s = startState speeds ts
+  abbrev τ : Timing
+  τ = timing speeds ts
 
-    number : startNumber speeds block (length buffer) ≡ 0
-    number = not-refused (startNumber speeds block (length buffer)) (startOrder speeds s) ok
+  abbrev s : State
+  s = startState speeds ts
 
-    abbrev then-room : List Question
-    then-room = roomQuestion stateLength (length buffer) ∷ []
+  number : startNumber levels block (length buffer) ≡ 0
+  number = not-refused (startNumber levels block (length buffer)) (startOrder speeds s) ok
 
-    -- the block reads as an accepted plan
-    pub good : FineList speeds (length ts) ts
-    good = block-list speeds block (fine-block speeds block (yes-of (reading speeds block) then-room number))
+  starts : Starts levels block (length buffer)
+  starts = start-facts levels block (length buffer) number
 
-    -- the buffer had room
-    pub room : stateLength ≤ length buffer
-    room =
-        leb-true stateLength (length buffer) (all-yes then-room refl (yes-after (reading speeds block) then-room refl number) .0)
+  -- the level block was accepted, the block reads as an accepted plan, and the buffer had room
+  pub table : FineTable speeds
+  table = starts .table
 
-    fine : Fine speeds ts s
-    fine = start-fine speeds ts good rising
+  pub good : FineList speeds (length ts) ts
+  good = starts .good
 
-    -- the state before an order is chosen in it
-    abbrev unordered : State
-    unordered = record { clock = 0; task = 255; level = 0; entries = listTo (length ts) (newEntry τ ts) }
+  pub room : stateLength ≤ length buffer
+  room = starts .long
 
-    clock : s .clock ≡ 0
-    clock = choose-clock speeds τ unordered
+  fine : Fine speeds ts s
+  fine = start-fine speeds ts good (table .rising)
 
-    in-time : s .clock ≤ largestClock
-    in-time = omega (arith, clock)
+  -- the state before an order is chosen in it
+  abbrev unordered : State
+  unordered = record { clock = 0; task = 255; level = 0; entries = listTo (length ts) (newEntry τ ts); speeds = speeds }
 
-    size : length (encode s) ≡ stateLength
-    size = length-encode s (fine-storable speeds ts s good rising few fine in-time .count)
+  clock : s .clock ≡ 0
+  clock = choose-clock speeds τ unordered
 
-    begun : startedBytes speeds block buffer ≡ encode s
-    begun =
-        ap (λ (n : ℕ). take stateLength (storedBy n (encode s) buffer)) number
-        ∙ take-at (encode s) (drop (length (encode s)) buffer) stateLength size
+  in-time : s .clock ≤ largestClock
+  in-time = omega (arith, clock)
 
-    -- what lies past the state is untouched
-    pub untouched : drop stateLength (startBuffer speeds block buffer) ≡ drop stateLength buffer
-    untouched =
-        ap (λ (n : ℕ). drop stateLength (storedBy n (encode s) buffer)) number
-        ∙ drop-at (encode s) (drop (length (encode s)) buffer) stateLength size
-        ∙ ap (λ (n : ℕ). drop n buffer) size
+  own : s .speeds ≡ speeds
+  own = choose-speeds speeds τ unordered
 
-    entry : (i : ℕ) → i < length ts → getD (s .entries) i noEntry ≡ newEntry τ ts i
-    entry i h =
-        ap (λ (l : List Entry). getD l i noEntry) (choose-entries speeds τ unordered)
-        ∙ getD-listTo (length ts) (newEntry τ ts) i noEntry h
+  size : length (encode s) ≡ stateLength
+  size = length-encode s (fine-storable speeds ts s good (table .rising) (few-levels table) fine in-time (subst StorableTable (sym own) (fine-stored table)) .count)
 
-    left : (i : ℕ) → i < length ts → τ .allotment i ≡ remainingOf s i
-    left i h = sym (ap (λ (e : Entry). e .remaining) (entry i h))
+  begun : startedBytes levels block buffer ≡ encode s
+  begun =
+      ap (λ (n : ℕ). take stateLength (storedBy n (encode s) buffer)) number
+      ∙ take-at (encode s) (drop (length (encode s)) buffer) stateLength size
 
-    open-all : (i : ℕ) → i < length ts → 0 < workOf s i
-    open-all i h = subst (λ (e : Entry). 0 < e .work) (sym (entry i h)) (range-at ts i (good .tasks .ranges) h .worst-low)
+  -- what lies past the state is untouched
+  pub untouched : drop stateLength (startBuffer levels block buffer) ≡ drop stateLength buffer
+  untouched =
+      ap (λ (n : ℕ). drop stateLength (storedBy n (encode s) buffer)) number
+      ∙ drop-at (encode s) (drop (length (encode s)) buffer) stateLength size
+      ∙ ap (λ (n : ℕ). drop n buffer) size
 
-    fits : Fitting τ (hyperperiod ts)
-    fits = plan-fits speeds ts good rising
+  entry : (i : ℕ) → i < length ts → getD (s .entries) i noEntry ≡ newEntry τ ts i
+  entry i h =
+      ap (λ (l : List Entry). getD l i noEntry) (choose-entries speeds τ unordered)
+      ∙ getD-listTo (length ts) (newEntry τ ts) i noEntry h
 
-    abbrev first : Reply
-    first = startReply speeds block (length buffer)
+  left : (i : ℕ) → i < length ts → τ .allotment i ≡ remainingOf s i
+  left i h = sym (ap (λ (e : Entry). e .remaining) (entry i h))
 
-    abbrev hold : ℕ
-    hold = holdOf speeds (timing speeds (planIn s)) s
+  open-all : (i : ℕ) → i < length ts → 0 < workOf s i
+  open-all i h = subst (λ (e : Entry). 0 < e .work) (sym (entry i h)) (range-at ts i (good .tasks .ranges) h .worst-low)
 
-    replied : first ≡ orderWith s hold
-    replied = ap (λ (n : ℕ). repliedBy n (startOrder speeds s)) number
+  fits : Fitting τ (hyperperiod ts)
+  fits = plan-fits speeds ts good (table .rising)
 
-    -- the book at the start
-    book :
-        openedBook ts first
-        ≡ record { clock = 0; closed = []; task = s .task; level = s .level; left = unopenedBook ts .left }
-    book = ap (ordered (unopenedBook ts)) replied ∙ order-booked s hold (idle-level good fine) (unopenedBook ts)
+  abbrev first : Reply
+  first = startReply levels block (length buffer)
 
-    kept-start : Kept speeds ts (startedBytes speeds block buffer) (openedBook ts first) (opened τ) first
-    kept-start = record {
-      state = s;
-      stored = begun;
-      in-time = in-time;
-      tied = record {
-        fine = fine;
-        clock = ap (λ (b : DispatcherBook). b .clock) book ∙ sym clock;
-        task = ap (λ (b : DispatcherBook). b .task) book;
-        level = ap (λ (b : DispatcherBook). b .level) book;
-        left = λ i h. ap (λ (b : DispatcherBook). b .left i) book ∙ sym (ap restIn (entry i h));
-        held =
-            subst₂ (λ (c : ℕ) (b : DispatcherBook). Held τ c (workOf s) (b .closed)) (sym clock) (sym book)
-            (held-start τ (workOf s) (fits .periods) open-all);
-        ended =
-            subst₂ (λ (c : ℕ) (b : DispatcherBook). Ended τ c (workOf s) (b .closed)) (sym clock) (sym book) (ended-start τ (workOf s));
-        plainly = ap (canonicalAt τ) (sym clock);
-        queue =
-            subst (λ (c : ℕ). canonicalAt τ c ≡ record { clock = c; pending = queueOf τ c (remainingOf s) (τ .count) }) (sym clock)
-            (canonical-start τ (hyperperiod ts) fits
-            ∙ (λ k. record { clock = 0; pending = queueOf-cong τ 0 (τ .allotment) (remainingOf s) (τ .count) left k }));
-        order-is = replied ∙ ap (λ (l : List Task). orderWith s (holdOf speeds (timing speeds l) s)) (fine .entries .plan);
-      };
-    }
+  abbrev hold : ℕ
+  hold = holdOf speeds (timing speeds (planIn s)) s
+
+  replied : first ≡ orderWith s hold
+  replied = ap (λ (n : ℕ). repliedBy n (startOrder speeds s)) number
+
+  -- the book at the start
+  book :
+      openedBook ts first
+      ≡ record { clock = 0; closed = []; task = s .task; level = s .level; left = unopenedBook ts .left }
+  book = ap (ordered (unopenedBook ts)) replied ∙ order-booked s hold (idle-level good fine) (unopenedBook ts)
+
+  kept-start : Kept speeds ts (startedBytes levels block buffer) (openedBook ts first) (opened τ) first
+  kept-start = record {
+    state = s;
+    stored = begun;
+    in-time = in-time;
+    own = own;
+    tied = record {
+      fine = fine;
+      clock = ap (λ (b : DispatcherBook). b .clock) book ∙ sym clock;
+      task = ap (λ (b : DispatcherBook). b .task) book;
+      level = ap (λ (b : DispatcherBook). b .level) book;
+      left = λ i h. ap (λ (b : DispatcherBook). b .left i) book ∙ sym (ap restIn (entry i h));
+      held =
+          subst₂ (λ (c : ℕ) (b : DispatcherBook). Held τ c (workOf s) (b .closed)) (sym clock) (sym book)
+          (held-start τ (workOf s) (fits .periods) open-all);
+      ended =
+          subst₂ (λ (c : ℕ) (b : DispatcherBook). Ended τ c (workOf s) (b .closed)) (sym clock) (sym book) (ended-start τ (workOf s));
+      plainly = ap (canonicalAt τ) (sym clock);
+      queue =
+          subst (λ (c : ℕ). canonicalAt τ c ≡ record { clock = c; pending = queueOf τ c (remainingOf s) (τ .count) }) (sym clock)
+          (canonical-start τ (hyperperiod ts) fits
+          ∙ (λ k. record { clock = 0; pending = queueOf-cong τ 0 (τ .allotment) (remainingOf s) (τ .count) left k }));
+      order-is = replied ∙ ap (λ (l : List Task). orderWith s (holdOf speeds (timing speeds l) s)) (fine .entries .plan);
+    };
+  }
+
+module _ (speeds : List ℕ) (table : FineTable speeds) where
+  rising : Rising speeds
+  rising = table .rising
 
   -- the tie after a whole list of passes
   module _ (ts : List Task) (good : FineList speeds (length ts) ts) where
     kept-run :
         (passes : List Pass) {bytes : List ℕ} {a : DispatcherBook} {b : Book} {last : Reply} →
         Kept speeds ts bytes a b last →
-        Kept speeds ts (bytesAfter speeds bytes passes) (bookedAll speeds ts a (trace speeds bytes passes))
-        (ranAll (timing speeds ts) b (trace speeds bytes passes)) (lastOrder last (trace speeds bytes passes))
+        Kept speeds ts (bytesAfter bytes passes) (bookedAll speeds ts a (trace bytes passes))
+        (ranAll (timing speeds ts) b (trace bytes passes)) (lastOrder last (trace bytes passes))
     kept-run [] k = k
-    kept-run (p ∷ ps) {bytes} {a} {b} {last} k = kept-run ps (kept-pass speeds rising few ts good p bytes a b last k)
+    kept-run (p ∷ ps) {bytes} {a} {b} {last} k = kept-run ps (kept-pass speeds table ts good p bytes a b last k)
 
     -- what the tie says of the books
     module _ {s : State} {a : DispatcherBook} {b : Book} {last : Reply} (t : Tied speeds ts s a b last) where
@@ -325,21 +335,21 @@ module _ (speeds : List ℕ) (rising : Rising speeds) (few : length speeds ≤ 2
       t = k .tied
 
       is-state : decode bytes ≡ now
-      is-state = decoded speeds rising few ts good (k .stored) (k .in-time) (t .fine)
+      is-state = decoded speeds table ts good (k .stored) (k .in-time) (k .own) (t .fine)
 
       -- what showing writes is the plain schedule'now ready queue
-      shown : shownBytes speeds bytes ≡ queueBytes (b .pending)
+      shown : shownBytes bytes ≡ queueBytes (b .pending)
       shown =
-          ap (λ (x : State). queueBytes (readyQueue speeds x)) is-state
+          ap₂ (λ (v : List ℕ) (x : State). queueBytes (readyQueue v x)) (ap (λ (x : State). x .speeds) is-state ∙ k .own) is-state
           ∙ ap₂ (λ (l : List Task) (k : ℕ). queueBytes (queueOf (timing speeds l) (now .clock) (remainingOf now) k))
           (t .fine .entries .plan) (fine-length (t .fine .entries))
           ∙ sym (ap (λ (k : Book). queueBytes (k .pending)) (plain-is t))
 
       -- and so is what it answers and leaves, since the state is sound
-      shows : (lent : List ℕ) → Shows (b .pending) lent (showReply speeds bytes (length lent)) (showBuffer speeds bytes lent)
+      shows : (lent : List ℕ) → Shows (b .pending) lent (showReply bytes (length lent)) (showBuffer bytes lent)
       shows lent =
-          let asked : showNumber speeds bytes (length lent) ≡ roomNumber (length (queueBytes (b .pending))) (length lent) =
-          ask-yes 10 (stored-sound speeds rising few ts good (k .stored) (k .in-time) (t .fine)) (ap (λ (l : List ℕ). roomNumber (length l) (length lent)) shown) in
+          let asked : showNumber bytes (length lent) ≡ roomNumber (length (queueBytes (b .pending))) (length lent) =
+          ask-yes 10 (stored-sound speeds table ts good (k .stored) (k .in-time) (k .own) (t .fine)) (ap (λ (l : List ℕ). roomNumber (length l) (length lent)) shown) in
           record { answers = ap₂ writtenBy asked shown; leaves = ap₂ (λ (n : ℕ) (l : List ℕ). storedBy n l lent) asked shown }
 
       -- an accepted pass within the largest clock is answered with an order
@@ -347,9 +357,9 @@ module _ (speeds : List ℕ) (rising : Rising speeds) (few : length speeds ≤ 2
           (d : ℕ) (finished : Bool) →
           Accepted speeds (timing speeds ts) now d finished →
           a .clock + d ≤ largestClock →
-          isOrder (passReply speeds bytes d finished) ≡ true
+          isOrder (passReply bytes d finished) ≡ true
       answered d finished ok late =
-          ap isOrder (reply-is speeds rising few ts good (k .stored) (k .in-time) (t .fine) d finished)
+          ap isOrder (reply-is speeds table ts good (k .stored) (k .in-time) (k .own) (t .fine) d finished)
           ∙ ap (λ (n : ℕ). isOrder (repliedBy n (orderWith next hold)))
           (pass-yes speeds now d finished (subst (λ (l : List Task). Accepted speeds (timing speeds l) now d finished) (sym (t .fine .entries .plan)) ok)
           (subst (λ (c : ℕ). c + d ≤ largestClock) (t .clock) late))
@@ -388,38 +398,54 @@ module _ (speeds : List ℕ) (rising : Rising speeds) (few : length speeds ≤ 2
             l;
       }
 
-  -- a run: an accepted start, then any list of passes
-  after-run :
-      (block buffer : List ℕ) (passes : List Pass) →
-      Started speeds block buffer →
-      Kept speeds (tasksIn block) (stateAfter speeds block buffer passes) (actualBook speeds block buffer passes)
-      (plainBook speeds block buffer passes) (lastOrder (startReply speeds block (length buffer)) (replies speeds block buffer passes))
-  after-run block buffer passes ok = kept-run (tasksIn block) (good block buffer ok) passes (kept-start block buffer ok)
+-- a run: an accepted start, then any list of passes
+after-run :
+    (levels block buffer : List ℕ) (passes : List Pass) →
+    Started levels block buffer →
+    Kept (speedsIn levels) (tasksIn block) (stateAfter levels block buffer passes) (actualBook levels block buffer passes)
+    (plainBook levels block buffer passes) (lastOrder (startReply levels block (length buffer)) (replies levels block buffer passes))
+after-run levels block buffer passes ok =
+    kept-run (speedsIn levels) (table levels block buffer ok) (tasksIn block) (good levels block buffer ok) passes (kept-start levels block buffer ok)
 
-  -- the state is 200 bytes all along
-  pub after-length : (block buffer : List ℕ) (passes : List Pass) → Started speeds block buffer → length (stateAfter speeds block buffer passes) ≡ stateLength
-  after-length block buffer passes ok =
-      let k = after-run block buffer passes ok in
-      stored-length speeds rising few (tasksIn block) (good block buffer ok) (k .stored) (k .in-time) (k .tied .fine)
+-- the state is 217 bytes all along
+pub after-length :
+    (levels block buffer : List ℕ) (passes : List Pass) → Started levels block buffer → length (stateAfter levels block buffer passes) ≡ stateLength
+after-length levels block buffer passes ok =
+    let k = after-run levels block buffer passes ok in
+    stored-length (speedsIn levels) (table levels block buffer ok) (tasksIn block) (good levels block buffer ok) (k .stored) (k .in-time) (k .own)
+    (k .tied .fine)
 
-  pub demand-3 : Demand3 speeds
-  demand-3 block buffer passes ok = on-time (tasksIn block) (good block buffer ok) (after-run block buffer passes ok .tied)
+pub demand-3 : Demand3
+demand-3 levels block buffer passes ok =
+    on-time (speedsIn levels) (table levels block buffer ok) (tasksIn block) (good levels block buffer ok) (after-run levels block buffer passes ok .tied)
 
-  pub queue-shown : QueueShown speeds
-  queue-shown block buffer passes lent ok = shows (tasksIn block) (good block buffer ok) (after-run block buffer passes ok) lent
+pub queue-shown : QueueShown
+queue-shown levels block buffer passes lent ok =
+    shows (speedsIn levels) (table levels block buffer ok) (tasksIn block) (good levels block buffer ok) (after-run levels block buffer passes ok) lent
 
-  pub runs-most-urgent : RunsMostUrgent speeds
-  runs-most-urgent block buffer passes ok = names-most-urgent (tasksIn block) (good block buffer ok) (after-run block buffer passes ok .tied)
+pub runs-most-urgent : RunsMostUrgent
+runs-most-urgent levels block buffer passes ok =
+    names-most-urgent (speedsIn levels) (table levels block buffer ok) (tasksIn block) (good levels block buffer ok)
+    (after-run levels block buffer passes ok .tied)
 
-  pub stays-sound : StaysSound speeds
-  stays-sound block buffer passes ok =
-      let k = after-run block buffer passes ok in
-      stored-sound speeds rising few (tasksIn block) (good block buffer ok) (k .stored) (k .in-time) (k .tied .fine)
+pub stays-sound : StaysSound
+stays-sound levels block buffer passes ok =
+    let k = after-run levels block buffer passes ok in
+    stored-sound (speedsIn levels) (table levels block buffer ok) (tasksIn block) (good levels block buffer ok) (k .stored) (k .in-time) (k .own)
+    (k .tied .fine)
 
-  pub same-left : SameLeft speeds
-  same-left block buffer passes ok i h =
-      let k = after-run block buffer passes ok in
-      k .tied .left i h ∙ sym (ap (λ (s : State). restOf s i) (is-state (tasksIn block) (good block buffer ok) k))
+pub same-speeds : SameSpeeds
+same-speeds levels block buffer passes ok =
+    let k = after-run levels block buffer passes ok in
+    speeds-are (speedsIn levels) (table levels block buffer ok) (tasksIn block) (good levels block buffer ok) (k .stored) (k .in-time) (k .own)
+    (k .tied .fine)
 
-  pub no-dead-end : NoDeadEnd speeds
-  no-dead-end block buffer passes ok = not-dead (tasksIn block) (good block buffer ok) (after-run block buffer passes ok)
+pub same-left : SameLeft
+same-left levels block buffer passes ok i h =
+    let k = after-run levels block buffer passes ok in
+    k .tied .left i h
+    ∙ sym (ap (λ (s : State). restOf s i) (is-state (speedsIn levels) (table levels block buffer ok) (tasksIn block) (good levels block buffer ok) k))
+
+pub no-dead-end : NoDeadEnd
+no-dead-end levels block buffer passes ok =
+    not-dead (speedsIn levels) (table levels block buffer ok) (tasksIn block) (good levels block buffer ok) (after-run levels block buffer passes ok)

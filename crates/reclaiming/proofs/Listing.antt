@@ -5,14 +5,13 @@ use mathlib.Core.Bool.{true}
 use Rattle.arith.specs.Need.{need}
 use Rattle.arith.specs.Divisor.{gcd, lcm}
 use Rattle.plan.specs.Times.{timeOf, worn}
-use Rattle.plan.specs.Levels.{baseSpeeds}
 use Rattle.plan.specs.Answers.{readBlock}
 use Rattle.schedule.specs.PlainSchedule.{moreUrgent}
 use Rattle.reclaiming.specs.StateBlock.{stateLength}
 use Rattle.reclaiming.specs.Calls.{isOrder, startReply}
-use Rattle.reclaiming.specs.Cases.{benchBlock, benchJudged, benchLines, listedLines}
+use Rattle.reclaiming.specs.Cases.{baseLevels, benchBlock, benchJudged, benchLines, listedLines}
 
-pub bench-plan : readBlock baseSpeeds benchBlock ≡ benchJudged
+pub bench-plan : readBlock baseLevels benchBlock ≡ benchJudged
 unfolding need timeOf worn lcm gcd moreUrgent
 bench-plan = refl
 
@@ -21,6 +20,6 @@ unfolding need timeOf worn lcm gcd moreUrgent
 bench-listing = refl
 
 -- the hypothesis of demand 3 holds of it
-pub bench-started : isOrder (startReply baseSpeeds benchBlock stateLength) ≡ true
+pub bench-started : isOrder (startReply baseLevels benchBlock stateLength) ≡ true
 unfolding need timeOf worn lcm gcd moreUrgent
 bench-started = refl

@@ -102,7 +102,7 @@ plan-listTo ts f h =
 pub start-fine : (speeds : List ℕ) (ts : List Task) → FineList speeds (length ts) ts → Rising speeds → Fine speeds ts (startState speeds ts)
 start-fine speeds ts plan rising =
     fine-chosen speeds ts (plan .tasks .admitted)
-    (record { clock = 0; task = 255; level = 0; entries = listTo (length ts) new })
+    (record { clock = 0; task = 255; level = 0; entries = listTo (length ts) new; speeds = speeds })
     (record {
       plan = plan-listTo ts new (λ i h. refl);
       work = λ i h. at (λ e. e .work ≤ getD ts i noTask .worst) i h (omega arith);

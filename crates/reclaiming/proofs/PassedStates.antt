@@ -1,4 +1,4 @@
--- What choosing an order, and a pass, make of a state: its clock and each of its entries.
+-- What choosing an order, and a pass, make of a state: its clock, each of its entries and its speeds.
 -- Assumes nothing.
 use Prim.Native.Nat.{ℕ, _+_, _%_, _<_}
 use mathlib.Core.Path.{_≡_, refl, ap, _∙_}
@@ -19,7 +19,7 @@ use Rattle.reclaiming.specs.StateBlock.{State, noEntry, remainingOf, res
 use Rattle.reclaiming.specs.Orders.{chooseOrder, orderFor, openJobs}
 use Rattle.reclaiming.specs.Passes.{passedState, movedState, choosesAnew, newEntry, agedEntry, entryAfter, workedOf, drainedOf}
 
--- choosing an order leaves the clock and the entries
+-- choosing an order leaves the clock, the entries and the speeds
 chosen-clock : (speeds : List ℕ) (τ : Timing) (s : State) (q : List Pending) → orderFor speeds τ s q .clock ≡ s .clock
 chosen-clock speeds τ s [] = refl
 chosen-clock speeds τ s (e ∷ q) = refl
@@ -28,12 +28,19 @@ chosen-entries : (speeds : List ℕ) (τ : Timing) (s : State) (q : List Pending
 chosen-entries speeds τ s [] = refl
 chosen-entries speeds τ s (e ∷ q) = refl
 
+chosen-speeds : (speeds : List ℕ) (τ : Timing) (s : State) (q : List Pending) → orderFor speeds τ s q .speeds ≡ s .speeds
+chosen-speeds speeds τ s [] = refl
+chosen-speeds speeds τ s (e ∷ q) = refl
+
 module _ (speeds : List ℕ) (τ : Timing) where
   pub choose-clock : (s : State) → chooseOrder speeds τ s .clock ≡ s .clock
   choose-clock s = chosen-clock speeds τ s (openJobs τ s)
 
   pub choose-entries : (s : State) → chooseOrder speeds τ s .entries ≡ s .entries
   choose-entries s = chosen-entries speeds τ s (openJobs τ s)
+
+  pub choose-speeds : (s : State) → chooseOrder speeds τ s .speeds ≡ s .speeds
+  choose-speeds s = chosen-speeds speeds τ s (openJobs τ s)
 
   module _ (s : State) (d : ℕ) (finished : Bool) where
     abbrev next : State
@@ -51,6 +58,11 @@ module _ (speeds : List ℕ) (τ : Timing) where
     passed-entries =
         elim (tested (choosesAnew τ s d finished)) as (λ b _. pick b (chooseOrder speeds τ moved) moved .entries ≡ listTo (τ .count) (entryAfter speeds τ s d finished))
         [ passed ↦ choose-entries moved | failed ↦ refl ]
+
+    pub passed-speeds : next .speeds ≡ s .speeds
+    passed-speeds =
+        elim (tested (choosesAnew τ s d finished)) as (λ b _. pick b (chooseOrder speeds τ moved) moved .speeds ≡ s .speeds)
+        [ passed ↦ choose-speeds moved | failed ↦ refl ]
 
     module _ (i : ℕ) (h : i < τ .count) where
       pub passed-entry : getD (next .entries) i noEntry ≡ entryAfter speeds τ s d finished i

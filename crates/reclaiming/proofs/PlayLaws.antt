@@ -11,9 +11,10 @@ use lib.Arith.{digits-mod}
 use lib.ListN.{length, take, drop}
 use Rattle.arith.specs.Choice.{pick}
 use Rattle.arith.proofs.QuestionLaws.{Yes, all-yes, yes-all, firstNo-most}
-use Rattle.plan.specs.Levels.{Rising}
+use Rattle.plan.specs.LevelBlocks.{speedsIn}
 use Rattle.plan.specs.Blocks.{tasksIn}
 use Rattle.plan.specs.Answers.{storedBy}
+use Rattle.plan.proofs.LevelBlockLaws.{FineTable, few-levels}
 use Rattle.plan.proofs.Facts.{FineList}
 use Rattle.schedule.specs.PlainSchedule.{Timing, opened}
 use Rattle.reclaiming.specs.declared.Reply.{Reply}
@@ -29,9 +30,9 @@ use Rattle.reclaiming.specs.Numbers.{replyNumber}
 use Rattle.reclaiming.specs.Play.{replyFrom, replyNumbers, answersFrom, leftBy, playedState, playedReplies, PlayedOnTime, PlayedMostUrgent}
 use Rattle.reclaiming.proofs.Fine.{Fine, Accepted}
 use Rattle.reclaiming.proofs.Replies.{is-idle, is-run, viewOrder, order-accepted, not-refused}
-use Rattle.reclaiming.proofs.Soundness.{sound-state, sound-fine, pass-accepted, fine-small}
+use Rattle.reclaiming.proofs.Soundness.{sound-state, sound-fine, sound-table, sound-own, pass-accepted, fine-small, Starts, start-facts}
 use Rattle.reclaiming.proofs.PassSound.{start-fine, pass-fine}
-use Rattle.reclaiming.proofs.Demand.{demand-3, runs-most-urgent, good, room, untouched}
+use Rattle.reclaiming.proofs.Demand.{demand-3, runs-most-urgent, room, untouched}
 
 -- a reply whose parts each fit their place in the number
 abbrev pub Small : Reply → Type 0
@@ -76,39 +77,63 @@ replied-small zero order small fits = fits refl
 replied-small (suc n) order small fits = small
 
 -- a start on lent blocks: its reply, whether that is an order, and the state that it leaves
-pub record Begun (speeds block state : List ℕ) (x : Reply) (b : Bool) (l : List ℕ) : Type 0 where
-  pub replied : x ≡ startReply speeds block (length state)
+pub record Begun (levels block state : List ℕ) (x : Reply) (b : Bool) (l : List ℕ) : Type 0 where
+  pub replied : x ≡ startReply levels block (length state)
   pub tested : b ≡ isOrder x
-  pub left : l ≡ startBuffer speeds block state
+  pub left : l ≡ startBuffer levels block state
   pub kept : length l ≡ length state
 
--- over any rising table of at most 256 levels
-module _ (speeds : List ℕ) (rising : Rising speeds) (few : length speeds ≤ 256) where
-  -- every reply of a pass is such
-  module _ (bytes : List ℕ) (d : ℕ) (finished : Bool) where
-    abbrev before : State
-    before = decode bytes
+-- every reply of a pass is such
+module _ (bytes : List ℕ) (d : ℕ) (finished : Bool) where
+  abbrev before : State
+  before = decode bytes
 
-    abbrev next : State
-    next = passedState speeds (timing speeds (planIn before)) before d finished
+  abbrev held : List ℕ
+  held = before .speeds
 
-    next-small : passNumber speeds bytes d finished ≡ 0 → (next .task < 256) × (next .level < 256)
-    next-small e =
-        let yes : Yes (passing speeds bytes d finished) = all-yes (passing speeds bytes d finished) refl e in
-        let fine : FineList speeds (length (planIn before)) (planIn before) × Fine speeds (planIn before) before =
-        sound-fine speeds before (sound-state speeds bytes (yes .0)) in
-        let ok : Accepted speeds (timing speeds (planIn before)) before d finished =
-        pass-accepted speeds before d finished (yes-all (passQuestions speeds before d finished) (yes .1)) .0 in
-        fine-small speeds (planIn before) next (fine .0) few
-        (pass-fine speeds rising (planIn before) (fine .0) before (fine .1) d finished ok)
+  abbrev next : State
+  next = passedState held (timing held (planIn before)) before d finished
 
-    pass-small : Small (passReply speeds bytes d finished)
-    pass-small =
-        replied-small (passNumber speeds bytes d finished) (passOrder speeds before d finished)
-        (omega (arith, firstNo-most 15 (passing speeds bytes d finished) refl))
-        (λ e. order-small next (passedHold speeds (timing speeds (planIn before)) before d finished) (next-small e))
+  next-small : passNumber bytes d finished ≡ 0 → (next .task < 256) × (next .level < 256)
+  next-small e =
+      let yes : Yes (passing bytes d finished) = all-yes (passing bytes d finished) refl e in
+      let table : FineTable held = sound-table bytes (yes .0) in
+      let fine : FineList held (length (planIn before)) (planIn before) × Fine held (planIn before) before =
+      sound-fine held before (sound-state held bytes (sound-own bytes (yes .0))) in
+      let ok : Accepted held (timing held (planIn before)) before d finished =
+      pass-accepted held before d finished (yes-all (passQuestions held before d finished) (yes .1)) .0 in
+      fine-small held (planIn before) next (fine .0) (few-levels table)
+      (pass-fine held (table .rising) (planIn before) (fine .0) before (fine .1) d finished ok)
 
-  -- and of a start
+  pass-small : Small (passReply bytes d finished)
+  pass-small =
+      replied-small (passNumber bytes d finished) (passOrder held before d finished)
+      (omega (arith, firstNo-most 15 (passing bytes d finished) refl))
+      (λ e. order-small next (passedHold held (timing held (planIn before)) before d finished) (next-small e))
+
+-- so the replies that stand in a lent block are those of the run
+answers-same :
+    (passes : List Pass) (bytes rest : List ℕ) → answersFrom passes (replyNumbers (trace bytes passes) ++ rest) ≡ trace bytes passes
+answers-same [] bytes rest = refl
+answers-same (p ∷ ps) bytes rest =
+    ap₂ (λ (r : Reply) (l : List Answered). record { pass = p; reply = r } ∷ l)
+    (from-number (passReply bytes (p .d) (p .finished)) (pass-small bytes (p .d) (p .finished)))
+    (answers-same ps (passBytes bytes (p .d) (p .finished)) rest)
+
+-- a run of the first n passes
+trace-take : (n : ℕ) (bytes : List ℕ) (passes : List Pass) → take n (trace bytes passes) ≡ trace bytes (take n passes)
+trace-take zero bytes passes = refl
+trace-take (suc n) bytes [] = refl
+trace-take (suc n) bytes (p ∷ ps) =
+    ap (λ (l : List Answered). record { pass = p; reply = passReply bytes (p .d) (p .finished) } ∷ l)
+    (trace-take n (passBytes bytes (p .d) (p .finished)) ps)
+
+-- over any level block
+module _ (levels : List ℕ) where
+  abbrev speeds : List ℕ
+  speeds = speedsIn levels
+
+  -- every reply of a start is such
   module _ (block buffer : List ℕ) where
     abbrev begun : State
     begun = startState speeds (tasksIn block)
@@ -117,111 +142,93 @@ module _ (speeds : List ℕ) (rising : Rising speeds) (few : length speeds ≤ 2
     begun-hold = holdOf speeds (timing speeds (planIn begun)) begun
 
     -- a start is answered with an order exactly if no question is answered no
-    pub started-number : Started speeds block buffer → startNumber speeds block (length buffer) ≡ 0
-    started-number = not-refused (startNumber speeds block (length buffer)) (startOrder speeds begun)
+    pub started-number : Started levels block buffer → startNumber levels block (length buffer) ≡ 0
+    started-number = not-refused (startNumber levels block (length buffer)) (startOrder speeds begun)
 
-    pub number-started : startNumber speeds block (length buffer) ≡ 0 → Started speeds block buffer
+    pub number-started : startNumber levels block (length buffer) ≡ 0 → Started levels block buffer
     number-started e = ap (λ (n : ℕ). isOrder (repliedBy n (orderWith begun begun-hold))) e ∙ order-accepted begun begun-hold
 
-    start-small : Small (startReply speeds block (length buffer))
+    start-small : Small (startReply levels block (length buffer))
     start-small =
-        replied-small (startNumber speeds block (length buffer)) (startOrder speeds begun)
-        (omega (arith, firstNo-most 15 (starting speeds block (length buffer)) refl))
-        (λ e. order-small begun begun-hold (small (good speeds rising few block buffer (number-started e))))
+        replied-small (startNumber levels block (length buffer)) (startOrder speeds begun)
+        (omega (arith, firstNo-most 20 (starting levels block (length buffer)) refl))
+        (λ e. order-small begun begun-hold (small (start-facts levels block (length buffer) e)))
       where
-        small : FineList speeds (length (tasksIn block)) (tasksIn block) → (begun .task < 256) × (begun .level < 256)
-        small plan = fine-small speeds (tasksIn block) begun plan few (start-fine speeds (tasksIn block) plan rising)
-
-  -- so the replies that stand in a lent block are those of the run
-  answers-same :
-      (passes : List Pass) (bytes rest : List ℕ) →
-      answersFrom passes (replyNumbers (trace speeds bytes passes) ++ rest) ≡ trace speeds bytes passes
-  answers-same [] bytes rest = refl
-  answers-same (p ∷ ps) bytes rest =
-      ap₂ (λ (r : Reply) (l : List Answered). record { pass = p; reply = r } ∷ l)
-      (from-number (passReply speeds bytes (p .d) (p .finished)) (pass-small bytes (p .d) (p .finished)))
-      (answers-same ps (passBytes speeds bytes (p .d) (p .finished)) rest)
+        small : Starts levels block (length buffer) → (begun .task < 256) × (begun .level < 256)
+        small k = fine-small speeds (tasksIn block) begun (k .good) (few-levels (k .table)) (start-fine speeds (tasksIn block) (k .good) (k .table .rising))
 
   -- what playing leaves where the start is accepted
   module _ (block state : List ℕ) (passes : List Pass) where
     abbrev bytes-left : List ℕ
-    bytes-left = bytesAfter speeds (startedBytes speeds block state) passes ++ drop stateLength state
+    bytes-left = bytesAfter (startedBytes levels block state) passes ++ drop stateLength state
 
     abbrev replies-left : List ℕ → List ℕ
-    replies-left found = replyNumbers (trace speeds (startedBytes speeds block state) passes) ++ drop (length passes) found
-
-  -- a run of the first n passes
-  trace-take : (n : ℕ) (bytes : List ℕ) (passes : List Pass) → take n (trace speeds bytes passes) ≡ trace speeds bytes (take n passes)
-  trace-take zero bytes passes = refl
-  trace-take (suc n) bytes [] = refl
-  trace-take (suc n) bytes (p ∷ ps) =
-      ap (λ (l : List Answered). record { pass = p; reply = passReply speeds bytes (p .d) (p .finished) } ∷ l)
-      (trace-take n (passBytes speeds bytes (p .d) (p .finished)) ps)
+    replies-left found = replyNumbers (trace (startedBytes levels block state) passes) ++ drop (length passes) found
 
   -- what holds of a run's replies holds of the numbers that playing leaves
   module _ (block state found : List ℕ) (passes : List Pass) where
     abbrev first-number : ℕ
-    first-number = replyNumber (startReply speeds block (length state))
+    first-number = replyNumber (startReply levels block (length state))
 
     abbrev replies-found : List ℕ
-    replies-found = playedReplies speeds block state passes found
+    replies-found = playedReplies levels block state passes found
 
-    first-back : replyFrom first-number ≡ startReply speeds block (length state)
-    first-back = from-number (startReply speeds block (length state)) (start-small block state)
+    first-back : replyFrom first-number ≡ startReply levels block (length state)
+    first-back = from-number (startReply levels block (length state)) (start-small block state)
 
-    pub number-accepted : isOrder (replyFrom first-number) ≡ true → Started speeds block state
+    pub number-accepted : isOrder (replyFrom first-number) ≡ true → Started levels block state
     number-accepted ok = ap isOrder (sym first-back) ∙ ok
 
     answers-back :
-        Started speeds block state →
+        Started levels block state →
         (n : ℕ) →
-        take n (answersFrom passes replies-found) ≡ trace speeds (startedBytes speeds block state) (take n passes)
+        take n (answersFrom passes replies-found) ≡ trace (startedBytes levels block state) (take n passes)
     answers-back ok n =
         ap (take n)
         (ap (λ (k : ℕ). answersFrom passes (leftBy k (replies-left block state passes found) found)) (started-number block state ok)
-        ∙ answers-same passes (startedBytes speeds block state) (drop (length passes) found))
-        ∙ trace-take n (startedBytes speeds block state) passes
+        ∙ answers-same passes (startedBytes levels block state) (drop (length passes) found))
+        ∙ trace-take n (startedBytes levels block state) passes
 
     pub carried :
         (P : Reply → List Answered → Type 0) →
-        Started speeds block state →
+        Started levels block state →
         (n : ℕ) →
-        P (startReply speeds block (length state)) (trace speeds (startedBytes speeds block state) (take n passes)) →
+        P (startReply levels block (length state)) (trace (startedBytes levels block state) (take n passes)) →
         P (replyFrom first-number) (take n (answersFrom passes replies-found))
     carried P ok n = subst₂ P (sym first-back) (sym (answers-back ok n))
 
     abbrev τ : Timing
     τ = timing speeds (tasksIn block)
 
-    played-on-time : PlayedOnTime speeds block first-number passes replies-found
+    played-on-time : PlayedOnTime levels block first-number passes replies-found
     played-on-time accepted n =
-        let ok : Started speeds block state = number-accepted accepted in
+        let ok : Started levels block state = number-accepted accepted in
         carried (λ (r : Reply) (l : List Answered). OnTime τ (bookedAll speeds (tasksIn block) (openedBook (tasksIn block) r) l) (ranAll τ (opened τ) l)) ok n
-        (demand-3 speeds rising few block state (take n passes) ok)
+        (demand-3 levels block state (take n passes) ok)
 
-    played-most-urgent : PlayedMostUrgent speeds block first-number passes replies-found
+    played-most-urgent : PlayedMostUrgent levels block first-number passes replies-found
     played-most-urgent accepted n =
-        let ok : Started speeds block state = number-accepted accepted in
+        let ok : Started levels block state = number-accepted accepted in
         carried (λ (r : Reply) (l : List Answered). NamesMostUrgent τ (bookedAll speeds (tasksIn block) (openedBook (tasksIn block) r) l) (lastOrder r l)) ok n
-        (runs-most-urgent speeds rising few block state (take n passes) ok)
+        (runs-most-urgent levels block state (take n passes) ok)
 
   -- what it leaves where the start is refused, and where it is accepted
   module _ (block state : List ℕ) (passes : List Pass) (found : List ℕ) where
     -- the number that is returned, the state and the replies; the promises are said of that number and those replies
     abbrev Promised : ℕ → List ℕ → Type 0
-    Promised first replies = PlayedOnTime speeds block first passes replies × PlayedMostUrgent speeds block first passes replies
+    Promised first replies = PlayedOnTime levels block first passes replies × PlayedMostUrgent levels block first passes replies
 
     abbrev PlayLeaves : ℕ → List ℕ → List ℕ → Type 0
     PlayLeaves first m replies =
-        (first ≡ replyNumber (startReply speeds block (length state)))
-        × ((m ≡ playedState speeds block state passes)
-        × ((replies ≡ playedReplies speeds block state passes found) × Promised first replies))
+        (first ≡ replyNumber (startReply levels block (length state)))
+        × ((m ≡ playedState levels block state passes)
+        × ((replies ≡ playedReplies levels block state passes found) × Promised first replies))
 
     play-leaves :
         (first : ℕ) (m replies : List ℕ) →
-        first ≡ replyNumber (startReply speeds block (length state)) →
-        m ≡ playedState speeds block state passes →
-        replies ≡ playedReplies speeds block state passes found →
+        first ≡ replyNumber (startReply levels block (length state)) →
+        m ≡ playedState levels block state passes →
+        replies ≡ playedReplies levels block state passes found →
         PlayLeaves first m replies
     play-leaves first m replies e f r =
         (e, (f, (r, subst₂ Promised (sym e) (sym r) (played-on-time block state found passes, played-most-urgent block state found passes))))
@@ -235,60 +242,60 @@ module _ (speeds : List ℕ) (rising : Rising speeds) (few : length speeds ≤ 2
 
     left-refused :
         (n : ℕ) →
-        startNumber speeds block (length state) ≡ n →
-        (Started speeds block state → ⊥) →
-        (startBuffer speeds block state ≡ playedState speeds block state passes) × (found ≡ playedReplies speeds block state passes found)
+        startNumber levels block (length state) ≡ n →
+        (Started levels block state → ⊥) →
+        (startBuffer levels block state ≡ playedState levels block state passes) × (found ≡ playedReplies levels block state passes found)
     left-refused zero e never = absurd (never (number-started block state e))
     left-refused (suc n) e never = (
       ap (λ (k : ℕ). storedBy k (encode (begun block state)) state) e ∙ sym (ap stateBy e),
       sym (ap repliesBy e),
     )
 
-    module _ (ok : Started speeds block state) (l : List ℕ) (started : l ≡ startBuffer speeds block state) where
-      left-state : (m : List ℕ) → m ≡ bytesAfter speeds (take stateLength l) passes → m ++ drop stateLength l ≡ playedState speeds block state passes
+    module _ (ok : Started levels block state) (l : List ℕ) (started : l ≡ startBuffer levels block state) where
+      left-state : (m : List ℕ) → m ≡ bytesAfter (take stateLength l) passes → m ++ drop stateLength l ≡ playedState levels block state passes
       left-state m e =
           ap₂ (λ (x y : List ℕ). x ++ y)
-          (e ∙ ap (λ (x : List ℕ). bytesAfter speeds (take stateLength x) passes) started)
-          (ap (drop stateLength) started ∙ untouched speeds rising few block state ok)
+          (e ∙ ap (λ (x : List ℕ). bytesAfter (take stateLength x) passes) started)
+          (ap (drop stateLength) started ∙ untouched levels block state ok)
           ∙ sym (ap stateBy (started-number block state ok))
 
       left-replies :
           (m : List ℕ) →
-          m ≡ replyNumbers (trace speeds (take stateLength l) passes) ++ drop (length passes) found →
-          m ≡ playedReplies speeds block state passes found
+          m ≡ replyNumbers (trace (take stateLength l) passes) ++ drop (length passes) found →
+          m ≡ playedReplies levels block state passes found
       left-replies m e =
           e
-          ∙ ap (λ (x : List ℕ). replyNumbers (trace speeds (take stateLength x) passes) ++ drop (length passes) found) started
+          ∙ ap (λ (x : List ℕ). replyNumbers (trace (take stateLength x) passes) ++ drop (length passes) found) started
           ∙ sym (ap repliesBy (started-number block state ok))
 
-  module _ {block state : List ℕ} {x : Reply} {b : Bool} {l : List ℕ} (begun : Begun speeds block state x b l) where
-    order-tested : b ≡ isOrder (startReply speeds block (length state))
+  module _ {block state : List ℕ} {x : Reply} {b : Bool} {l : List ℕ} (begun : Begun levels block state x b l) where
+    order-tested : b ≡ isOrder (startReply levels block (length state))
     order-tested = begun .tested ∙ ap isOrder (begun .replied)
 
-    is-refusal : b ≡ false → Started speeds block state → ⊥
+    is-refusal : b ≡ false → Started levels block state → ⊥
     is-refusal f ok = true≢false (sym ok ∙ sym order-tested ∙ f)
 
-    no-refusal : b ≡ true → Started speeds block state
+    no-refusal : b ≡ true → Started levels block state
     no-refusal t = sym order-tested ∙ t
 
-    -- an accepted start has its 200 bytes
+    -- an accepted start has its 217 bytes
     pub play-room : b ≡ true → stateLength ≤ length l
-    play-room t = omega (arith, room speeds rising few block state (no-refusal t), begun .kept)
+    play-room t = omega (arith, room levels block state (no-refusal t), begun .kept)
 
     module _ (passes : List Pass) (found : List ℕ) {first : ℕ} (numbered : first ≡ replyNumber x) where
-      first-is : first ≡ replyNumber (startReply speeds block (length state))
+      first-is : first ≡ replyNumber (startReply levels block (length state))
       first-is = numbered ∙ ap replyNumber (begun .replied)
 
       pub play-refused : b ≡ false → PlayLeaves block state passes found first l found
       play-refused f =
-          let same = left-refused block state passes found (startNumber speeds block (length state)) refl (is-refusal f) in
+          let same = left-refused block state passes found (startNumber levels block (length state)) refl (is-refusal f) in
           play-leaves block state passes found first l found first-is (begun .left ∙ same .0) (same .1)
 
       pub play-accepted :
           {m replies : List ℕ} →
           b ≡ true →
-          m ≡ bytesAfter speeds (take stateLength l) passes →
-          replies ≡ replyNumbers (trace speeds (take stateLength l) passes) ++ drop (length passes) found →
+          m ≡ bytesAfter (take stateLength l) passes →
+          replies ≡ replyNumbers (trace (take stateLength l) passes) ++ drop (length passes) found →
           PlayLeaves block state passes found first (m ++ drop stateLength l) replies
       play-accepted {m} {replies} t e r =
           play-leaves block state passes found first (m ++ drop stateLength l) replies first-is

@@ -10,7 +10,7 @@ use lib.Seq.{take-at, take-length}
 use Rattle.arith.proofs.QuestionLaws.{firstNo-most}
 use Rattle.plan.specs.declared.Written.{Written}
 use Rattle.plan.specs.declared.Written.the-variants as written
-use Rattle.plan.specs.Levels.{Rising}
+use Rattle.plan.specs.LevelBlocks.{speedsIn}
 use Rattle.plan.specs.Blocks.{tasksIn}
 use Rattle.schedule.specs.PlainSchedule.{Timing, opened}
 use Rattle.reclaiming.specs.declared.Reply.{Reply}
@@ -32,95 +32,98 @@ order-above : (s : State) (hold : ℕ) → 256 ≤ replyNumber (orderWith s hold
 order-above s hold = elim (viewOrder s hold) as (λ r _. 256 ≤ replyNumber r) [ is-idle e ↦ omega arith | is-run e ↦ omega arith ]
 
 -- a list that was played: the number returned, and what stands in the lent blocks
-pub record Ran (speeds block state : List ℕ) (passes : List Pass) (found : List ℕ) (number : ℕ) (m replies : List ℕ) : Type 0 where
-  pub numbered : number ≡ replyNumber (startReply speeds block (length state))
-  pub state-is : m ≡ playedState speeds block state passes
-  pub replies-are : replies ≡ playedReplies speeds block state passes found
+pub record Ran (levels block state : List ℕ) (passes : List Pass) (found : List ℕ) (number : ℕ) (m replies : List ℕ) : Type 0 where
+  pub numbered : number ≡ replyNumber (startReply levels block (length state))
+  pub state-is : m ≡ playedState levels block state passes
+  pub replies-are : replies ≡ playedReplies levels block state passes found
   pub kept : length m ≡ length state
 
--- over any rising table of at most 256 levels
-module _ (speeds : List ℕ) (rising : Rising speeds) (few : length speeds ≤ 256) where
+-- over any level block
+module _ (levels : List ℕ) where
+  abbrev speeds : List ℕ
+  speeds = speedsIn levels
+
   -- so the number tells whether the start was accepted
   module _ (block state : List ℕ) where
     abbrev first : ℕ
-    first = replyNumber (startReply speeds block (length state))
+    first = replyNumber (startReply levels block (length state))
 
     abbrev begun : State
     begun = startState speeds (tasksIn block)
 
-    first-by : (n : ℕ) → startNumber speeds block (length state) ≡ n → first ≡ replyNumber (repliedBy n (startOrder speeds begun))
+    first-by : (n : ℕ) → startNumber levels block (length state) ≡ n → first ≡ replyNumber (repliedBy n (startOrder speeds begun))
     first-by n e = ap (λ (k : ℕ). replyNumber (repliedBy k (startOrder speeds begun))) e
 
-    first-refused : first < 256 → startNumber speeds block (length state) ≡ 0 → ⊥
+    first-refused : first < 256 → startNumber levels block (length state) ≡ 0 → ⊥
     first-refused h e = omega (arith, first-by 0 e, order-above begun (holdOf speeds (timing speeds (planIn begun)) begun))
 
-    first-accepted : 256 ≤ first → Started speeds block state
-    first-accepted h = number-started speeds rising few block state (none (startNumber speeds block (length state)) refl)
+    first-accepted : 256 ≤ first → Started levels block state
+    first-accepted h = number-started levels block state (none (startNumber levels block (length state)) refl)
       where
-        none : (n : ℕ) → startNumber speeds block (length state) ≡ n → startNumber speeds block (length state) ≡ 0
+        none : (n : ℕ) → startNumber levels block (length state) ≡ n → startNumber levels block (length state) ≡ 0
         none zero e = e
-        none (suc n) e = absurd (omega (arith, first-by (suc n) e, e, firstNo-most 15 (starting speeds block (length state)) refl))
+        none (suc n) e = absurd (omega (arith, first-by (suc n) e, e, firstNo-most 20 (starting levels block (length state)) refl))
 
   module _ {block state : List ℕ} {passes : List Pass} {found : List ℕ} {number : ℕ} {m replies : List ℕ}
-      (r : Ran speeds block state passes found number m replies) (lent : List ℕ) where
+      (r : Ran levels block state passes found number m replies) (lent : List ℕ) where
     -- what playing and showing answer and leave
     abbrev ShownLeaves : Written → List ℕ → Type 0
     ShownLeaves answer left =
-        (number ≡ replyNumber (startReply speeds block (length state)))
-        × ((answer ≡ playedShown speeds block state passes (length lent))
-        × ((m ≡ playedState speeds block state passes)
-        × ((replies ≡ playedReplies speeds block state passes found)
-        × ((left ≡ playedQueue speeds block state passes lent)
-        × PlayedQueueShown speeds block number passes replies lent answer left))))
+        (number ≡ replyNumber (startReply levels block (length state)))
+        × ((answer ≡ playedShown levels block state passes (length lent))
+        × ((m ≡ playedState levels block state passes)
+        × ((replies ≡ playedReplies levels block state passes found)
+        × ((left ≡ playedQueue levels block state passes lent)
+        × PlayedQueueShown levels block number passes replies lent answer left))))
 
     abbrev bytes : List ℕ
-    bytes = bytesAfter speeds (startedBytes speeds block state) passes
+    bytes = bytesAfter (startedBytes levels block state) passes
 
     abbrev answerBy : ℕ → Written
-    answerBy n = leftBy n (showReply speeds bytes (length lent)) (written.Bytes 0)
+    answerBy n = leftBy n (showReply bytes (length lent)) (written.Bytes 0)
 
     abbrev leftOf : ℕ → List ℕ
-    leftOf n = leftBy n (showBuffer speeds bytes lent) lent
+    leftOf n = leftBy n (showBuffer bytes lent) lent
 
     -- the start was refused, and nothing is shown
     pub shown-not : number < 256 → ShownLeaves (written.Bytes 0) lent
     shown-not h =
         let low : first block state < 256 = omega (arith, r .numbered) in
-        let kept-as = unshown (startNumber speeds block (length state)) refl (first-refused block state low) in (
+        let kept-as = unshown (startNumber levels block (length state)) refl (first-refused block state low) in (
           r .numbered,
           (kept-as .0, (r .state-is, (r .replies-are, (kept-as .1, λ accepted. absurd (never low (subst-number accepted)))))),
         )
       where
         unshown :
             (n : ℕ) →
-            startNumber speeds block (length state) ≡ n →
-            (startNumber speeds block (length state) ≡ 0 → ⊥) →
-            (written.Bytes 0 ≡ playedShown speeds block state passes (length lent)) × (lent ≡ playedQueue speeds block state passes lent)
+            startNumber levels block (length state) ≡ n →
+            (startNumber levels block (length state) ≡ 0 → ⊥) →
+            (written.Bytes 0 ≡ playedShown levels block state passes (length lent)) × (lent ≡ playedQueue levels block state passes lent)
         unshown zero e no-start = absurd (no-start e)
         unshown (suc n) e no-start = (sym (ap answerBy e), sym (ap leftOf e))
 
         never : first block state < 256 → isOrder (replyFrom (first block state)) ≡ true → ⊥
-        never low accepted = first-refused block state low (started-number speeds rising few block state (number-accepted speeds rising few block state found passes accepted))
+        never low accepted = first-refused block state low (started-number levels block state (number-accepted levels block state found passes accepted))
 
         subst-number : isOrder (replyFrom number) ≡ true → isOrder (replyFrom (first block state)) ≡ true
         subst-number accepted = ap (λ (n : ℕ). isOrder (replyFrom n)) (sym (r .numbered)) ∙ accepted
 
     -- the start was accepted
     module _ (h : 256 ≤ number) where
-      ok : Started speeds block state
+      ok : Started levels block state
       ok = first-accepted block state (omega (arith, r .numbered))
 
-      zero-is : startNumber speeds block (length state) ≡ 0
-      zero-is = started-number speeds rising few block state ok
+      zero-is : startNumber levels block (length state) ≡ 0
+      zero-is = started-number levels block state ok
 
       pub shown-room : stateLength ≤ length m
-      shown-room = omega (arith, room speeds rising few block state ok, r .kept)
+      shown-room = omega (arith, room levels block state ok, r .kept)
 
       -- the state shown is the run's
       shown-state : take stateLength m ≡ bytes
       shown-state =
           ap (take stateLength) (r .state-is ∙ ap (λ (n : ℕ). leftBy n (bytes ++ drop stateLength state) state) zero-is)
-          ∙ take-at bytes (drop stateLength state) stateLength (after-length speeds rising few block state passes ok)
+          ∙ take-at bytes (drop stateLength state) stateLength (after-length levels block state passes ok)
 
       abbrev τ : Timing
       τ = timing speeds (tasksIn block)
@@ -128,33 +131,33 @@ module _ (speeds : List ℕ) (rising : Rising speeds) (few : length speeds ≤ 2
       -- said of the numbers that stand in the lent blocks
       queue-said :
           {answer : Written} {left : List ℕ} →
-          answer ≡ showReply speeds bytes (length lent) →
-          left ≡ showBuffer speeds bytes lent →
-          PlayedQueueShown speeds block number passes replies lent answer left
+          answer ≡ showReply bytes (length lent) →
+          left ≡ showBuffer bytes lent →
+          PlayedQueueShown levels block number passes replies lent answer left
       queue-said {answer} {left} a b =
-          subst₂ (λ (n : ℕ) (l : List ℕ). PlayedQueueShown speeds block n passes l lent answer left) (sym (r .numbered)) (sym (r .replies-are))
+          subst₂ (λ (n : ℕ) (l : List ℕ). PlayedQueueShown levels block n passes l lent answer left) (sym (r .numbered)) (sym (r .replies-are))
           (λ accepted.
-          carried speeds rising few block state found passes (λ (x : Reply) (l : List Answered). Shows (ranAll τ (opened τ) l .pending) lent answer left) ok (length passes)
-          (subst₂ (Shows (plainBook speeds block state (all passes) .pending) lent) (sym answer-is) (sym left-is)
-          (queue-shown speeds rising few block state (all passes) lent ok)))
+          carried levels block state found passes (λ (x : Reply) (l : List Answered). Shows (ranAll τ (opened τ) l .pending) lent answer left) ok (length passes)
+          (subst₂ (Shows (plainBook levels block state (all passes) .pending) lent) (sym answer-is) (sym left-is)
+          (queue-shown levels block state (all passes) lent ok)))
         where
           all : List Pass → List Pass
           all ps = take (length passes) ps
 
-          answer-is : answer ≡ showReply speeds (stateAfter speeds block state (all passes)) (length lent)
-          answer-is = a ∙ ap (λ (ps : List Pass). showReply speeds (stateAfter speeds block state ps) (length lent)) (sym (take-length passes))
+          answer-is : answer ≡ showReply (stateAfter levels block state (all passes)) (length lent)
+          answer-is = a ∙ ap (λ (ps : List Pass). showReply (stateAfter levels block state ps) (length lent)) (sym (take-length passes))
 
-          left-is : left ≡ showBuffer speeds (stateAfter speeds block state (all passes)) lent
-          left-is = b ∙ ap (λ (ps : List Pass). showBuffer speeds (stateAfter speeds block state ps) lent) (sym (take-length passes))
+          left-is : left ≡ showBuffer (stateAfter levels block state (all passes)) lent
+          left-is = b ∙ ap (λ (ps : List Pass). showBuffer (stateAfter levels block state ps) lent) (sym (take-length passes))
 
       pub shown-is :
           {answer : Written} {left : List ℕ} →
-          answer ≡ showReply speeds (take stateLength m) (length lent) →
-          left ≡ showBuffer speeds (take stateLength m) lent →
+          answer ≡ showReply (take stateLength m) (length lent) →
+          left ≡ showBuffer (take stateLength m) lent →
           ShownLeaves answer left
       shown-is {answer} {left} a b =
-          let a′ : answer ≡ showReply speeds bytes (length lent) = a ∙ ap (λ (l : List ℕ). showReply speeds l (length lent)) shown-state in
-          let b′ : left ≡ showBuffer speeds bytes lent = b ∙ ap (λ (l : List ℕ). showBuffer speeds l lent) shown-state in (
+          let a′ : answer ≡ showReply bytes (length lent) = a ∙ ap (λ (l : List ℕ). showReply l (length lent)) shown-state in
+          let b′ : left ≡ showBuffer bytes lent = b ∙ ap (λ (l : List ℕ). showBuffer l lent) shown-state in (
             r .numbered,
             (a′ ∙ sym (ap answerBy zero-is), (r .state-is, (r .replies-are, (b′ ∙ sym (ap leftOf zero-is), queue-said a′ b′)))),
           )

@@ -18,9 +18,11 @@ use Rattle.plan.specs.declared.Task.{Task}
 use Rattle.plan.specs.declared.Rest.{Rest}
 use Rattle.plan.specs.Times.{whole, noRest, timeOf, worn}
 use Rattle.plan.specs.Levels.{Rising, speedOf, hyperperiod}
+use Rattle.plan.specs.LevelBlocks.{tableGood}
 use Rattle.plan.specs.Blocks.{noTask}
 use Rattle.plan.specs.Answers.{storedBy}
 use Rattle.plan.proofs.TimeLaws.{time-some}
+use Rattle.plan.proofs.LevelBlockLaws.{FineTable, few-levels}
 use Rattle.plan.proofs.Facts.{FineList, range-at}
 use Rattle.schedule.specs.PlainSchedule.{Timing, Job, Book, latest, canonicalAt, after, queueOf, opened}
 use Rattle.schedule.specs.Feasibility.{Fitting}
@@ -38,13 +40,13 @@ use Rattle.reclaiming.specs.Promises.{orderAfter}
 use Rattle.reclaiming.proofs.Fine.{Fine, Accepted, nominalSpeed}
 use Rattle.reclaiming.proofs.Replies.{is-idle, is-run, viewOrder, order-accepted, order-booked, order-stands}
 use Rattle.reclaiming.proofs.Plans.{nominal-positive, plan-fits}
-use Rattle.reclaiming.proofs.StateCodec.{Storable, decode-encode, length-encode, laid-out}
-use Rattle.reclaiming.proofs.Soundness.{fine-sound, pass-accepted, fine-storable}
+use Rattle.reclaiming.proofs.StateCodec.{Storable, StorableTable, decode-encode, length-encode, laid-out}
+use Rattle.reclaiming.proofs.Soundness.{fine-sound, pass-accepted, fine-stored, fine-storable}
 use Rattle.reclaiming.proofs.OrderFacts.{idles, runs}
 use Rattle.reclaiming.proofs.NextArrival.{next-quiet}
 use Rattle.reclaiming.proofs.Worked.{worked-other, worked-mine, worked-less, worked-open, stays-ahead}
 use Rattle.reclaiming.proofs.Worked as worked
-use Rattle.reclaiming.proofs.PassedStates.{new-rest, old-rest, passed-rest, passed-remaining, passed-clock}
+use Rattle.reclaiming.proofs.PassedStates.{new-rest, old-rest, passed-rest, passed-remaining, passed-clock, passed-speeds}
 use Rattle.reclaiming.proofs.PassSound.{pass-fine, pass-hold}
 use Rattle.reclaiming.proofs.Books.{Held, held-pass, Ended, ended-pass}
 
@@ -63,12 +65,13 @@ pub record Tied (speeds : List ℕ) (ts : List Task) (s : State) (actual : Dispa
       ≡ record { clock = s .clock; pending = queueOf (timing speeds ts) (s .clock) (remainingOf s) (timing speeds ts .count) }
   pub order-is : order ≡ orderWith s (holdOf speeds (timing speeds ts) s)
 
--- a state is tied to the books, and the bytes are its block
+-- a state is tied to the books, the bytes are its block, and its speeds are those that were loaded
 pub record Kept (speeds : List ℕ) (ts : List Task) (bytes : List ℕ) (actual : DispatcherBook) (plain : Book) (order : Reply) : Type 0 where
   pub state : State
   pub tied : Tied speeds ts state actual plain order
   pub stored : bytes ≡ encode state
   pub in-time : state .clock ≤ largestClock
+  pub own : state .speeds ≡ speeds
 
 -- an idle order is at level 0
 pub idle-level : {speeds : List ℕ} {ts : List Task} {s : State} → FineList speeds (length ts) ts → Fine speeds ts s → s .task ≡ 255 → s .level ≡ 0
@@ -96,59 +99,78 @@ module _ (speeds : List ℕ) (ts : List Task) (p : Pass) (s : State) (hold : ℕ
   order-ran τ b = elim (viewOrder s hold) as (λ r _. ran τ b p r ≡ after τ (p .d) b) [ is-idle e ↦ refl | is-run e ↦ refl ]
 
 -- a plan that was accepted, over a table of speeds
-module _ (speeds : List ℕ) (rising : Rising speeds) (few : length speeds ≤ 256) (ts : List Task) (good : FineList speeds (length ts) ts) where
+module _ (speeds : List ℕ) (table : FineTable speeds) (ts : List Task) (good : FineList speeds (length ts) ts) where
   abbrev τ : Timing
   τ = timing speeds ts
+
+  rising : Rising speeds
+  rising = table .rising
+
+  few : length speeds ≤ 256
+  few = few-levels table
 
   fits : Fitting τ (hyperperiod ts)
   fits = plan-fits speeds ts good rising
 
   -- bytes that a sound state was stored as are sound, and read as that state
-  module _ {s : State} {bytes : List ℕ} (stored : bytes ≡ encode s) (in-time : s .clock ≤ largestClock) (fine : Fine speeds ts s) where
+  module _ {s : State} {bytes : List ℕ} (stored : bytes ≡ encode s) (in-time : s .clock ≤ largestClock) (own : s .speeds ≡ speeds)
+      (fine : Fine speeds ts s) where
+    fits-block : {held : List ℕ} → held ≡ speeds → StorableTable held
+    fits-block e = subst StorableTable (sym e) (fine-stored table)
+
     storable : Storable s
-    storable = fine-storable speeds ts s good rising few fine in-time
+    storable = fine-storable speeds ts s good rising few fine in-time (fits-block own)
 
     pub decoded : decode bytes ≡ s
     decoded = ap decode stored ∙ decode-encode s storable
 
-    pub stored-sound : sound speeds bytes ≡ true
+    -- the speeds in them are those that were loaded
+    pub speeds-are : decode bytes .speeds ≡ speeds
+    speeds-are = ap (λ (x : State). x .speeds) decoded ∙ own
+
+    pub stored-sound : sound bytes ≡ true
     stored-sound =
-        both-true (ap laidOut stored ∙ laid-out s storable)
+        both-true (ap tableGood speeds-are ∙ table .good)
+        (both-true (ap laidOut stored ∙ laid-out s storable)
         (both-true (ap (λ (x : State). inTime (x .clock)) decoded ∙ le-leb (s .clock) largestClock in-time)
-        (ap (stateSound speeds) decoded ∙ fine-sound speeds ts s good fine))
+        (ap₂ stateSound speeds-are decoded ∙ fine-sound speeds ts s good fine)))
 
     pub stored-length : length bytes ≡ stateLength
     stored-length = ap length stored ∙ length-encode s (storable .count)
 
     -- another sound state's block takes the place of all of them
-    stored-over : {next : State} → Fine speeds ts next → next .clock ≤ largestClock → storedBy 0 (encode next) bytes ≡ encode next
-    stored-over {next} fine-next in-time-next =
-        let new : Storable next = fine-storable speeds ts next good rising few fine-next in-time-next in
+    stored-over :
+        {next : State} → Fine speeds ts next → next .clock ≤ largestClock → next .speeds ≡ speeds → storedBy 0 (encode next) bytes ≡ encode next
+    stored-over {next} fine-next in-time-next own-next =
+        let new : Storable next = fine-storable speeds ts next good rising few fine-next in-time-next (fits-block own-next) in
         let size : length bytes ≤ length (encode next) = omega (arith, stored-length, length-encode next (new .count)) in
         ap (λ (l : List ℕ). encode next ++ l) (drop-of-length-le bytes size) ∙ append-nil (encode next)
 
     -- so the questions are those of the state, and so is what follows
     module _ (d : ℕ) (finished : Bool) where
-      number-is : passNumber speeds bytes d finished ≡ firstNo (passQuestions speeds s d finished)
-      number-is = ask-yes 10 stored-sound (ap (λ (x : State). firstNo (passQuestions speeds x d finished)) decoded)
+      number-is : passNumber bytes d finished ≡ firstNo (passQuestions speeds s d finished)
+      number-is = ask-yes 10 stored-sound (ap₂ (λ (v : List ℕ) (x : State). firstNo (passQuestions v x d finished)) speeds-are decoded)
 
-      state-is : passedState speeds (timing speeds (planIn (decode bytes))) (decode bytes) d finished ≡ passedState speeds τ s d finished
+      abbrev held : List ℕ
+      held = decode bytes .speeds
+
+      state-is : passedState held (timing held (planIn (decode bytes))) (decode bytes) d finished ≡ passedState speeds τ s d finished
       state-is =
-          ap (λ (x : State). passedState speeds (timing speeds (planIn x)) x d finished) decoded
+          ap₂ (λ (v : List ℕ) (x : State). passedState v (timing v (planIn x)) x d finished) speeds-are decoded
           ∙ ap (λ (l : List Task). passedState speeds (timing speeds l) s d finished) (fine .entries .plan)
 
-      hold-is : passedHold speeds (timing speeds (planIn (decode bytes))) (decode bytes) d finished ≡ passedHold speeds τ s d finished
+      hold-is : passedHold held (timing held (planIn (decode bytes))) (decode bytes) d finished ≡ passedHold speeds τ s d finished
       hold-is =
-          ap (λ (x : State). passedHold speeds (timing speeds (planIn x)) x d finished) decoded
+          ap₂ (λ (v : List ℕ) (x : State). passedHold v (timing v (planIn x)) x d finished) speeds-are decoded
           ∙ ap (λ (l : List Task). passedHold speeds (timing speeds l) s d finished) (fine .entries .plan)
 
       pub reply-is :
-          passReply speeds bytes d finished
+          passReply bytes d finished
           ≡ repliedBy (firstNo (passQuestions speeds s d finished)) (orderWith (passedState speeds τ s d finished) (passedHold speeds τ s d finished))
       reply-is = ap₂ repliedBy number-is (ap₂ orderWith state-is hold-is)
 
       bytes-are :
-          passBytes speeds bytes d finished
+          passBytes bytes d finished
           ≡ storedBy (firstNo (passQuestions speeds s d finished)) (encode (passedState speeds τ s d finished)) bytes
       bytes-are = ap₂ (λ (n : ℕ) (x : State). storedBy n (encode x) bytes) number-is state-is
 
@@ -301,17 +323,17 @@ module _ (speeds : List ℕ) (rising : Rising speeds) (few : length speeds ≤ 2
   pub kept-pass :
       (p : Pass) (bytes : List ℕ) (a : DispatcherBook) (b : Book) (last : Reply) →
       Kept speeds ts bytes a b last →
-      Kept speeds ts (passBytes speeds bytes (p .d) (p .finished)) (booked speeds ts a p (passReply speeds bytes (p .d) (p .finished)))
-      (ran τ b p (passReply speeds bytes (p .d) (p .finished))) (orderAfter last (passReply speeds bytes (p .d) (p .finished)))
+      Kept speeds ts (passBytes bytes (p .d) (p .finished)) (booked speeds ts a p (passReply bytes (p .d) (p .finished)))
+      (ran τ b p (passReply bytes (p .d) (p .finished))) (orderAfter last (passReply bytes (p .d) (p .finished)))
   kept-pass p bytes a b last k =
       subst (λ (x : List ℕ). Kept speeds ts x (booked speeds ts a p given) (ran τ b p given) (orderAfter last given))
-      (sym (bytes-are (k .stored) (k .in-time) (k .tied .fine) (p .d) (p .finished)))
+      (sym (bytes-are (k .stored) (k .in-time) (k .own) (k .tied .fine) (p .d) (p .finished)))
       (subst (λ (r : Reply). Kept speeds ts (storedBy number (encode after-it) bytes) (booked speeds ts a p r) (ran τ b p r) (orderAfter last r))
-      (sym (reply-is (k .stored) (k .in-time) (k .tied .fine) (p .d) (p .finished)))
+      (sym (reply-is (k .stored) (k .in-time) (k .own) (k .tied .fine) (p .d) (p .finished)))
       (by-number number refl))
     where
       given : Reply
-      given = passReply speeds bytes (p .d) (p .finished)
+      given = passReply bytes (p .d) (p .finished)
 
       number : ℕ
       number = firstNo (passQuestions speeds (k .state) (p .d) (p .finished))
@@ -333,11 +355,13 @@ module _ (speeds : List ℕ) (rising : Rising speeds) (few : length speeds ≤ 2
           subst (λ (l : List Task). Accepted speeds (timing speeds l) (k .state) (p .d) (p .finished)) (k .tied .fine .entries .plan) (asked .0) in
           let in-time-next : after-it .clock ≤ largestClock =
           subst (λ (c : ℕ). c ≤ largestClock) (sym (passed-clock speeds τ (k .state) (p .d) (p .finished))) (asked .1) in
+          let own-next : after-it .speeds ≡ speeds = passed-speeds speeds τ (k .state) (p .d) (p .finished) ∙ k .own in
           let tied-after = tied-next (k .state) (k .tied .fine) (p .d) (p .finished) ok (k .tied .queue) (k .tied) in
           record {
             state = after-it;
             tied = tied-after;
-            stored = stored-over (k .stored) (k .in-time) (k .tied .fine) (tied-after .fine) in-time-next;
+            stored = stored-over (k .stored) (k .in-time) (k .own) (k .tied .fine) (tied-after .fine) in-time-next own-next;
             in-time = in-time-next;
+            own = own-next;
           }
       by-number (suc n) e = k

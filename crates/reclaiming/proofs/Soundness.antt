@@ -4,7 +4,7 @@
 use Prim.Native.Nat.{ℕ, suc, _+_, _<_, _≤_}
 use mathlib.Core.Path.{_≡_, refl, sym, subst, ap, _∙_}
 use mathlib.Core.Bool.{Bool, true, false}
-use mathlib.Core.List.{List, [], _∷_}
+use mathlib.Core.List.{List, [], _∷_, _++_}
 use native.Mathlib.Omega.{arith}
 use borrow.Author.Tests.{leb-true, le-leb, eqb-true, eq-eqb}
 use lib.Dec.{leb, ltb, eqb}
@@ -17,16 +17,18 @@ use Rattle.arith.proofs.QuestionLaws.{Yes, all-yes, yes-all, ask-yes, yes-befor
 use Rattle.plan.specs.declared.Task.{Task}
 use Rattle.plan.specs.Times.{timeOf, taskTime}
 use Rattle.plan.specs.Levels.{Rising, nominal}
-use Rattle.plan.specs.Blocks.{noTask}
-use Rattle.plan.specs.Questions.{judging}
-use Rattle.plan.proofs.Facts.{FineList, InRange, fine-list, list-yes}
+use Rattle.plan.specs.LevelBlocks.{tableGood, loading, speedsIn}
+use Rattle.plan.specs.Blocks.{noTask, tasksIn}
+use Rattle.plan.specs.Questions.{judging, reading, roomQuestion}
+use Rattle.plan.proofs.LevelBlockLaws.{FineTable, fine-table, loaded-table}
+use Rattle.plan.proofs.Facts.{FineList, InRange, fine-list, list-yes, fine-block, block-list}
 use Rattle.reclaiming.specs.declared.Entry.{Entry}
-use Rattle.reclaiming.specs.StateBlock.{State, noEntry, workOf, remainingOf, restIn, taskOf, planIn, timing, decode, laidOut}
+use Rattle.reclaiming.specs.StateBlock.{State, noEntry, workOf, remainingOf, restIn, taskOf, planIn, timing, decode, laidOut, stateLength}
 use Rattle.reclaiming.specs.Orders.{nextArrival, openJobs, runningTime}
-use Rattle.reclaiming.specs.Questions.{largestClock, entrySound, orderSound, stateSound, inTime, sound, running, stepQuestions, passQuestions}
+use Rattle.reclaiming.specs.Questions.{largestClock, entrySound, orderSound, stateSound, inTime, soundAt, sound, starting, running, stepQuestions, passQuestions}
 use Rattle.reclaiming.proofs.Fine.{nominalSpeed, FineEntries, Fine, Accepted}
 use Rattle.reclaiming.proofs.Plans.{task-range, allotment-short}
-use Rattle.reclaiming.proofs.StateCodec.{StorableEntry, Storable}
+use Rattle.reclaiming.proofs.StateCodec.{StorableEntry, StorableTable, Storable}
 use Rattle.reclaiming.proofs.OrderFacts.{idles, runs, order-facts}
 
 -- an entry of the plan in a state
@@ -185,8 +187,8 @@ module _ (speeds : List ℕ) (s : State) (d : ℕ) (finished : Bool) where
       yes-before (stepQuestions speeds s d finished) then-clock refl (questions-yes f)
       ∙ ask-yes 15 (le-leb (s .clock + d) largestClock late) refl
 
--- a sound block's state
-module _ (speeds bytes : List ℕ) (h : sound speeds bytes ≡ true) where
+-- a block's state, where it is sound at a table of speeds
+module _ (speeds bytes : List ℕ) (h : soundAt speeds bytes ≡ true) where
   abbrev timed : Bool
   timed = both (inTime (decode bytes .clock)) (stateSound speeds (decode bytes))
 
@@ -197,6 +199,35 @@ module _ (speeds bytes : List ℕ) (h : sound speeds bytes ≡ true) where
   sound-clock =
       leb-true (decode bytes .clock) largestClock
       (both-left (inTime (decode bytes .clock)) (stateSound speeds (decode bytes)) (both-right (laidOut bytes) timed h))
+
+-- a sound block: its own table may be loaded, and it is sound at it
+module _ (bytes : List ℕ) (h : sound bytes ≡ true) where
+  abbrev held : List ℕ
+  held = decode bytes .speeds
+
+  pub sound-table : FineTable held
+  sound-table = fine-table held (both-left (tableGood held) (soundAt held bytes) h)
+
+  pub sound-own : soundAt held bytes ≡ true
+  sound-own = both-right (tableGood held) (soundAt held bytes) h
+
+-- a start that no question refuses: its level block and its plan are accepted, and there is room
+pub record Starts (levels block : List ℕ) (room : ℕ) : Type 0 where
+  pub table : FineTable (speedsIn levels)
+  pub good : FineList (speedsIn levels) (length (tasksIn block)) (tasksIn block)
+  pub long : stateLength ≤ room
+
+pub start-facts : (levels block : List ℕ) (room : ℕ) → firstNo (starting levels block room) ≡ 0 → Starts levels block room
+start-facts levels block room h =
+    let speeds : List ℕ = speedsIn levels in
+    let then-room : List Question = roomQuestion stateLength room ∷ [] in
+    let then-plan : List Question = reading speeds block ++ then-room in
+    let plan : firstNo then-plan ≡ 0 = yes-after (loading levels) then-plan refl h in
+    record {
+      table = loaded-table levels (yes-of (loading levels) then-plan h);
+      good = block-list speeds block (fine-block speeds block (yes-of (reading speeds block) then-room plan));
+      long = leb-true stateLength room (all-yes then-room refl (yes-after (reading speeds block) then-room refl plan) .0);
+    }
 
 -- an order's task and level fit a byte each
 pub fine-small :
@@ -211,7 +242,11 @@ fine-small speeds ts s l few f =
       | runs r ↦ (omega (arith, r .below, l .count-high), omega (arith, r .level, l .tasks .admitted))
     ]
 
--- a fine state whose clock is in range fits its block
+-- a table that may be loaded fits the block
+pub fine-stored : {speeds : List ℕ} → FineTable speeds → StorableTable speeds
+fine-stored t = record { few = t .few; each = λ k h. omega (arith, t .most k h) }
+
+-- a fine state whose clock is in range fits its block, with a table that does
 pub fine-storable :
     (speeds : List ℕ) (ts : List Task) (s : State) →
     FineList speeds (length ts) ts →
@@ -219,8 +254,9 @@ pub fine-storable :
     length speeds ≤ 256 →
     Fine speeds ts s →
     s .clock ≤ largestClock →
+    StorableTable (s .speeds) →
     Storable s
-fine-storable speeds ts s l rising few f late =
+fine-storable speeds ts s l rising few f late table =
     let n : length (s .entries) ≡ length ts = fine-length (f .entries) in
     let o = fine-small speeds ts s l few f in
     record {
@@ -229,6 +265,7 @@ fine-storable speeds ts s l rising few f late =
       level = o .1;
       count = omega (arith, l .count-high);
       entries = λ i k. entry i (omega arith);
+      table = table;
     }
   where
     -- an entry's plan

@@ -3,28 +3,31 @@
 use Prim.Native.Nat.{ℕ, zero, suc, _-_, _*_, _^_, _<_, _≤_}
 use mathlib.Core.Path.{_≡_, refl, sym, subst, ap, ap₂, _∙_}
 use mathlib.Core.Bool.{true}
-use mathlib.Core.List.{List, [], _∷_, _++_}
+use mathlib.Core.List.{List, [], _∷_, _++_, append-nil, append-assoc}
 use native.Mathlib.Omega.{arith}
 use borrow.Author.Tests.{eqb-true, eq-eqb}
 use lib.Dec.{T, eqb}
 use lib.ListN.{length, getD, drop, length-append, length-replicate}
 use lib.Seq.{drop-at}
+use Rattle.arith.specs.Ranges.{listTo}
+use Rattle.arith.proofs.RangeLaws.{getD-listTo, listTo-is}
 use Rattle.arith.proofs.Tests.{both-left, both-right, both-true}
 use Rattle.reclaiming.specs.declared.Entry.{Entry}
-use Rattle.reclaiming.specs.Fields.{fieldsBytes, widthOf}
+use Rattle.reclaiming.specs.Fields.{Field, zeros, width, valueIn, fieldsBytes, fieldAt, widthOf, readField}
 use Rattle.reclaiming.specs.StateBlock.{State, noEntry, headFields, clockField, taskField, levelField, countField, tailFields, places}
+use Rattle.reclaiming.specs.StateBlock.{levelPlaces, speedRow, levelsField, speedField, tailAt, levelCount, speedIn}
 use Rattle.reclaiming.specs.StateBlock.{entryFields, periodField, worstField, workField, remainingField, headLength, entryLength, stateLength}
 use Rattle.reclaiming.specs.StateBlock.{entryBytes, entriesBytes, unusedBytes, encode, entryFrom, entriesFrom, stateCount, decode, sameBytes, laidOut}
 use Rattle.reclaiming.proofs.FieldLaws.{length-fields, read-field}
 
--- the lengths that 01 gives
+-- the lengths that 01 and 02 give
 pub head-length : headLength ≡ 8
 head-length = refl
 
 pub entry-length : entryLength ≡ 12
 entry-length = refl
 
-pub state-length : stateLength ≡ 200
+pub state-length : stateLength ≡ 217
 state-length = refl
 
 -- an entry whose numbers fit their bytes
@@ -34,6 +37,11 @@ pub record StorableEntry (e : Entry) : Type 0 where
   pub work : e .work < 256 ^ widthOf entryFields workField
   pub remaining : e .remaining < 256 ^ widthOf entryFields remainingField
 
+-- a table of speeds that does: at most eight, of two bytes each
+pub record StorableTable (speeds : List ℕ) : Type 0 where
+  pub few : length speeds ≤ levelPlaces
+  pub each : (k : ℕ) → k < length speeds → getD speeds k 0 < 65536
+
 -- a state whose numbers do
 pub record Storable (s : State) : Type 0 where
   pub clock : s .clock < 256 ^ widthOf headFields clockField
@@ -41,6 +49,7 @@ pub record Storable (s : State) : Type 0 where
   pub level : s .level < 256 ^ widthOf headFields levelField
   pub count : length (s .entries) ≤ places
   pub entries : (i : ℕ) → i < length (s .entries) → StorableEntry (getD (s .entries) i noEntry)
+  pub table : StorableTable (s .speeds)
 
 -- what stands past the head, and past the entries
 abbrev pub pastEntries : State → List ℕ
@@ -71,21 +80,6 @@ entries-back (e ∷ es) rest h =
     ap₂ (λ (x : Entry) (l : List Entry). x ∷ l) (entry-back e (entriesBytes es ++ rest) (h 0 (omega arith)))
     (entries-back es rest (λ i l. h (suc i) (omega arith)))
 
--- a state is read back
-pub decode-encode : (s : State) → Storable s → decode (encode s) ≡ s
-decode-encode s h =
-    λ i. record {
-      clock = read-field headFields clockField s (pastHead s) (h .clock) i;
-      task = read-field headFields taskField s (pastHead s) (h .task) i;
-      level = read-field headFields levelField s (pastHead s) (h .level) i;
-      entries = entries i;
-    }
-  where
-    entries : entriesFrom (stateCount (encode s)) (drop headLength (encode s)) ≡ s .entries
-    entries =
-        ap₂ (λ (n : ℕ) (l : List ℕ). entriesFrom n l) (read-field headFields countField s (pastHead s) (omega (arith, h .count))) (past-head s)
-        ∙ entries-back (s .entries) (pastEntries s) (h .entries)
-
 -- how many entries are read, and how many bytes are written
 pub length-entriesFrom : (n : ℕ) (bytes : List ℕ) → length (entriesFrom n bytes) ≡ n
 length-entriesFrom zero bytes = refl
@@ -108,6 +102,66 @@ length-encode s h =
       length-replicate {A = ℕ} (entryLength * (places - length (s .entries))) 0,
       length-fields tailFields s,
     )
+
+-- a speed's row, and what is read there
+speed-row : (k : ℕ) → k < levelPlaces → fieldAt tailFields (speedField k) ≡ speedRow k
+speed-row k h = getD-listTo levelPlaces speedRow k (zeros 0) h
+
+speed-back :
+    (s : State) (k : ℕ) → k < levelPlaces → getD (s .speeds) k 0 < 65536 → readField tailFields (speedField k) (fieldsBytes tailFields s) ≡ getD (s .speeds) k 0
+speed-back s k h fits =
+    ap (λ (l : List ℕ). readField tailFields (speedField k) l) (sym (append-nil (fieldsBytes tailFields s)))
+    ∙ read-field tailFields (speedField k) s [] (subst (λ (f : Field State). valueIn s f < 256 ^ width f) (sym (speed-row k h)) fits)
+    ∙ ap (valueIn s) (speed-row k h)
+
+-- what stands past the places
+pub past-places : (s : State) → length (s .entries) ≤ places → drop tailAt (encode s) ≡ fieldsBytes tailFields s
+past-places s few =
+    let head : List ℕ = fieldsBytes headFields s in
+    let es : List ℕ = entriesBytes (s .entries) in
+    let unused : List ℕ = unusedBytes (s .entries) in
+    let tail : List ℕ = fieldsBytes tailFields s in
+    let size : length ((head ++ es) ++ unused) ≡ tailAt =
+    omega (
+      arith,
+      length-append (head ++ es) unused,
+      length-append head es,
+      length-fields headFields s,
+      length-entriesBytes (s .entries),
+      length-replicate {A = ℕ} (entryLength * (places - length (s .entries))) 0,
+    ) in
+    ap (λ (l : List ℕ). drop tailAt l) (sym (append-assoc (head ++ es) unused tail ∙ append-assoc head es (unused ++ tail)))
+    ∙ drop-at ((head ++ es) ++ unused) tail tailAt size
+
+-- a table of speeds is read back
+table-back :
+    (s : State) → length (s .entries) ≤ places → StorableTable (s .speeds) → listTo (levelCount (encode s)) (speedIn (encode s)) ≡ s .speeds
+table-back s few t =
+    ap₂ (λ (n : ℕ) (l : List ℕ). listTo n (λ k. readField tailFields (speedField k) l)) count (past-places s few)
+    ∙ sym
+    (listTo-is (length (s .speeds)) (λ k. readField tailFields (speedField k) (fieldsBytes tailFields s)) (s .speeds) 0 refl
+    (λ k h. sym (speed-back s k (omega (arith, t .few)) (t .each k h))))
+  where
+    count : levelCount (encode s) ≡ length (s .speeds)
+    count =
+        ap (λ (l : List ℕ). readField tailFields levelsField l) (past-places s few ∙ sym (append-nil (fieldsBytes tailFields s)))
+        ∙ read-field tailFields levelsField s [] (omega (arith, t .few))
+
+-- a state is read back
+pub decode-encode : (s : State) → Storable s → decode (encode s) ≡ s
+decode-encode s h =
+    λ i. record {
+      clock = read-field headFields clockField s (pastHead s) (h .clock) i;
+      task = read-field headFields taskField s (pastHead s) (h .task) i;
+      level = read-field headFields levelField s (pastHead s) (h .level) i;
+      entries = entries i;
+      speeds = table-back s (h .count) (h .table) i;
+    }
+  where
+    entries : entriesFrom (stateCount (encode s)) (drop headLength (encode s)) ≡ s .entries
+    entries =
+        ap₂ (λ (n : ℕ) (l : List ℕ). entriesFrom n l) (read-field headFields countField s (pastHead s) (omega (arith, h .count))) (past-head s)
+        ∙ entries-back (s .entries) (pastEntries s) (h .entries)
 
 -- the test of two lists of bytes passes exactly if they are equal
 pub same-bytes : (xs ys : List ℕ) → sameBytes xs ys ≡ true → xs ≡ ys

@@ -25,7 +25,7 @@ use Rattle.arith.specs.Ranges.{listTo}
 use Rattle.state.specs.Code.{entryAt, entryIn, fieldPlace, numberIn, entryStored, headStored, entryNumbers, changed, withJobs, withClock, FitTask, FitRest, restStored}
 use Rattle.reclaiming.proofs.FieldLaws.{fieldsValues, sets-past, sets-over, length-fields, read-field, fields-same, store-field, store-next}
 use Rattle.reclaiming.proofs.StateCodec.{pastHead, pastEntries, past-head, length-entriesFrom, length-entriesBytes}
-use Rattle.arith.proofs.RangeLaws.{length-listTo, getD-listTo, listTo-same}
+use Rattle.arith.proofs.RangeLaws.{length-listTo, getD-listTo, listTo-is, listTo-same}
 
 -- the remaining ticks of a block's tasks
 abbrev pub remainingIn : List ℕ → ℕ → ℕ
@@ -293,19 +293,12 @@ module _ (s : State) (left : ℕ → Rest) (remaining : ℕ → ℕ) where
     pub jobs-task : taskOf (getD (withJobs s left remaining .entries) i noEntry) ≡ taskOf (getD (s .entries) i noEntry)
     jobs-task = ap taskOf jobs-entry
 
--- a list of n values that are known
-listTo-is :
-    (n : ℕ) (f : ℕ → Entry) (es : List Entry) → length es ≡ n → ((i : ℕ) → i < n → getD es i noEntry ≡ f i) → es ≡ listTo n f
-listTo-is n f es size each =
-    ext-getD noEntry es (listTo n f) (size ∙ sym (length-listTo n f))
-    (λ i h. each i (omega arith) ∙ sym (getD-listTo n f i noEntry (omega arith)))
-
 -- its own jobs, and the same jobs
 pub jobs-same : (s : State) → withJobs s (restOf s) (remainingOf s) ≡ s
 jobs-same s =
     let e : s .entries ≡ withJobs s (restOf s) (remainingOf s) .entries =
-    listTo-is (length (s .entries)) (jobWith s (restOf s) (remainingOf s)) (s .entries) refl (λ i h. refl) in
-    λ k. record { clock = s .clock; task = s .task; level = s .level; entries = sym e k }
+    listTo-is (length (s .entries)) (jobWith s (restOf s) (remainingOf s)) (s .entries) noEntry refl (λ i h. refl) in
+    λ k. record { clock = s .clock; task = s .task; level = s .level; entries = sym e k; speeds = s .speeds }
 
 pub jobs-eq :
     (s : State) (f g : ℕ → Rest) (p q : ℕ → ℕ) →
@@ -316,7 +309,7 @@ jobs-eq s f g p q a b =
     let e : withJobs s f p .entries ≡ withJobs s g q .entries =
     listTo-same (length (s .entries)) (jobWith s f p) (jobWith s g q)
     (λ i h k. entryWith (taskOf (getD (s .entries) i noEntry)) (a i h k) (b i h k)) in
-    λ k. record { clock = s .clock; task = s .task; level = s .level; entries = e k }
+    λ k. record { clock = s .clock; task = s .task; level = s .level; entries = e k; speeds = s .speeds }
 
 -- a state with another entry in the place of one
 abbrev withEntry : State → ℕ → Entry → State
@@ -390,7 +383,7 @@ module _ (s : State) (left : ℕ → Rest) (remaining : ℕ → ℕ) (i : ℕ) (
   changed-entries f p a b =
       let es : List Entry = withJobs s left remaining .entries in
       let e : Entry = jobWith s f p i in
-      listTo-is (length (s .entries)) (jobWith s f p) (set es i e) (length-set es i e ∙ jobs-count s left remaining)
+      listTo-is (length (s .entries)) (jobWith s f p) (set es i e) noEntry (length-set es i e ∙ jobs-count s left remaining)
       (λ j k.
       elim (ℕ-discrete j i) [
         | yes z ↦ subst (λ (n : ℕ). getD (set es i e) n noEntry ≡ jobWith s f p n) (sym z) (getD-set-same es i e noEntry in-jobs)
@@ -410,7 +403,7 @@ module _ (s : State) (left : ℕ → Rest) (remaining : ℕ → ℕ) (i : ℕ) (
   store-jobs f p k x e a b =
       store-entry k x (jobWith s f p i) (withJobs s left remaining) i in-jobs
       (e ∙ ap (λ (y : Entry). set (fieldsValues entryFields y) k x) (sym (jobs-entry s left remaining i h)))
-      ∙ ap encode (λ j. record { clock = s .clock; task = s .task; level = s .level; entries = changed-entries f p a b j })
+      ∙ ap encode (λ j. record { clock = s .clock; task = s .task; level = s .level; entries = changed-entries f p a b j; speeds = s .speeds })
 
   pub store-rest : (x : Rest) → restStored (encode (withJobs s left remaining)) i x ≡ encode (withJobs s (changed left i x) remaining)
   store-rest x =
