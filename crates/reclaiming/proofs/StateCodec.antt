@@ -104,10 +104,10 @@ length-encode s h =
     )
 
 -- a speed's row, and what is read there
-speed-row : (k : ℕ) → k < levelPlaces → fieldAt tailFields (speedField k) ≡ speedRow k
+pub speed-row : (k : ℕ) → k < levelPlaces → fieldAt tailFields (speedField k) ≡ speedRow k
 speed-row k h = getD-listTo levelPlaces speedRow k (zeros 0) h
 
-speed-back :
+pub speed-back :
     (s : State) (k : ℕ) → k < levelPlaces → getD (s .speeds) k 0 < 65536 → readField tailFields (speedField k) (fieldsBytes tailFields s) ≡ getD (s .speeds) k 0
 speed-back s k h fits =
     ap (λ (l : List ℕ). readField tailFields (speedField k) l) (sym (append-nil (fieldsBytes tailFields s)))

@@ -313,7 +313,7 @@ jobs-eq s f g p q a b =
 
 -- a state with another entry in the place of one
 abbrev withEntry : State → ℕ → Entry → State
-withEntry s i e = record { clock = s .clock; task = s .task; level = s .level; entries = set (s .entries) i e }
+withEntry s i e = record { clock = s .clock; task = s .task; level = s .level; entries = set (s .entries) i e; speeds = s .speeds }
 
 -- a store leaves the length
 pub length-entryStored : (bytes : List ℕ) (k i x : ℕ) → length (entryStored bytes k i x) ≡ length bytes

@@ -1,4 +1,5 @@
--- A block is laid out exactly if the zero bytes in front of the entries, past the numbers of each entry, and past the entries are zero.
+-- A block is laid out exactly if the zero bytes in front of the entries, past the numbers of each entry, and past the entries are zero, and
+-- the speeds past the count of levels.
 -- Assumes nothing.
 use Prim.Native.Nat.{ℕ, zero, suc, _+_, _-_, _*_, _<_, _≤_}
 use mathlib.Core.Path.{_≡_, refl, sym, ap, ap₂, _∙_}
@@ -19,9 +20,10 @@ use Rattle.arith.proofs.Tests.{same-test}
 use Rattle.arith.proofs.DigitLaws.{length-digits, number-digits, digits-number}
 use Rattle.reclaiming.specs.Fields.{Field, field, zeros, fieldsBytes, fieldsLength, offsetOf, readField}
 use Rattle.reclaiming.specs.StateBlock.{State, headFields, zeroField, entryFields, pairField, tailFields, places, headLength, entryLength, tailAt, stateLength}
-use Rattle.reclaiming.specs.StateBlock.{entryBytes, entriesBytes, encode, entryFrom, entriesFrom, stateCount, decode, sameBytes, laidOut}
-use Rattle.state.specs.Code.{entryAt, numberIn, zerosIn, pairsZero}
-use Rattle.reclaiming.proofs.StateCodec.{pastHead, length-entriesFrom, same-bytes, bytes-same}
+use Rattle.reclaiming.specs.StateBlock.{levelPlaces, speedField, speedIn, entryBytes, entriesBytes, encode, entryFrom, entriesFrom, stateCount, decode, sameBytes, laidOut}
+use Rattle.state.specs.Code.{entryAt, numberIn, zerosIn, pairsZero, unusedZero}
+use Rattle.reclaiming.proofs.StateCodec.{pastHead, speed-back, length-entriesFrom, same-bytes, bytes-same}
+use Rattle.state.proofs.TailLaws.{levels-in, speed-small, speeds-same, same-unused}
 use Rattle.state.proofs.BlockLaws.{count-in, byte-field, field-in, bytes-past}
 
 -- two tests, of which the second passes, or of which there are three
@@ -262,16 +264,41 @@ module _ {block : List ℕ} (known : BlockBytes block) where
   abbrev tail : List ℕ
   tail = drop tailAt block
 
-  tail-same : sameBytes (fieldsBytes tailFields s) tail ≡ zerosIn tailFields 0 tail
-  tail-same =
-      let size : length tail ≡ fieldsLength tailFields = omega (arith, length-drop tailAt block, known .size) in
-      let z : 0 + fieldsLength tailFields ≡ length tail = omega arith in
-      ap (λ (l : List ℕ). sameBytes l tail) (sym (append-nil (fieldsBytes tailFields s)))
-      ∙ same-fields s tail [] (bytes-past tailAt block (known .bytes)) tailFields 0 (omega arith) refl
-      ∙ ap (λ (l : List ℕ). both (zerosIn tailFields 0 tail) (sameBytes [] l)) (ap (λ (k : ℕ). drop k tail) z ∙ drop-length tail)
-      ∙ both-yes (zerosIn tailFields 0 tail)
+  tail-bytes : (k : ℕ) → getD tail k 0 < 256
+  tail-bytes = bytes-past tailAt block (known .bytes)
 
-  entries-same : sameBytes (pastHead s) (drop headLength block) ≡ both (pairsIn block) (both (zerosPast block) (zerosIn tailFields 0 tail))
+  -- where each place has the state's speed, the tail is what it is written as
+  tail-written : unusedZero block ≡ true → sameBytes (fieldsBytes tailFields s) tail ≡ true
+  tail-written z =
+      let size : length tail ≡ fieldsLength tailFields = omega (arith, length-drop tailAt block, known .size) in
+      let end : 0 + fieldsLength tailFields ≡ length tail = omega arith in
+      let speed : (k : ℕ) → k < levelPlaces → getD (s .speeds) k 0 ≡ speedIn block k = speeds-same block z in
+      ap (λ (l : List ℕ). sameBytes l tail) (sym (append-nil (fieldsBytes tailFields s)))
+      ∙ same-fields s tail [] tail-bytes tailFields 0 (omega arith)
+      (λ i. levels-in block i
+      ∷ speed 0 (omega arith) i
+      ∷ speed 1 (omega arith) i
+      ∷ speed 2 (omega arith) i
+      ∷ speed 3 (omega arith) i
+      ∷ speed 4 (omega arith) i
+      ∷ speed 5 (omega arith) i
+      ∷ speed 6 (omega arith) i
+      ∷ speed 7 (omega arith) i
+      ∷ [])
+      ∙ ap (λ (l : List ℕ). sameBytes [] l) (ap (λ (k : ℕ). drop k tail) end ∙ drop-length tail)
+
+  -- and the other way round: each place is read as what was written there
+  tail-read : sameBytes (fieldsBytes tailFields s) tail ≡ true → unusedZero block ≡ true
+  tail-read z =
+      same-unused block
+      (λ k h.
+      let small : getD (s .speeds) k 0 < 65536 = speed-small block (known .bytes) k h in
+      sym (speed-back s k h small) ∙ ap (λ (l : List ℕ). readField tailFields (speedField k) l) (same-bytes (fieldsBytes tailFields s) tail z))
+
+  tail-same : sameBytes (fieldsBytes tailFields s) tail ≡ unusedZero block
+  tail-same = same-test (sameBytes (fieldsBytes tailFields s) tail) (unusedZero block) tail-read tail-written
+
+  entries-same : sameBytes (pastHead s) (drop headLength block) ≡ both (pairsIn block) (both (zerosPast block) (unusedZero block))
   entries-same =
       let n : ℕ = stateCount block in
       let m : ℕ = entryLength * (places - n) in
@@ -289,7 +316,7 @@ module _ {block : List ℕ} (known : BlockBytes block) where
       (drop-drop (entryLength * n + m) headLength block ∙ ap (λ (k : ℕ). drop k block) p)
       ∙ ap (λ (t : Bool). both (pairsIn block) (both (zerosPast block) t)) tail-same
 
-  layout : laidOut block ≡ both (zerosIn headFields 0 block) (both (pairsIn block) (both (zerosPast block) (zerosIn tailFields 0 tail)))
+  layout : laidOut block ≡ both (zerosIn headFields 0 block) (both (pairsIn block) (both (zerosPast block) (unusedZero block)))
   layout =
       ap (λ (t : Bool). both t (sameBytes (encode s) block)) (eq-eqb (length block) stateLength (known .size))
       ∙ same-fields s block (pastHead s) (known .bytes) headFields 0 (omega (arith, known .size)) (simp length-entriesFrom)
@@ -306,11 +333,11 @@ module _ {block : List ℕ} (known : BlockBytes block) where
     zero-not f =
         sym
         (layout
-        ∙ ap (λ (t : Bool). both t (both (pairsIn block) (both (zerosPast block) (zerosIn tailFields 0 tail)))) (head-is ∙ ne-eqb z 0 f))
+        ∙ ap (λ (t : Bool). both t (both (pairsIn block) (both (zerosPast block) (unusedZero block)))) (head-is ∙ ne-eqb z 0 f))
 
     module _ (zero-byte : z ≡ 0) {count : ℕ} (counted : count ≡ stateCount block) {x : Bool} (paired : x ≡ pairsZero count (drop headLength block)) where
       abbrev past : Bool
-      past = both (zerosPast block) (zerosIn tailFields 0 tail)
+      past = both (zerosPast block) (unusedZero block)
 
       head-zero : laidOut block ≡ both x past
       head-zero =
@@ -321,8 +348,15 @@ module _ {block : List ℕ} (known : BlockBytes block) where
       pub pairs-decide : x ≡ false → false ≡ laidOut block
       pairs-decide f = sym (head-zero ∙ ap (λ (t : Bool). both t past) f)
 
-      pub zeros-decide : {y : Bool} → x ≡ true → y ≡ every (eqb 0) (drop (entryAt count) (take tailAt block)) → y ≡ laidOut block
-      zeros-decide f found =
-          found
-          ∙ ap (λ (n : ℕ). every (eqb 0) (drop (entryAt n) (take tailAt block))) counted
-          ∙ sym (head-zero ∙ ap (λ (t : Bool). both t past) f ∙ both-yes (zerosPast block))
+      module _ (pairs : x ≡ true) {y : Bool} (cleared : y ≡ every (eqb 0) (drop (entryAt count) (take tailAt block))) where
+        places-are : y ≡ zerosPast block
+        places-are = cleared ∙ ap (λ (n : ℕ). every (eqb 0) (drop (entryAt n) (take tailAt block))) counted
+
+        pairs-zero : laidOut block ≡ both y (unusedZero block)
+        pairs-zero = head-zero ∙ ap₂ (λ (t u : Bool). both t (both u (unusedZero block))) pairs (sym places-are)
+
+        pub zeros-decide : y ≡ false → false ≡ laidOut block
+        zeros-decide f = sym (pairs-zero ∙ ap (λ (t : Bool). both t (unusedZero block)) f)
+
+        pub unused-decide : {u : Bool} → y ≡ true → u ≡ unusedZero block → u ≡ laidOut block
+        unused-decide f found = found ∙ sym (pairs-zero ∙ ap (λ (t : Bool). both t (unusedZero block)) f)

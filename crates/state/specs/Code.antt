@@ -7,7 +7,7 @@ use mathlib.Core.List.{List, [], _∷_}
 use lib.Dec.{eqb}
 use lib.ListN.{length, take, drop, getD}
 use lib.Seq.{sets}
-use Rattle.arith.specs.Choice.{pick, both}
+use Rattle.arith.specs.Choice.{pick, both, every}
 use Rattle.arith.specs.Digits.{number, digits}
 use Rattle.schedule.specs.PlainSchedule.{Timing}
 use Rattle.reclaiming.specs.declared.Entry.{Entry}
@@ -15,7 +15,7 @@ use Rattle.plan.specs.declared.Task.{Task}
 use Rattle.plan.specs.declared.Rest.{Rest}
 use Rattle.reclaiming.specs.Fields.{Field, field, zeros, fieldsBytes, widthOf, offsetOf}
 use Rattle.reclaiming.specs.StateBlock.{State, noEntry, headFields, entryFields, workField, pairField, places, headLength, entryLength, stateLength}
-use Rattle.reclaiming.specs.StateBlock.{taskOf, entryWith, entryFrom, stateCount, decode, planIn, timing}
+use Rattle.reclaiming.specs.StateBlock.{levelPlaces, taskOf, entryWith, entryFrom, stateCount, levelCount, speedIn, decode, planIn, timing}
 use Rattle.arith.specs.Ranges.{listTo}
 
 -- bytes that may hold a state: as many as one has, of at most 16 tasks
@@ -64,6 +64,10 @@ abbrev pub pairsZero : ℕ → List ℕ → Bool
 pairsZero zero bytes = true
 pairsZero (suc n) bytes = both (zerosIn entryFields 0 bytes) (pairsZero n (drop entryLength bytes))
 
+-- whether every speed past the count of levels is zero
+abbrev pub unusedZero : List ℕ → Bool
+unusedZero bytes = every (eqb 0) (drop (levelCount bytes) (listTo levelPlaces (speedIn bytes)))
+
 -- what the plain schedule sees of the plan in a block, at a table of speeds
 abbrev pub timingIn : List ℕ → List ℕ → Timing
 timingIn speeds bytes = timing speeds (planIn (decode bytes))
@@ -79,6 +83,7 @@ withJobs s left remaining = record {
   task = s .task;
   level = s .level;
   entries = listTo (length (s .entries)) (λ i. entryWith (taskOf (getD (s .entries) i noEntry)) (left i) (remaining i));
+  speeds = s .speeds;
 }
 
 -- a task, and what is left of a job, whose numbers fit their bytes
@@ -95,4 +100,4 @@ restStored bytes i r = entryStored bytes workField i (r .work)
 
 -- the same state at another clock
 abbrev pub withClock : State → ℕ → State
-withClock s clock = record { clock = clock; task = s .task; level = s .level; entries = s .entries }
+withClock s clock = record { clock = clock; task = s .task; level = s .level; entries = s .entries; speeds = s .speeds }

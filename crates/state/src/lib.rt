@@ -9,8 +9,8 @@ ghost use lib.Dec.{eqb};
 ghost use lib.ListN.{length, take, drop};
 ghost use lib.Seq.{sets};
 ghost use Rattle.arith.specs.Choice.{every};
-ghost use Rattle.reclaiming.specs.StateBlock.{places, remainingField, headLength, stateLength, tailAt, restIn, taskOf, stateCount, decode, laidOut};
-ghost use Rattle.state.specs.Code.{Holds, entryAt, entryIn, entryStored, entryNumbers, pairsZero, restStored};
+ghost use Rattle.reclaiming.specs.StateBlock.{places, levelPlaces, remainingField, headLength, stateLength, tailAt, restIn, taskOf, stateCount, levelCount, speedIn, decode, laidOut};
+ghost use Rattle.state.specs.Code.{Holds, entryAt, entryIn, entryStored, entryNumbers, pairsZero, unusedZero, restStored};
 
 // The fields of a block: where each begins, and its count of bytes.
 pub const CLOCK_AT: usize = 0;
@@ -63,7 +63,18 @@ pub const PLACES: usize = 16;
 
 pub const TAIL_AT: usize = HEAD_LENGTH + ENTRY_LENGTH * PLACES;
 
-pub const STATE_LENGTH: usize = TAIL_AT;
+// The count of levels, and the places for their speeds.
+pub const LEVELS_AT: usize = TAIL_AT;
+
+pub const LEVELS_WIDTH: usize = 1;
+
+pub const SPEEDS_AT: usize = LEVELS_AT + LEVELS_WIDTH;
+
+pub const SPEED_WIDTH: usize = 2;
+
+pub const LEVEL_PLACES: usize = 8;
+
+pub const STATE_LENGTH: usize = SPEEDS_AT + SPEED_WIDTH * LEVEL_PLACES;
 
 // The clock of a block.
 pub fn clock_at(block: &[u8]) -> u32
@@ -134,6 +145,37 @@ pub fn rest_at(block: &[u8], i: usize) -> Rest
     }
 }
 
+// How many levels a block has.
+pub fn levels_at(block: &[u8]) -> usize
+    requires { ⌜ length (now block) ≡ stateLength ⌝ }
+    ensures { λ r. ⌜ r ≡ levelCount (now (block .entry)) ⌝ }
+{
+    block[LEVELS_AT] as usize
+}
+
+// The speed at place k of the table.
+pub fn speed_at(block: &[u8], k: usize) -> u32
+    requires { ⌜ (k < levelPlaces) × (length (now block) ≡ stateLength) ⌝ }
+    ensures { λ r. ⌜ (r ≡ speedIn (now (block .entry)) k) × (r ≤ 65535) ⌝ }
+{
+    numeric::get_number(block, SPEEDS_AT + SPEED_WIDTH * k, SPEED_WIDTH)
+}
+
+// Whether every speed past the count of levels is zero.
+fn unused_zero(block: &[u8]) -> bool
+    requires { ⌜ length (now block) ≡ stateLength ⌝ }
+    ensures { λ r. ⌜ r ≡ unusedZero (now (block .entry)) ⌝ }
+{
+    let mut k = levels_at(block);
+    while k < LEVEL_PLACES {
+        if speed_at(block, k) != 0 {
+            return false;
+        }
+        k += 1;
+    }
+    true
+}
+
 // Whether the two bytes past the fields of each of so many entries are zero.
 fn pairs_zero(block: &[u8], count: usize) -> bool
     requires { ⌜ (count ≤ places) × (length (now block) ≡ stateLength) ⌝ }
@@ -175,7 +217,10 @@ pub fn laid_out(block: &[u8]) -> bool
     if !pairs_zero(block, count) {
         return false;
     }
-    zero_from(block, HEAD_LENGTH + ENTRY_LENGTH * count)
+    if !zero_from(block, HEAD_LENGTH + ENTRY_LENGTH * count) {
+        return false;
+    }
+    unused_zero(block)
 }
 
 // Stores what is left of task i's job.

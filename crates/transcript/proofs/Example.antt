@@ -6,16 +6,16 @@ use mathlib.Core.List.{List, [], _∷_, _++_}
 use Rattle.arith.specs.Need.{need}
 use Rattle.arith.specs.Divisor.{gcd, lcm}
 use Rattle.plan.specs.Times.{timeOf, worn}
-use Rattle.plan.specs.Levels.{baseSpeeds}
 use Rattle.schedule.specs.PlainSchedule.{moreUrgent}
-use Rattle.reclaiming.specs.Cases.{benchBlock}
+use Rattle.reclaiming.specs.Cases.{baseLevels, benchBlock}
 use Rattle.transcript.specs.Listing.{listing}
 
--- "the plan (10, 400), (10, 400), (30, 600), then hex 8001 8007 8002 8004 8004 0002"
+-- 01's speeds, then "the plan (10, 400), (10, 400), (30, 600), then hex 8001 8007 8002 8004 8004 0002"
 abbrev pub benchInput : List ℕ
 benchInput =
-    benchBlock
-    ++ (0x80 ∷ 0x01 ∷ 0x80 ∷ 0x07 ∷ 0x80 ∷ 0x02 ∷ 0x80 ∷ 0x04 ∷ 0x80 ∷ 0x04 ∷ 0x00 ∷ 0x02 ∷ [])
+    baseLevels
+    ++ (benchBlock
+    ++ (0x80 ∷ 0x01 ∷ 0x80 ∷ 0x07 ∷ 0x80 ∷ 0x02 ∷ 0x80 ∷ 0x04 ∷ 0x80 ∷ 0x04 ∷ 0x00 ∷ 0x02 ∷ []))
 
 -- "Output, whole:"
 abbrev pub benchOutput : List ℕ
@@ -38,6 +38,6 @@ benchOutput =
     ∷ 50 ∷ 48 ∷ 32 ∷ 114 ∷ 117 ∷ 110 ∷ 32 ∷ 48 ∷ 32 ∷ 54 ∷ 32 ∷ 53 ∷ 10
     ∷ []
 
-pub bench-example : listing baseSpeeds benchInput ≡ benchOutput
+pub bench-example : listing benchInput ≡ benchOutput
 unfolding need timeOf worn lcm gcd moreUrgent
 bench-example = refl

@@ -9,6 +9,7 @@ use Rattle.arith.specs.Asking.{within}
 use Rattle.plan.specs.declared.Judged.{Judged}
 use Rattle.plan.specs.declared.Verdict.{Verdict}
 use Rattle.plan.specs.declared.Verdict.the-variants as verdict
+use Rattle.plan.specs.LevelBlocks.{levelCountIn, levelLength}
 use Rattle.plan.specs.Blocks.{editionIn, countIn, blockLength}
 use Rattle.plan.specs.Answers.{readBlock}
 use Rattle.reclaiming.specs.StateBlock.{stateLength}
@@ -31,6 +32,12 @@ replyLine clock (reply.Run task level hold) =
     decimal clock ++ (32 ∷ runWord ++ (spaced task ++ (spaced level ++ (spaced hold ++ lineEnd))))
 replyLine clock (reply.Idle hold) = decimal clock ++ (32 ∷ idleWord ++ (spaced hold ++ lineEnd))
 replyLine clock (reply.Refused n) = refusedLine n
+
+-- 02, No. 1: "In the bench input it precedes the plan, is cut by its count too": as many bytes as the count needs, or all there are if
+-- fewer, or if the count is bad
+abbrev pub levelCut : List ℕ → ℕ
+levelCut input =
+    pick (within 1 8 (levelCountIn input)) (min (levelLength (levelCountIn input)) (length input)) (length input)
 
 -- the edition that an input is cut by: one that is not 1 is refused whatever is cut, and is cut as 1
 abbrev pub cutEdition : ℕ → ℕ
@@ -64,21 +71,25 @@ linesText (l ∷ ls) = replyLine (l .clock) (l .reply) ++ linesText ls
 
 -- the lines from the start on: those of the run over a fresh state
 abbrev pub startedLines : List ℕ → List ℕ → List ℕ → List ℕ
-startedLines speeds block passes = linesText (runLines speeds block (replicate stateLength 0) (passesIn passes)) ++ oddLine passes
+startedLines levels block passes = linesText (runLines levels block (replicate stateLength 0) (passesIn passes)) ++ oddLine passes
 
 -- the lines from a plan that was read on; "If the reading is refused, the bench program prints that line and ends."
 abbrev pub judgedLines : List ℕ → List ℕ → Verdict → ℕ → List ℕ → List ℕ
-judgedLines speeds block (verdict.Refused n) count passes = refusedLine n
-judgedLines speeds block (verdict.Admitted level span) count passes =
-    planLine count level span ++ startedLines speeds block passes
+judgedLines levels block (verdict.Refused n) count passes = refusedLine n
+judgedLines levels block (verdict.Admitted level span) count passes =
+    planLine count level span ++ startedLines levels block passes
 
 abbrev pub readLines : List ℕ → List ℕ → Judged → List ℕ → List ℕ
-readLines speeds block judged passes = judgedLines speeds block (judged .verdict) (judged .plan .count) passes
+readLines levels block judged passes = judgedLines levels block (judged .verdict) (judged .plan .count) passes
+
+-- 02, No. 1: a level block "ends the run if refused": reading the plan is then answered with its number
+abbrev pub planListing : List ℕ → List ℕ → List ℕ
+planListing levels input =
+    let cut : ℕ = planCut input in
+    readLines levels (take cut input) (readBlock levels (take cut input)) (drop cut input)
 
 -- 01: "The bench program asks before all: is the input at most 65,536 bytes? 17."
-abbrev pub listing : List ℕ → List ℕ → List ℕ
-listing speeds input =
-    let cut : ℕ = planCut input in
-    pick (leb (length input) 65536)
-    (readLines speeds (take cut input) (readBlock speeds (take cut input)) (drop cut input))
-    (refusedLine 17)
+abbrev pub listing : List ℕ → List ℕ
+listing input =
+    let cut : ℕ = levelCut input in
+    pick (leb (length input) 65536) (planListing (take cut input) (drop cut input)) (refusedLine 17)

@@ -1,10 +1,10 @@
--- `laid_out` meets its contract: the zero byte, the zero bytes past an entry's numbers or a byte past all entries decides.
+-- `laid_out` meets its contract: the zero byte, the zero bytes past an entry's numbers, a byte past all entries or a speed past the count decides.
 -- Assumes nothing.
 use mathlib.Core.Path.{refl}
 use native.Mathlib.Omega.{arith}
 use borrow.Author.Needs.{needs}
 use borrow.Author.Tests.{not-true, not-false}
-use Rattle.state.proofs.LayoutLaws.{BlockBytes, zero-not, pairs-decide, zeros-decide}
+use Rattle.state.proofs.LayoutLaws.{BlockBytes, zero-not, pairs-decide, zeros-decide, unused-decide}
 use Rattle.state.proofs.laid_out.Statement.{statement}
 use Rattle.state.proofs.laid_out.Tie as tie
 
@@ -42,12 +42,27 @@ add-zero-from c = search needs
 zero-from-requires : tie.Need-zero-from-requires
 zero-from-requires c κs = search needs
 
+-- the place past the second
+abbrev paired : tie.After-zero-from → tie.After-pairs-zero
+paired c = c .before .before
+
 returns-3 : tie.Need-returns-3
 returns-3 c =
-    let paired : tie.After-pairs-zero = c .before .before in
-    let e : tie.Else1 = tested paired in
-    zeros-decide (known (e .before .before)) refl (e .if1 .left) (paired .before .count-at .ensures) (paired .pairs-zero .ensures)
-    (not-false _ (c .before .if2 .left)) (c .zero-from .ensures)
+    let p : tie.After-pairs-zero = paired (c .before) in
+    let e : tie.Else1 = tested p in
+    zeros-decide (known (e .before .before)) refl (e .if1 .left) (p .before .count-at .ensures) (p .pairs-zero .ensures)
+    (not-false _ (c .before .before .if2 .left)) (c .before .zero-from .ensures) (not-true _ (c .if3 .taken))
+
+unused-zero-requires : tie.Need-unused-zero-requires
+unused-zero-requires c κs = search needs
+
+returns-4 : tie.Need-returns-4
+returns-4 c =
+    let z : tie.After-zero-from = c .before .before in
+    let p : tie.After-pairs-zero = paired z in
+    let e : tie.Else1 = tested p in
+    unused-decide (known (e .before .before)) refl (e .if1 .left) (p .before .count-at .ensures) (p .pairs-zero .ensures)
+    (not-false _ (z .before .if2 .left)) (z .zero-from .ensures) (not-false _ (c .before .if3 .left)) (c .unused-zero .ensures)
 
 pub laid-out-spec : {M : Type 1} → statement M
 laid-out-spec =
@@ -61,4 +76,6 @@ laid-out-spec =
     mul-zero-from
     add-zero-from
     zero-from-requires
-    returns-3)
+    returns-3
+    unused-zero-requires
+    returns-4)
