@@ -44,6 +44,15 @@ length-unpacked [] = refl
 length-unpacked (b ∷ bs) =
     length-append (digits 2 8 b) (unpacked bs) ∙ omega (arith, length-digits 2 8 b, length-unpacked bs)
 
+-- those from a place on are zero exactly if the number that they are is
+pub rest-zero :
+    (s : List ℕ) (used : ℕ) →
+    every (eqb 0) (drop used (unpacked s)) ≡ eqb (number 2 (8 * length s - used) (drop used (unpacked s))) 0
+rest-zero s used =
+    let rest : List ℕ = drop used (unpacked s) in
+    every-zero rest
+    ∙ ap (λ (n : ℕ). eqb (number 2 n rest) 0) (length-drop used (unpacked s) ∙ ap (λ (n : ℕ). n - used) (length-unpacked s))
+
 -- within the first byte the bits are its own; past it they are those of the rest
 module _ (b : ℕ) (bits : List ℕ) (k : ℕ) where
   early : k < 8 → getD (digits 2 8 b ++ bits) k 0 ≡ getD (digits 2 8 b) k 0

@@ -1,24 +1,29 @@
 -- Judging a plan: a plan filled from the front, and what each way out says of the questions.
 -- Assumes nothing.
 use Prim.Native.Nat.{ℕ, zero, suc, _+_, _<_, _≤_}
-use mathlib.Core.Path.{_≡_, sym, ap, _∙_}
-use mathlib.Core.List.{List, []}
+use mathlib.Core.Path.{_≡_, refl, sym, ap, _∙_}
+use mathlib.Core.List.{List, [], _++_}
 use native.Mathlib.Omega.{arith}
 use borrow.Author.Tests.{le-leb, lt-leb}
 use lib.ListN.{length, getD, take, set}
 use lib.Seq.{length-take-le}
 use Rattle.arith.specs.Arrays.{padded}
-use Rattle.arith.specs.Asking.{firstNo}
+use Rattle.arith.specs.Asking.{Question, firstNo}
 use Rattle.plan.specs.declared.Task.{Task}
 use Rattle.plan.specs.declared.Plan.{Plan}
 use Rattle.plan.specs.declared.Judged.{Judged}
 use Rattle.plan.specs.declared.Verdict.{Verdict}
 use Rattle.plan.specs.declared.Verdict.the-variants as verdict
-use Rattle.plan.specs.Answers.{judgedBy, judgedPlan, refusedWith, answered}
+use Rattle.plan.specs.LevelBlocks.{loading, speedsIn}
+use Rattle.plan.specs.Answers.{judgedBy, refusedWith, answered}
 use Rattle.plan.specs.Blocks.{noTask, planOf, tasksOf}
 use Rattle.plan.specs.Questions.{taskQuestions, judging}
 use Rattle.arith.proofs.ArrayLaws.{taken-more}
 use Rattle.arith.proofs.Tests.{both-false}
+use Rattle.arith.proofs.QuestionLaws.{no-before, yes-before}
+use Rattle.plan.proofs.AnswerLaws.{Refusal}
+use Rattle.levels.specs.Code.{loaded}
+use Rattle.levels.proofs.Tables.{Loads}
 
 -- the loop that fills a plan with a list's first count tasks
 pub record Filled (l : List Task) (count : ℕ) (q : Plan) (i : ℕ) : Type 0 where
@@ -83,17 +88,52 @@ module _ (speeds : List ℕ) (ts : List Task) where
   count-good count a b = simp (le-leb 1 count a, le-leb count 16 b)
 
 -- what judges a plan, where the first no is known
+abbrev Judges : List ℕ → Plan → Judged → Type 0
+Judges speeds p r = r ≡ judgedBy (firstNo (judging speeds (p .count) (tasksOf p))) speeds (tasksOf p)
+
 module _ (speeds : List ℕ) (p : Plan) {r : Judged} where
-  pub judged-by : (n : ℕ) → r ≡ judgedBy n speeds (tasksOf p) → firstNo (judging speeds (p .count) (tasksOf p)) ≡ n → r ≡ judgedPlan speeds p
+  judged-by : (n : ℕ) → r ≡ judgedBy n speeds (tasksOf p) → firstNo (judging speeds (p .count) (tasksOf p)) ≡ n → Judges speeds p r
   judged-by n a e = a ∙ sym (ap (λ (k : ℕ). judgedBy k speeds (tasksOf p)) e)
 
-  pub judged-low : r ≡ refusedWith 3 → p .count < 1 → r ≡ judgedPlan speeds p
+  pub judged-low : r ≡ refusedWith 3 → p .count < 1 → Judges speeds p r
   judged-low a h = judged-by 3 a (count-low speeds (tasksOf p) (p .count) h)
 
-  pub judged-high : r ≡ refusedWith 3 → 16 < p .count → r ≡ judgedPlan speeds p
+  pub judged-high : r ≡ refusedWith 3 → 16 < p .count → Judges speeds p r
   judged-high a h = judged-by 3 a (count-high speeds (tasksOf p) (p .count) h)
 
   pub judged-good :
-      r ≡ judgedBy (firstNo (taskQuestions speeds (tasksOf p))) speeds (tasksOf p) → 1 ≤ p .count → p .count ≤ 16 → r ≡ judgedPlan speeds p
+      r ≡ judgedBy (firstNo (taskQuestions speeds (tasksOf p))) speeds (tasksOf p) →
+      1 ≤ p .count →
+      p .count ≤ 16 →
+      Judges speeds p r
   judged-good a l h =
       judged-by (firstNo (taskQuestions speeds (tasksOf p))) a (count-good speeds (tasksOf p) (p .count) l h)
+
+-- a refusal's number is all that is told, whatever the tasks are
+pub refused-as :
+    (speeds : List ℕ) (ts : List Task) {r : Judged} {number n : ℕ} →
+    r ≡ refusedWith n →
+    0 < n →
+    number ≡ n →
+    r ≡ judgedBy number speeds ts
+refused-as speeds ts {n = zero} a h e = absurd (omega arith)
+refused-as speeds ts {n = suc n} a h e = a ∙ sym (ap (λ (k : ℕ). judgedBy k speeds ts) e)
+
+-- an entry: what it asks over its levels comes after the questions put to the level block, and a refusal of that is all that is told
+abbrev Entered : List ℕ → (List ℕ → List Question) → List Task → Judged → Type 0
+Entered block rest ts r = r ≡ judgedBy (firstNo (loading block ++ rest (speedsIn block))) (speedsIn block) ts
+
+module _ (block : List ℕ) (rest : List ℕ → List Question) (ts : List Task) {r : Judged} where
+  pub entered-refused : {n : ℕ} → r ≡ refusedWith n → Refusal (firstNo (loading block)) n → Entered block rest ts r
+  entered-refused {n} a e =
+      refused-as (speedsIn block) ts a (e .positive) (no-before (loading block) (rest (speedsIn block)) n (e .positive) (e .is))
+
+  pub entered-loaded :
+      {held : List ℕ} {levels : ℕ} →
+      r ≡ judgedBy (firstNo (rest (loaded held levels))) (loaded held levels) ts →
+      Loads block held levels →
+      Entered block rest ts r
+  entered-loaded a l =
+      a
+      ∙ ap (λ (s : List ℕ). judgedBy (firstNo (rest s)) s ts) (l .is)
+      ∙ sym (ap (λ (k : ℕ). judgedBy k (speedsIn block) ts) (yes-before (loading block) (rest (speedsIn block)) refl (l .number)))

@@ -1,14 +1,105 @@
-// Tables of speeds as the code holds them: eight numbers, of which the first so many are the levels' speeds.
+// Level blocks, and tables of speeds as the code holds them: eight numbers, of which the first so many are the levels' speeds.
+use plan::Board;
+use plan::Load;
 ghost use mathlib.Core.Path.{_≡_};
-ghost use Rattle.plan.specs.Levels.{baseSpeeds};
-ghost use Rattle.levels.specs.Code.{Table};
+ghost use Prim.Native.Nat.{_*_, _≤_};
+ghost use lib.ListN.{length};
+ghost use Rattle.arith.specs.Arrays.{padded};
+ghost use Rattle.arith.specs.Ranges.{listTo};
+ghost use Rattle.plan.specs.LevelBlocks.{levelBitCount, levelLength, levelCountIn, speedAt, risesFrom, readLevels};
+ghost use Rattle.levels.specs.Code.{loaded, unloadedWith};
 
-// How many levels 01 has.
-pub const LEVELS: usize = 8;
-
-// The speeds of 01's levels.
-pub fn base() -> [u32; 8]
-    ensures { λ r. ⌜ (r ≡ baseSpeeds) × Table r 8 ⌝ }
+// Whether the first so many numbers rise from above 0 and are at most 1,000. A proof learns nothing of a lent array's length, so it is asked.
+pub fn rises(speeds: &[u32; 8], levels: usize) -> bool
+    requires { ⌜ (levels ≤ 8) × (length (now speeds) ≡ 8) ⌝ }
+    ensures { λ r. ⌜ r ≡ risesFrom 0 (loaded (now (speeds .entry)) levels) ⌝ }
 {
-    [10, 20, 30, 40, 50, 60, 80, 100]
+    let mut last: u32 = 0;
+    let mut i: usize = 0;
+    while i < levels {
+        let s = speeds[i];
+        if s <= last {
+            return false;
+        }
+        if s > 1000 {
+            return false;
+        }
+        last = s;
+        i += 1;
+    }
+    true
+}
+
+// How many bytes the block of so many levels has.
+pub fn level_length(count: usize) -> usize
+    requires { ⌜ count ≤ 8 ⌝ }
+    ensures { λ r. ⌜ r ≡ levelLength count ⌝ }
+{
+    (4 + 10 * count + 7) / 8
+}
+
+// The speeds of a block of so many levels, zeros past them.
+fn speeds_in(block: &[u8], count: usize) -> [u32; 8]
+    requires { ⌜ (count ≤ 8) × (levelBitCount count ≤ 8 * length (now block)) ⌝ }
+    ensures { λ r. ⌜ r ≡ padded 8 0 (listTo count (speedAt (now (block .entry)))) ⌝ }
+{
+    let mut speeds = [0u32; 8];
+    let mut i: usize = 0;
+    while i < count {
+        let s = numeric::bits_at(block, 4 + 10 * i, 10);
+        speeds[i] = s;
+        i += 1;
+    }
+    speeds
+}
+
+// A refusal, with a table that is zero throughout.
+fn unloaded(n: u32) -> Board
+    ensures { λ r. ⌜ r ≡ unloadedWith n ⌝ }
+{
+    Board {
+        answer: Load::Refused(n),
+        speeds: [0u32; 8],
+    }
+}
+
+// Questions 19 and 20, of a block of which 18 is answered yes.
+fn read_counted(block: &[u8], count: usize) -> Board
+    requires { ⌜ (count ≡ levelCountIn (now block)) × (1 ≤ count) × (count ≤ 8) ⌝ }
+    requires { ⌜ 1 ≤ length (now block) ⌝ }
+    ensures { λ r. ⌜ r ≡ readLevels (now (block .entry)) ⌝ }
+{
+    if block.len() != level_length(count) {
+        return unloaded(19);
+    }
+    let used = 4 + 10 * count;
+    let closing = numeric::bits_at(block, used, 8 * block.len() - used);
+    if closing != 0 {
+        return unloaded(19);
+    }
+    let speeds = speeds_in(block, count);
+    if !rises(&speeds, count) {
+        return unloaded(20);
+    }
+    Board {
+        answer: Load::Levels(count),
+        speeds,
+    }
+}
+
+// A level block read: the questions 18, 19, 20.
+pub fn read_levels(block: &[u8]) -> Board
+    ensures { λ r. ⌜ r ≡ readLevels (now (block .entry)) ⌝ }
+{
+    if block.len() < 1 {
+        return unloaded(18);
+    }
+    let count = numeric::bits_at(block, 0, 4) as usize;
+    if count < 1 {
+        return unloaded(18);
+    }
+    if count > 8 {
+        return unloaded(18);
+    }
+    read_counted(block, count)
 }
