@@ -30,7 +30,7 @@ offsetRight k = eqb (offsetOf tailFields (speedField k)) (1 + 2 * k)
 offsets-right : every offsetRight (listTo levelPlaces (λ k. k)) ≡ true
 offsets-right = refl
 
-speed-offset : (k : ℕ) → k < levelPlaces → offsetOf tailFields (speedField k) ≡ 1 + 2 * k
+pub speed-offset : (k : ℕ) → k < levelPlaces → offsetOf tailFields (speedField k) ≡ 1 + 2 * k
 speed-offset k h =
     eqb-true (offsetOf tailFields (speedField k)) (1 + 2 * k)
     (subst (λ (n : ℕ). offsetRight n ≡ true) (getD-listTo levelPlaces (λ j. j) k 0 h)

@@ -1,0 +1,29 @@
+-- The table of speeds in a state block, as the code holds it and stores it.
+-- Assumes nothing.
+use Prim.Native.Nat.{ℕ}
+use mathlib.Core.Bool.{Bool, true, false}
+use mathlib.Core.List.{List, []}
+use lib.Dec.{eqb}
+use lib.ListN.{length}
+use Rattle.arith.specs.Arrays.{padded}
+use Rattle.arith.specs.Choice.{both}
+use Rattle.plan.specs.LevelBlocks.{tableGood}
+use Rattle.reclaiming.specs.Fields.{fieldsBytes}
+use Rattle.reclaiming.specs.StateBlock.{State, tailFields, stateLength, levelCount, decode}
+use Rattle.tables.specs.declared.OwnTable.{OwnTable}
+
+-- whether a block has a state's length and a table that may be loaded
+abbrev pub ownTable : List ℕ → Bool
+ownTable bytes = both (eqb (length bytes) stateLength) (tableGood (decode bytes .speeds))
+
+-- its table; or none, and zeros
+abbrev pub tableBy : Bool → List ℕ → OwnTable
+tableBy false bytes = record { levels = 0; speeds = padded 8 0 [] }
+tableBy true bytes = record { levels = levelCount bytes; speeds = padded 8 0 (decode bytes .speeds) }
+
+-- a state that has a table of speeds and nothing else, and the bytes that the table is written as
+abbrev pub tableOnly : List ℕ → State
+tableOnly speeds = record { clock = 0; task = 0; level = 0; entries = []; speeds = speeds }
+
+abbrev pub tableBytes : List ℕ → List ℕ
+tableBytes speeds = fieldsBytes tailFields (tableOnly speeds)
