@@ -29,7 +29,7 @@ use Rattle.arith.specs.Ranges.{leastTo}
 use Rattle.state.specs.Code.{Holds, entryIn, headStored, timingIn}
 use Rattle.urgency.specs.Code.{Keyed, noKey, deadlineIn}
 use Rattle.orders.specs.Code.{choiceOf, runOf, chosenIn, chosenReply, holdBy, orderOf, Runnable, Enough}
-use Rattle.reclaiming.proofs.PassedStates.{choose-clock, choose-entries}
+use Rattle.reclaiming.proofs.PassedStates.{choose-clock, choose-entries, choose-speeds}
 use Rattle.reclaiming.proofs.Allowances.{allowance-is}
 use Rattle.state.proofs.BlockLaws.{count-in, store-order}
 use Rattle.urgency.proofs.KeyLaws as keys
@@ -243,13 +243,14 @@ module _ {speeds b : List ℕ} {next : ℕ} {c : Choice} (k : Chosen speeds b ne
   abbrev N : State
   N = chosenIn speeds b
 
-  -- choosing leaves the clock and the entries
+  -- choosing leaves the clock, the entries and the speeds
   order-only : withOrder (decode b) (N .task) (N .level) ≡ N
   order-only = λ i. record {
     clock = sym (choose-clock speeds (timingIn speeds b) (decode b)) i;
     task = N .task;
     level = N .level;
     entries = sym (choose-entries speeds (timingIn speeds b) (decode b)) i;
+    speeds = sym (choose-speeds speeds (timingIn speeds b) (decode b)) i;
   }
 
   pub choose-stored : {m : List ℕ} → m ≡ headStored (headStored b taskField (c .task)) levelField (c .level) → m ≡ encode N

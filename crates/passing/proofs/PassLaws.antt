@@ -28,7 +28,7 @@ use Rattle.reclaiming.specs.StateBlock.{State, noEntry, remainingOf, restOf, pl
 use Rattle.reclaiming.specs.Orders.{nextArrival, runningTime, holdOf, chooseOrder, orderWith}
 use Rattle.arith.specs.Ranges.{someTo}
 use Rattle.reclaiming.specs.Passes.{arrivesAt, movedState, choosesAnew, passedState}
-use Rattle.reclaiming.specs.Questions.{largestClock, sound, stateSound, passQuestions}
+use Rattle.reclaiming.specs.Questions.{largestClock, soundAt, stateSound, passQuestions}
 use Rattle.reclaiming.specs.Calls.{repliedBy, passNumber, passOrder, passReply, passBytes}
 use Rattle.state.specs.Code.{Holds, entryIn, timingIn}
 use Rattle.urgency.specs.Code.{keyOf, noKey, dueAt, Keyed}
@@ -51,7 +51,7 @@ use Rattle.soundness.proofs.SoundFacts.{sound-plan, sound-facts, nominal-small,
 -- ticks from a sound block on, up to its next arrival
 pub record Reaching (speeds bytes : List ℕ) (next d : ℕ) : Type 0 where
   pub rising : Rising speeds
-  pub ok : sound speeds bytes ≡ true
+  pub ok : soundAt speeds bytes ≡ true
   pub some : 1 ≤ d
   pub within : d ≤ next
   pub arrival : next ≡ nextArrival (timingIn speeds bytes) (decode bytes .clock)
@@ -345,11 +345,11 @@ module _ (speeds bytes : List ℕ) (d : ℕ) (finished : Bool) where
   abbrev numbered : Bool → ℕ
   numbered b = pick b (firstNo (passQuestions speeds (decode bytes) d finished)) 10
 
-  pub number-10 : (r : Tested) → r ≡ testedBy speeds (sound speeds bytes) bytes → r .sound ≡ false → 10 ≡ passNumber speeds bytes d finished
-  number-10 r e u = ap numbered (sym u ∙ tested-sound speeds bytes r e)
+  pub number-10 : (r : Tested) → r ≡ testedBy speeds (soundAt speeds bytes) bytes → r .sound ≡ false → 10 ≡ passNumber speeds bytes d finished
+  number-10 r e u = ap numbered (sym u ∙ tested-soundAt speeds bytes r e)
 
   pub number-is :
-      sound speeds bytes ≡ true →
+      soundAt speeds bytes ≡ true →
       (n : ℕ) →
       n ≡ firstNo (passQuestions speeds (decode bytes) d finished) →
       n ≡ passNumber speeds bytes d finished
@@ -379,7 +379,7 @@ pub accepts :
     l ≡ encode (passedState speeds (timingIn speeds bytes) (decode bytes) d finished) →
     Passes speeds bytes d finished r l
 accepts {speeds} {bytes} {keys} {highest} {next} {d} {finished} k r l a b =
-    let ok : sound speeds bytes ≡ true = k .good .sound in
+    let ok : soundAt speeds bytes ≡ true = k .good .sound in
     let none : 0 ≡ passNumber speeds bytes d finished = number-is speeds bytes d finished ok 0 (sym (k .clear)) in
     let same : length (after speeds bytes d finished) ≡ length bytes =
     length-encode (passedState speeds (timingIn speeds bytes) (decode bytes) d finished) (passed-few (letting k)) ∙ sym (sound-size speeds (k .rising) bytes ok) in (

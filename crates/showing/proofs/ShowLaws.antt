@@ -26,7 +26,7 @@ use Rattle.urgency.specs.Code.{tasksBytes}
 use Rattle.state.specs.Code.{timingIn}
 use Rattle.soundness.specs.Code.{Good, testedBy}
 use Rattle.soundness.proofs.SoundLaws.{tested-sound}
-use Rattle.reclaiming.specs.Questions.{sound}
+use Rattle.reclaiming.specs.Questions.{soundAt}
 use Rattle.state.proofs.BlockLaws.{remainingIn, count-in, entry-at}
 use Rattle.urgency.proofs.OpenJobs.{timing-count}
 use Rattle.urgency.proofs.KeyLaws.{ready-bytes}
@@ -109,12 +109,12 @@ showNo speeds bytes buffer b = pick b (roomNumber (length (shownBytes speeds byt
 
 pub show-unsound :
     (speeds bytes buffer : List ℕ) (t : Tested) →
-    t ≡ testedBy speeds (sound speeds bytes) bytes →
+    t ≡ testedBy speeds (soundAt speeds bytes) bytes →
     t .sound ≡ false →
     LeftByShow speeds bytes buffer (written.Refused 10) buffer
 show-unsound speeds bytes buffer t e h =
     leaves-refused (showNumber speeds bytes (length buffer)) 10 (shownBytes speeds bytes) buffer (omega arith)
-    (ap (showNo speeds bytes buffer) (sym (tested-sound speeds bytes t e) ∙ h))
+    (ap (showNo speeds bytes buffer) (sym (tested-soundAt speeds bytes t e) ∙ h))
 
 -- a sound block with its count and its ready tasks
 pub record Showing (speeds bytes keys : List ℕ) (highest n : ℕ) (q : ReadyList) : Type 0 where

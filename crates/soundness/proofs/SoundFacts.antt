@@ -18,7 +18,7 @@ use Rattle.state.specs.Code.{Holds, FitTask, FitRest}
 use Rattle.schedule.specs.PlainSchedule.{Timing}
 use Rattle.reclaiming.specs.StateBlock.{State, noEntry, taskOf, remainingOf, restOf, planIn, timing, encode, decode, laidOut, stateLength, stateCount, places}
 use Rattle.reclaiming.specs.Orders.{nextArrival}
-use Rattle.reclaiming.specs.Questions.{inTime, sound, stateSound}
+use Rattle.reclaiming.specs.Questions.{inTime, soundAt, stateSound}
 use Rattle.orders.specs.Code.{Runnable}
 use Rattle.reclaiming.proofs.Fine.{Fine}
 use Rattle.reclaiming.proofs.Plans.{task-range, allotment-short}
@@ -92,7 +92,7 @@ module _ (speeds : List ℕ) (rising : Rising speeds) (s : State) (ok : stateSou
       )
 
 -- what a sound block has
-module _ (speeds : List ℕ) (rising : Rising speeds) (bytes : List ℕ) (ok : sound speeds bytes ≡ true) where
+module _ (speeds : List ℕ) (rising : Rising speeds) (bytes : List ℕ) (ok : soundAt speeds bytes ≡ true) where
   laid : laidOut bytes ≡ true
   laid = both-left (laidOut bytes) (both (inTime (decode bytes .clock)) (stateSound speeds (decode bytes))) ok
 

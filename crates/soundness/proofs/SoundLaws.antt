@@ -31,7 +31,7 @@ use Rattle.reclaiming.specs.declared.Entry.{Entry}
 use Rattle.soundness.specs.declared.Tested.{Tested}
 use Rattle.reclaiming.specs.StateBlock.{State, noEntry, restIn, taskOf, planIn, timing, encode, decode, sameBytes, laidOut, places, stateLength, stateCount}
 use Rattle.reclaiming.specs.Orders.{allowance, openJobs, runningTime}
-use Rattle.reclaiming.specs.Questions.{largestClock, inTime, entrySound, orderSound, stateSound, sound}
+use Rattle.reclaiming.specs.Questions.{largestClock, inTime, entrySound, orderSound, stateSound, soundAt}
 use Rattle.state.specs.Code.{Holds, entryIn, timingIn}
 use Rattle.urgency.specs.Code.{Keyed, latestKey, keysIn, noKey}
 use Rattle.soundness.specs.Code.{Good, orderIn, timedSound, testedBy}
@@ -423,15 +423,11 @@ module _ (speeds b : List ℕ) {clock : ℕ} (c : clock ≡ decode b .clock) whe
 
 -- a block, by each way out
 abbrev Right : List ℕ → List ℕ → Tested → Type 0
-Right speeds bytes r = r ≡ testedBy speeds (sound speeds bytes) bytes
+Right speeds bytes r = r ≡ testedBy speeds (soundAt speeds bytes) bytes
 
 module _ (speeds bytes : List ℕ) {r : Tested} where
   pub layout-not : laidOut bytes ≡ false → r ≡ testedBy [] false [] → Right speeds bytes r
   layout-not n f = tested-not speeds bytes f (ap (λ (t : Bool). both t (timedSound speeds (decode bytes))) n)
-
-  pub length-not : (length bytes ≡ stateLength → ⊥) → r ≡ testedBy [] false [] → Right speeds bytes r
-  length-not n =
-      layout-not (ap (λ (t : Bool). both t (sameBytes (encode (decode bytes)) bytes)) (ne-eqb (length bytes) stateLength n))
 
   count-not : firstNo (judging speeds (length (decode bytes .entries)) (planIn (decode bytes))) ≡ 3 → r ≡ testedBy [] false [] → Right speeds bytes r
   count-not e f =
@@ -452,17 +448,17 @@ module _ (speeds bytes : List ℕ) {r : Tested} where
       e ∙ ap (λ (t : Bool). testedBy speeds t bytes) (sym (ap (λ (t : Bool). both t (timedSound speeds (decode bytes))) y))
 
 -- what a caller reads off the answer
-module _ (speeds bytes : List ℕ) (r : Tested) (e : r ≡ testedBy speeds (sound speeds bytes) bytes) where
+module _ (speeds bytes : List ℕ) (r : Tested) (e : r ≡ testedBy speeds (soundAt speeds bytes) bytes) where
   sound-field : (b : Bool) → testedBy speeds b bytes .sound ≡ b
   sound-field true = refl
   sound-field false = refl
 
-  pub tested-sound : r .sound ≡ sound speeds bytes
-  tested-sound = ap (λ (x : Tested). x .sound) e ∙ sound-field (sound speeds bytes)
+  pub tested-sound : r .sound ≡ soundAt speeds bytes
+  tested-sound = ap (λ (x : Tested). x .sound) e ∙ sound-field (soundAt speeds bytes)
 
   pub tested-good : Rising speeds → r .sound ≡ true → Good speeds bytes (r .keys) (r .nominal)
   tested-good rising t =
-      let ok : sound speeds bytes ≡ true = sym tested-sound ∙ t in
+      let ok : soundAt speeds bytes ≡ true = sym tested-sound ∙ t in
       let is : testedBy speeds true bytes ≡ r = sym (e ∙ ap (λ (x : Bool). testedBy speeds x bytes) ok) in
       subst (λ (x : Tested). Good speeds bytes (x .keys) (x .nominal)) is
       record {

@@ -9,14 +9,14 @@ use Rattle.arith.specs.Choice.{both}
 use Rattle.plan.specs.Levels.{nominal}
 use Rattle.reclaiming.specs.StateBlock.{State, stateCount, decode, planIn, places}
 use Rattle.reclaiming.specs.Orders.{openJobs}
-use Rattle.reclaiming.specs.Questions.{inTime, orderSound, stateSound, sound}
+use Rattle.reclaiming.specs.Questions.{inTime, orderSound, stateSound, soundAt}
 use Rattle.state.specs.Code.{Holds, timingIn}
 use Rattle.urgency.specs.Code.{Keyed, keysIn}
 use Rattle.soundness.specs.declared.Tested.{Tested}
 
 -- a block that is sound, with its keys and its nominal level
 pub record Good (speeds bytes keys : List ℕ) (highest : ℕ) : Type 0 where
-  pub sound : sound speeds bytes ≡ true
+  pub sound : soundAt speeds bytes ≡ true
   pub holds : Holds bytes
   pub keyed : Keyed (timingIn speeds bytes) (decode bytes .clock) keys
   pub nominal : highest ≡ nominal speeds (planIn (decode bytes))

@@ -5,7 +5,6 @@ use plan::Verdict;
 use state::COUNT_AT;
 use state::LEVEL_AT;
 use state::PLACES;
-use state::STATE_LENGTH;
 use state::TASK_AT;
 use state::WORK_AT;
 use state::WORK_WIDTH;
@@ -31,7 +30,7 @@ ghost use Rattle.plan.specs.Questions.{taskQuestions};
 ghost use Rattle.arith.specs.Asking.{firstNo};
 ghost use Rattle.plan.specs.Blocks.{planOf};
 ghost use Rattle.reclaiming.specs.StateBlock.{planIn, places, stateLength, stateCount, decode};
-ghost use Rattle.reclaiming.specs.Questions.{largestClock, entrySound, stateSound, sound};
+ghost use Rattle.reclaiming.specs.Questions.{largestClock, entrySound, stateSound, soundAt};
 ghost use Rattle.state.specs.Code.{Holds, entryIn, timingIn};
 ghost use Rattle.urgency.specs.Code.{Keyed};
 ghost use Rattle.soundness.specs.Code.{orderIn, timedSound, testedBy};
@@ -188,16 +187,13 @@ fn test_state(speeds: &[u32; 8], levels: usize, block: &[u8], count: usize) -> T
     }
 }
 
-// A block tested: whether it is sound and, if so, its nominal level and its keys.
+// A block of a state's length tested: whether it is sound and, if so, its nominal level and its keys.
 pub fn test_block(speeds: &[u32; 8], levels: usize, block: &[u8]) -> Tested
-    requires { ⌜ Table (now speeds) levels ⌝ }
+    requires { ⌜ Table (now speeds) levels × (length (now block) ≡ stateLength) ⌝ }
     ensures { λ r. ⌜ r ≡ testedBy (loaded (now (speeds .entry)) levels)
-        (sound (loaded (now (speeds .entry)) levels) (now (block .entry)))
+        (soundAt (loaded (now (speeds .entry)) levels) (now (block .entry)))
         (now (block .entry)) ⌝ }
 {
-    if block.len() != STATE_LENGTH {
-        return not_sound();
-    }
     let count = block[COUNT_AT] as usize;
     if count < 1 {
         return not_sound();

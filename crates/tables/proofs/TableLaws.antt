@@ -20,7 +20,7 @@ use Rattle.arith.proofs.QuestionLaws.{within-under, within-over, within-true}
 use Rattle.arith.proofs.ArrayLaws.{padded-at, length-padded}
 use Rattle.plan.specs.LevelBlocks.{risesFrom, tableGood}
 use Rattle.plan.proofs.LevelBlockLaws.{FineTable, fine-table}
-use Rattle.levels.specs.Code.{loaded, Table}
+use Rattle.levels.specs.Code.{loaded}
 use Rattle.levels.proofs.Loading.{loaded-padded}
 use Rattle.levels.proofs.Tables.{rises-table}
 use Rattle.reclaiming.specs.Fields.{Field, width, valueIn, fieldsBytes, fieldAt, offsetOf}
@@ -30,7 +30,7 @@ use Rattle.reclaiming.proofs.FieldLaws.{store-next}
 use Rattle.reclaiming.proofs.StateCodec.{speed-row, laid-length}
 use Rattle.state.proofs.TailLaws.{levels-in, speed-offset}
 use Rattle.tables.specs.declared.OwnTable.{OwnTable}
-use Rattle.tables.specs.Code.{ownTable, tableBy, tableOnly, tableBytes}
+use Rattle.tables.specs.Code.{ownTable, tableBy, Owns, tableOnly, tableBytes}
 
 -- a block's length, and then its table, decide
 module _ (bytes : List ℕ) where
@@ -85,14 +85,7 @@ module _ {bytes held : List ℕ} {count : ℕ} (k : Gathers bytes held count) wh
   found-rising e f =
       (λ i. record { levels = k .counted i; speeds = held-is i }) ∙ sym (ap (λ (b : Bool). tableBy b bytes) (rises-is e ∙ f))
 
--- what was found of a block's own table
-pub record Owns (bytes held : List ℕ) (levels : ℕ) : Type 0 where
-  pub size : length bytes ≡ stateLength
-  pub fine : FineTable (decode bytes .speeds)
-  pub is : loaded held levels ≡ decode bytes .speeds
-  pub counted : levels ≡ levelCount bytes
-  pub table : Table held levels
-
+-- a table that was found is the block's own
 pub owns : (bytes : List ℕ) {t : OwnTable} → t ≡ tableBy (ownTable bytes) bytes → (t .levels ≡ 0 → ⊥) → Owns bytes (t .speeds) (t .levels)
 owns bytes {t} e some = by (ownTable bytes) refl e
   where
@@ -107,9 +100,8 @@ owns bytes {t} e some = by (ownTable bytes) refl e
         ap₂ (λ (l : List ℕ) (n : ℕ). loaded l n) held (counted ∙ sym (levels-in bytes)) ∙ loaded-padded speeds in
         record {
           size = eqb-true (length bytes) stateLength (both-left (eqb (length bytes) stateLength) (tableGood speeds) f);
-          fine = fine;
+          good = fine .good;
           is = is;
-          counted = counted;
           table =
               rises-table (t .speeds) (t .levels) (ap length held ∙ length-padded 8 0 speeds (fine .few)) (omega (arith, counted, levels-in bytes, fine .few))
               (ap (λ (l : List ℕ). risesFrom 0 l) is ∙ both-right (within 1 8 (length speeds)) (risesFrom 0 speeds) (fine .good));
@@ -139,10 +131,14 @@ unowned bytes {t} e none = by (ownTable bytes) refl e
         let fine : FineTable speeds = fine-table speeds (both-right (eqb (length bytes) stateLength) (tableGood speeds) f) in
         absurd (omega (arith, none, ap (λ (x : OwnTable). x .levels) e, levels-in bytes, fine .some))
 
--- and a sound one's soundness is that over its table
+-- a table that a block owns may be loaded
+pub owned-fine : {bytes held : List ℕ} {levels : ℕ} → Owns bytes held levels → FineTable (loaded held levels)
+owned-fine {bytes} {held} {levels} k = fine-table (loaded held levels) (ap tableGood (k .is) ∙ k .good)
+
+-- and the soundness of the block is that over its table
 pub owned-sound : {bytes held : List ℕ} {levels : ℕ} → Owns bytes held levels → sound bytes ≡ soundAt (loaded held levels) bytes
 owned-sound {bytes} {held} {levels} k =
-    ap (λ (t : Bool). both t (soundAt (decode bytes .speeds) bytes)) (k .fine .good) ∙ ap (λ (l : List ℕ). soundAt l bytes) (sym (k .is))
+    ap (λ (t : Bool). both t (soundAt (decode bytes .speeds) bytes)) (k .good) ∙ ap (λ (l : List ℕ). soundAt l bytes) (sym (k .is))
 
 -- a table on its way into a block: the count and the first k speeds are stored
 pub record StoredTo (held : List ℕ) (levels : ℕ) (found image : List ℕ) (k : ℕ) : Type 0 where

@@ -120,7 +120,7 @@ module _ (speeds : List ℕ) (s : State) (keys : List ℕ) (keyed : Keyed (timin
       ap (λ (k : ℕ). listTo k (λ i. renewedIf (dueAt keys (s .clock + d) i) (getD (before .entries) i noEntry))) n
       ∙ listTo-same (τ .count) (λ i. renewedIf (dueAt keys (s .clock + d) i) (getD (before .entries) i noEntry)) (entryAfter speeds τ s d finished)
       (λ i h. entry-moved i (omega (arith, length-planIn s))) in
-      λ k. record { clock = s .clock + d; task = s .task; level = s .level; entries = e k }
+      λ k. record { clock = s .clock + d; task = s .task; level = s .level; entries = e k; speeds = s .speeds }
 
 -- what is known where a block is moved on: the order that stands, and the count of the tasks
 pub record Moving (held : List ℕ) (levels : ℕ) (bytes keys : List ℕ) (highest d : ℕ) (c : Choice) (count : ℕ) : Type 0 where
