@@ -10,7 +10,7 @@ use borrow.Author.Tests.{eq-eqb, ne-eqb}
 use lib.Dec.{eqb}
 use lib.ListN.{length, getD, drop}
 use lib.Seq.{drop-length}
-use Rattle.arith.specs.Choice.{pick}
+use Rattle.arith.specs.Choice.{pick, both}
 use Rattle.plan.specs.declared.Task.{Task}
 use Rattle.plan.specs.Times.{timeOf}
 use Rattle.plan.specs.Levels.{Rising, speedOf, nominal}
@@ -31,15 +31,19 @@ use Rattle.reclaiming.specs.Passes.{arrivesAt, movedState, choosesAnew, passedS
 use Rattle.reclaiming.specs.Questions.{largestClock, soundAt, stateSound, passQuestions}
 use Rattle.reclaiming.specs.Calls.{repliedBy, passNumber, passOrder, passReply, passBytes}
 use Rattle.state.specs.Code.{Holds, entryIn, timingIn}
+use Rattle.levels.specs.Code.{loaded}
+use Rattle.tables.specs.declared.OwnTable.{OwnTable}
+use Rattle.tables.specs.Code.{ownTable, tableBy, Owns}
+use Rattle.tables.proofs.TableLaws.{unowned}
 use Rattle.urgency.specs.Code.{keyOf, noKey, dueAt, Keyed}
 use Rattle.orders.specs.Code.{choiceOf, chosenIn, chosenReply, holdBy, orderOf, Enough}
 use Rattle.soundness.specs.Code.{Good, testedBy}
 use Rattle.ticks.specs.Code.{Stepping, renewedKeys}
 use Rattle.reclaiming.proofs.Fine.{FineEntries, Accepted}
-use Rattle.reclaiming.proofs.StateCodec.{Storable, StorableEntry, decode-encode, length-encode}
+use Rattle.reclaiming.proofs.StateCodec.{Storable, StorableEntry, StorableTable, decode-encode, length-encode}
 use Rattle.reclaiming.proofs.Soundness.{planIn-at, length-planIn, pass-accepted, fine-storable, fine-small, sound-state}
 use Rattle.reclaiming.proofs.NextArrival.{next-arrives, before-next, next-on}
-use Rattle.reclaiming.proofs.PassedStates.{choose-clock, choose-entries, passed-entries}
+use Rattle.reclaiming.proofs.PassedStates.{choose-clock, choose-entries, choose-speeds, passed-entries}
 use Rattle.reclaiming.proofs.PassSound.{fine-chosen, moved-fine}
 use Rattle.state.proofs.BlockLaws.{count-in, entry-at}
 use Rattle.urgency.proofs.KeyLaws.{key-below, keyed-after, keyed-on}
@@ -90,6 +94,7 @@ module _ {speeds bytes : List ℕ} {next d : ℕ} (k : Reaching speeds bytes nex
 pub record Letting (speeds : List ℕ) (s : State) (d : ℕ) (finished : Bool) : Type 0 where
   pub rising : Rising speeds
   pub few : length speeds ≤ 256
+  pub stored : StorableTable (s .speeds)
   pub ok : stateSound speeds s ≡ true
   pub clear : firstNo (passQuestions speeds s d finished) ≡ 0
 
@@ -122,7 +127,8 @@ module _ {speeds : List ℕ} {s : State} {d : ℕ} {finished : Bool} (k : Lettin
       let clock : chooseOrder speeds τ moved .clock ≡ s .clock + d = choose-clock speeds τ moved in
       let new : Storable (chooseOrder speeds τ moved) =
       fine-storable speeds (planIn s) (chooseOrder speeds τ moved) plan (k .rising) (k .few)
-      (fine-chosen speeds (planIn s) (plan .tasks .admitted) moved moved-facts) (omega (arith, clock, late)) in
+      (fine-chosen speeds (planIn s) (plan .tasks .admitted) moved moved-facts) (omega (arith, clock, late))
+      (subst StorableTable (sym (choose-speeds speeds τ moved)) (k .stored)) in
       let same : chooseOrder speeds τ moved .entries ≡ moved .entries = choose-entries speeds τ moved in
       record {
         clock = omega (arith, late);
@@ -130,6 +136,7 @@ module _ {speeds : List ℕ} {s : State} {d : ℕ} {finished : Bool} (k : Lettin
         level = old .1;
         count = omega (arith, moved-count, entries-few speeds (k .rising) s (k .ok));
         entries = subst (λ (l : List Entry). (i : ℕ) → i < length l → StorableEntry (getD l i noEntry)) same (new .entries);
+        table = k .stored;
       }
 
   -- at the nominal level every job can be done in its ticks
@@ -156,6 +163,7 @@ module _ {speeds : List ℕ} {s : State} {d : ℕ} {finished : Bool} (k : Lettin
 pub record Passing (speeds bytes keys : List ℕ) (highest next d : ℕ) (finished : Bool) (c : Choice) : Type 0 where
   pub rising : Rising speeds
   pub few : length speeds ≤ 256
+  pub stored : StorableTable (decode bytes .speeds)
   pub good : Good speeds bytes keys highest
   pub order : c ≡ choiceOf speeds (decode bytes)
   pub arrival : next ≡ nextArrival (timingIn speeds bytes) (decode bytes .clock)
@@ -163,7 +171,7 @@ pub record Passing (speeds bytes keys : List ℕ) (highest next d : ℕ) (finish
 
 module _ {speeds bytes keys : List ℕ} {highest next d : ℕ} {finished : Bool} {c : Choice} (k : Passing speeds bytes keys highest next d finished c) where
   letting : Letting speeds (decode bytes) d finished
-  letting = record { rising = k .rising; few = k .few; ok = sound-state speeds bytes (k .good .sound); clear = k .clear }
+  letting = record { rising = k .rising; few = k .few; stored = k .stored; ok = sound-state speeds bytes (k .good .sound); clear = k .clear }
 
   pub stepping : Stepping speeds bytes keys highest d
   stepping = record {
@@ -336,35 +344,37 @@ stored-all : (bytes buffer : List ℕ) → length bytes ≡ length buffer → by
 stored-all bytes buffer e =
     sym (append-nil bytes) ∙ ap (λ (l : List ℕ). bytes ++ l) (sym (ap (λ (k : ℕ). drop k buffer) e ∙ drop-length buffer))
 
--- what a pass answers and leaves
-abbrev pub Passes : List ℕ → List ℕ → ℕ → Bool → Reply → List ℕ → Type 0
-Passes speeds bytes d finished r m = (r ≡ passReply speeds bytes d finished) × (m ≡ passBytes speeds bytes d finished)
-
--- the number of a pass, by whether its block is sound
+-- the number of a pass at a table of speeds, by whether its block is sound there
 module _ (speeds bytes : List ℕ) (d : ℕ) (finished : Bool) where
   abbrev numbered : Bool → ℕ
   numbered b = pick b (firstNo (passQuestions speeds (decode bytes) d finished)) 10
 
-  pub number-10 : (r : Tested) → r ≡ testedBy speeds (soundAt speeds bytes) bytes → r .sound ≡ false → 10 ≡ passNumber speeds bytes d finished
-  number-10 r e u = ap numbered (sym u ∙ tested-soundAt speeds bytes r e)
+  pub number-10 : (r : Tested) → r ≡ testedBy speeds (soundAt speeds bytes) bytes → r .sound ≡ false → 10 ≡ numbered (soundAt speeds bytes)
+  number-10 r e u = ap numbered (sym u ∙ tested-sound speeds bytes r e)
 
   pub number-is :
       soundAt speeds bytes ≡ true →
       (n : ℕ) →
       n ≡ firstNo (passQuestions speeds (decode bytes) d finished) →
-      n ≡ passNumber speeds bytes d finished
+      n ≡ numbered (soundAt speeds bytes)
   number-is ok n e = e ∙ ap numbered (sym ok)
 
   -- the bytes after a pass
   abbrev after : List ℕ
   after = encode (passedState speeds (timingIn speeds bytes) (decode bytes) d finished)
 
+  -- what a pass answers and leaves at that table
+  abbrev pub Passes : Reply → List ℕ → Type 0
+  Passes r m =
+      (r ≡ repliedBy (numbered (soundAt speeds bytes)) (passOrder speeds (decode bytes) d finished))
+      × (m ≡ storedBy (numbered (soundAt speeds bytes)) after bytes)
+
   -- a refusal, and what it leaves
   pub refused :
       (n : ℕ) →
-      n ≡ passNumber speeds bytes d finished →
+      n ≡ numbered (soundAt speeds bytes) →
       (n ≡ 0 → ⊥) →
-      Passes speeds bytes d finished (reply.Refused n) bytes
+      Passes (reply.Refused n) bytes
   refused n e h = (
     replied-no n (passOrder speeds (decode bytes) d finished) h ∙ ap (λ (k : ℕ). repliedBy k (passOrder speeds (decode bytes) d finished)) e,
     stored-no n after bytes h ∙ ap (λ (k : ℕ). storedBy k after bytes) e,
@@ -380,9 +390,42 @@ pub accepts :
     Passes speeds bytes d finished r l
 accepts {speeds} {bytes} {keys} {highest} {next} {d} {finished} k r l a b =
     let ok : soundAt speeds bytes ≡ true = k .good .sound in
-    let none : 0 ≡ passNumber speeds bytes d finished = number-is speeds bytes d finished ok 0 (sym (k .clear)) in
+    let none : 0 ≡ numbered speeds bytes d finished (soundAt speeds bytes) = number-is speeds bytes d finished ok 0 (sym (k .clear)) in
     let same : length (after speeds bytes d finished) ≡ length bytes =
     length-encode (passedState speeds (timingIn speeds bytes) (decode bytes) d finished) (passed-few (letting k)) ∙ sym (sound-size speeds (k .rising) bytes ok) in (
       a ∙ ap (λ (n : ℕ). repliedBy n (passOrder speeds (decode bytes) d finished)) none,
       b ∙ stored-all (after speeds bytes d finished) bytes same ∙ ap (λ (n : ℕ). storedBy n (after speeds bytes d finished) bytes) none,
+    )
+
+-- what a pass answers and leaves, by the call's own definitions
+abbrev pub Answers : List ℕ → ℕ → Bool → Reply → List ℕ → Type 0
+Answers bytes d finished r m = (r ≡ passReply bytes d finished) × (m ≡ passBytes bytes d finished)
+
+-- at the table that its block owns it is that of the call
+pub over-own :
+    {bytes held : List ℕ} {levels : ℕ} →
+    Owns bytes held levels →
+    (d : ℕ) (finished : Bool) (r : Reply) (m : List ℕ) →
+    Passes (loaded held levels) bytes d finished r m →
+    Answers bytes d finished r m
+over-own {bytes} {held} {levels} k d finished r m h =
+    let speeds : List ℕ = decode bytes .speeds in
+    let own : Passes speeds bytes d finished r m = subst (λ (l : List ℕ). Passes l bytes d finished r m) (k .is) h in
+    let same : numbered speeds bytes d finished (soundAt speeds bytes) ≡ passNumber bytes d finished =
+    sym (ap (λ (t : Bool). numbered speeds bytes d finished (both t (soundAt speeds bytes))) (k .good)) in (
+      own .0 ∙ ap (λ (n : ℕ). repliedBy n (passOrder speeds (decode bytes) d finished)) same,
+      own .1 ∙ ap (λ (n : ℕ). storedBy n (after speeds bytes d finished) bytes) same,
+    )
+
+-- a block without a table is answered with 10
+pub no-table :
+    (bytes : List ℕ) (d : ℕ) (finished : Bool) {t : OwnTable} →
+    t ≡ tableBy (ownTable bytes) bytes →
+    t .levels ≡ 0 →
+    Answers bytes d finished (reply.Refused 10) bytes
+no-table bytes d finished e none =
+    let speeds : List ℕ = decode bytes .speeds in
+    let ten : 10 ≡ passNumber bytes d finished = sym (ap (numbered speeds bytes d finished) (unowned bytes e none)) in (
+      ap (λ (n : ℕ). repliedBy n (passOrder speeds (decode bytes) d finished)) ten,
+      ap (λ (n : ℕ). storedBy n (after speeds bytes d finished) bytes) ten,
     )

@@ -12,21 +12,22 @@ use soundness::test_block;
 use state::PLACES;
 use state::clock_at;
 use state::count_at;
+use tables::own_table;
 use ticks::move_on;
 use ticks::renewed;
 use urgency::next_arrival;
 ghost use mathlib.Core.Path.{_≡_};
 ghost use mathlib.Core.Bool.{true};
 ghost use Prim.Native.Nat.{_≤_};
-ghost use Rattle.plan.specs.Levels.{baseSpeeds};
 ghost use Rattle.levels.specs.Code.{loaded, Table};
 ghost use Rattle.arith.specs.Asking.{firstNo};
 ghost use Rattle.reclaiming.specs.StateBlock.{encode, decode};
 ghost use Rattle.reclaiming.specs.Orders.{nextArrival};
 ghost use Rattle.reclaiming.specs.Passes.{choosesAnew, passedState};
-ghost use Rattle.reclaiming.specs.Questions.{sound, passQuestions};
+ghost use Rattle.reclaiming.specs.Questions.{soundAt, passQuestions};
 ghost use Rattle.reclaiming.specs.Calls.{passOrder, passReply, passBytes};
 ghost use Rattle.state.specs.Code.{timingIn};
+ghost use Rattle.tables.specs.Code.{Owns};
 ghost use Rattle.orders.specs.Code.{choiceOf};
 ghost use Rattle.soundness.specs.Code.{Good};
 
@@ -39,7 +40,7 @@ fn chooses_anew(
     d: u32,
     finished: bool,
 ) -> bool
-    requires { ⌜ Table (now speeds) levels × (sound (loaded (now speeds) levels) (now block) ≡ true) × (1 ≤ d) × (d ≤ next) ⌝ }
+    requires { ⌜ Table (now speeds) levels × (soundAt (loaded (now speeds) levels) (now block) ≡ true) × (1 ≤ d) × (d ≤ next) ⌝ }
     requires { ⌜ next ≡ nextArrival (timingIn (loaded (now speeds) levels) (now block)) (decode (now block) .clock) ⌝ }
     ensures { λ r. ⌜ r ≡ choosesAnew (timingIn (loaded (now (speeds .entry)) levels) (now (block .entry))) (decode (now (block .entry))) d finished ⌝ }
 {
@@ -61,7 +62,7 @@ fn passed(
     d: u32,
     finished: bool,
 ) -> Reply
-    requires { ⌜ Table (now speeds) levels × Good (loaded (now speeds) levels) (now block) (now keys) highest ⌝ }
+    requires { ⌜ Owns (now block) (now speeds) levels × Good (loaded (now speeds) levels) (now block) (now keys) highest ⌝ }
     requires { ⌜ c ≡ choiceOf (loaded (now speeds) levels) (decode (now block)) ⌝ }
     requires { ⌜ next ≡ nextArrival (timingIn (loaded (now speeds) levels) (now block)) (decode (now block) .clock) ⌝ }
     requires { ⌜ firstNo (passQuestions (loaded (now speeds) levels) (decode (now block)) d finished) ≡ 0 ⌝ }
@@ -82,27 +83,33 @@ fn passed(
     choose(speeds, levels, block, &u, highest)
 }
 
-// A pass over the state in a block. Refused, it leaves every byte; accepted, the block holds the state after it.
-pub fn pass(state: &mut [u8], d: u32, finished: bool) -> Reply
-    ensures { λ r. ⌜ r ≡ passReply baseSpeeds (now (state .entry)) d finished ⌝ }
-    ensures { λ _. ⌜ now (state .exit) ≡ passBytes baseSpeeds (now (state .entry)) d finished ⌝ }
+// A pass over the state in a block, at the table that it owns.
+fn pass_over(
+    speeds: &[u32; 8],
+    levels: usize,
+    state: &mut [u8],
+    d: u32,
+    finished: bool,
+) -> Reply
+    requires { ⌜ Owns (now state) (now speeds) levels ⌝ }
+    ensures { λ r. ⌜ r ≡ passReply (now (state .entry)) d finished ⌝ }
+    ensures { λ _. ⌜ now (state .exit) ≡ passBytes (now (state .entry)) d finished ⌝ }
 {
-    let speeds = levels::base();
-    let b = test_block(&speeds, levels::LEVELS, state);
+    let b = test_block(speeds, levels, state);
     if !b.sound {
         return Reply::Refused(10);
     }
     let keys = b.keys;
     let clock = clock_at(state);
     let next = next_arrival(&keys, count_at(state), clock);
-    let c = standing(&speeds, levels::LEVELS, state);
+    let c = standing(speeds, levels, state);
     let n = pass_number(Clock::new(clock), c, next, d, finished);
     if n != 0 {
         return Reply::Refused(n);
     }
     passed(
-        &speeds,
-        levels::LEVELS,
+        speeds,
+        levels,
         state,
         &keys,
         c,
@@ -111,4 +118,17 @@ pub fn pass(state: &mut [u8], d: u32, finished: bool) -> Reply
         d,
         finished,
     )
+}
+
+// A pass over the state in a block. Refused, it leaves every byte; accepted, the block holds the state after it.
+pub fn pass(state: &mut [u8], d: u32, finished: bool) -> Reply
+    ensures { λ r. ⌜ r ≡ passReply (now (state .entry)) d finished ⌝ }
+    ensures { λ _. ⌜ now (state .exit) ≡ passBytes (now (state .entry)) d finished ⌝ }
+{
+    let t = own_table(state);
+    if t.levels == 0 {
+        return Reply::Refused(10);
+    }
+    let speeds = t.speeds;
+    pass_over(&speeds, t.levels, state, d, finished)
 }

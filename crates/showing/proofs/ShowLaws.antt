@@ -114,7 +114,7 @@ pub show-unsound :
     LeftByShow speeds bytes buffer (written.Refused 10) buffer
 show-unsound speeds bytes buffer t e h =
     leaves-refused (showNumber speeds bytes (length buffer)) 10 (shownBytes speeds bytes) buffer (omega arith)
-    (ap (showNo speeds bytes buffer) (sym (tested-soundAt speeds bytes t e) ∙ h))
+    (ap (showNo speeds bytes buffer) (sym (tested-sound speeds bytes t e) ∙ h))
 
 -- a sound block with its count and its ready tasks
 pub record Showing (speeds bytes keys : List ℕ) (highest n : ℕ) (q : ReadyList) : Type 0 where

@@ -27,7 +27,8 @@ use Rattle.reclaiming.specs.Fields.{Field, width, valueIn, fieldsBytes, fieldAt
 use Rattle.reclaiming.specs.StateBlock.{State, levelPlaces, speedRow, tailFields, speedField, tailAt, stateLength, levelCount, speedIn, decode, laidOut}
 use Rattle.reclaiming.specs.Questions.{inTime, stateSound, soundAt, sound}
 use Rattle.reclaiming.proofs.FieldLaws.{store-next}
-use Rattle.reclaiming.proofs.StateCodec.{speed-row, laid-length}
+use Rattle.reclaiming.proofs.StateCodec.{StorableTable, speed-row, laid-length}
+use Rattle.reclaiming.proofs.Soundness.{fine-stored}
 use Rattle.state.proofs.TailLaws.{levels-in, speed-offset}
 use Rattle.tables.specs.declared.OwnTable.{OwnTable}
 use Rattle.tables.specs.Code.{ownTable, tableBy, Owns, tableOnly, tableBytes}
@@ -135,7 +136,11 @@ unowned bytes {t} e none = by (ownTable bytes) refl e
 pub owned-fine : {bytes held : List ℕ} {levels : ℕ} → Owns bytes held levels → FineTable (loaded held levels)
 owned-fine {bytes} {held} {levels} k = fine-table (loaded held levels) (ap tableGood (k .is) ∙ k .good)
 
--- and the soundness of the block is that over its table
+-- and it fits its block
+pub owned-stored : {bytes held : List ℕ} {levels : ℕ} → Owns bytes held levels → StorableTable (decode bytes .speeds)
+owned-stored {bytes} k = fine-stored (fine-table (decode bytes .speeds) (k .good))
+
+-- the soundness of the block is that over its table
 pub owned-sound : {bytes held : List ℕ} {levels : ℕ} → Owns bytes held levels → sound bytes ≡ soundAt (loaded held levels) bytes
 owned-sound {bytes} {held} {levels} k =
     ap (λ (t : Bool). both t (soundAt (decode bytes .speeds) bytes)) (k .good) ∙ ap (λ (l : List ℕ). soundAt l bytes) (sym (k .is))

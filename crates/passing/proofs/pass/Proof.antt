@@ -1,224 +1,37 @@
--- `pass` meets its contract: the block is not sound, a question is answered no, or the pass is made.
+-- `pass` meets its contract: the block has no table of its own, or the pass is made at it.
 -- Assumes nothing.
-use Prim.Native.Nat.{ℕ}
-use mathlib.Core.Path.{_≡_, sym, subst, ap, _∙_}
-use mathlib.Core.List.{List}
-use native.Mathlib.Omega.{arith}
 use borrow.Author.Needs.{needs}
-use borrow.Author.Tests.{not-true, not-false}
-use Rattle.plan.specs.Levels.{Rising, baseSpeeds}
-use Rattle.levels.specs.Code.{loaded}
-use Rattle.levels.proofs.Tables.{levels-are, loaded-base}
-use Rattle.arith.specs.Asking.{firstNo}
-use Rattle.reclaiming.specs.StateBlock.{decode}
-use Rattle.reclaiming.specs.Orders.{nextArrival}
-use Rattle.reclaiming.specs.Questions.{passQuestions}
-use Rattle.state.specs.Code.{timingIn}
-use Rattle.orders.specs.declared.Choice.{Choice}
-use Rattle.soundness.specs.declared.Tested.{Tested}
-use Rattle.soundness.specs.Code.{Good}
-use Rattle.soundness.proofs.SoundFacts.{runnable, count-some}
-use Rattle.reclaiming.proofs.Soundness.{sound-state, sound-clock}
-use Rattle.reclaiming.specs.declared.Reply.{Reply}
-use Rattle.orders.specs.Code.{Runnable}
-use Rattle.soundness.proofs.SoundLaws.{tested-good}
-use Rattle.orders.proofs.OrderLaws.{Timed, choose-next, choose-when}
-use Rattle.pass_questions.specs.Code.{timeQuestions}
-use Rattle.pass_questions.proofs.QuestionSteps.{asked-is}
-use Rattle.passing.proofs.PassLaws.{Passing, Passes, number-10, number-is, refused, accepts}
+use Rattle.tables.proofs.TableLaws.{owns}
+use Rattle.passing.proofs.PassLaws.{no-table}
 use Rattle.passing.proofs.pass.Statement.{statement}
 use Rattle.passing.proofs.pass.Tie as tie
 
--- the places that others are reached from
-abbrev made : tie.Else1 → tie.After-base
-made c = c .before .before .before .before .before
+abbrev begun : tie.After-own-table → tie.Start
+begun c = c .before .before .before
 
-abbrev begun : tie.Else1 → tie.Start
-begun c = made c .before .before
-
-abbrev sound : tie.After-count-at → tie.Else1
-sound c = c .before .before .before .before .before .before
-
-abbrev arrival : tie.After-pass-number → tie.After-next-arrival
-arrival c = c .before .before .before .before .before
-
-abbrev tested : tie.After-pass-number → tie.Else1
-tested c = sound (arrival c .before)
-
-abbrev start : tie.After-pass-number → tie.Start
-start c = begun (tested c)
-
--- the speeds of 01's table, as they are handed over
-abbrev table : tie.After-base → List ℕ
-table c = loaded (c .base .result) 8
-
--- what is answered and left over them is so over 01's
-over-base :
-    (c : tie.After-base) {r : Reply} {m : List ℕ} →
-    let s : tie.Start = c .before .before in
-    Passes (table c) (s .args .state .now) (s .args .d) (s .args .finished) r m →
-    Passes baseSpeeds (s .args .state .now) (s .args .d) (s .args .finished) r m
-over-base c {r} {m} l =
-    let s : tie.Start = c .before .before in
-    subst (λ (x : List ℕ). Passes x (s .args .state .now) (s .args .d) (s .args .finished) r m) (loaded-base (c .base .ensures .0)) l
-
--- past the first test the block is sound
-abbrev bytes : tie.Else1 → List ℕ
-bytes c = begun c .args .state .now
-
-abbrev speeds : tie.Else1 → List ℕ
-speeds c = table (made c)
-
-rising : (c : tie.Else1) → Rising (speeds c)
-rising c = made c .base .ensures .1 .rising
-
-abbrev found : tie.Else1 → Tested
-found c = c .before .before .test-block .result
-
-good : (c : tie.Else1) → Good (speeds c) (bytes c) (found c .keys) (found c .nominal)
-good c =
-    tested-good (speeds c) (bytes c) (found c) (c .before .before .test-block .ensures) (rising c)
-    (not-false (found c .sound) (c .if1 .left))
-
-timed :
-    (c : tie.After-count-at) →
-    let e : tie.Else1 = sound c in
-    Timed (speeds e) (bytes e) (found e .keys) (c .count-at .result) (c .before .before .before .clock-at .result)
-timed c = record {
-  holds = good (sound c) .holds;
-  some = count-some (speeds (sound c)) (rising (sound c)) (bytes (sound c)) (good (sound c) .sound);
-  keyed = good (sound c) .keyed;
-  same = c .count-at .ensures;
-  clock-is = c .before .before .before .clock-at .ensures;
-}
-
--- the ticks to the next arrival, and the first no of the questions
-next :
-    (c : tie.After-next-arrival) →
-    let e : tie.Else1 = sound (c .before) in
-    c .next-arrival .result ≡ nextArrival (timingIn (speeds e) (bytes e)) (decode (bytes e) .clock)
-next c = choose-when (timed (c .before)) (c .next-arrival .result) (c .next-arrival .ensures)
-
-number :
-    (c : tie.After-pass-number) →
-    let e : tie.Else1 = tested c in
-    c .pass-number .result ≡ firstNo (passQuestions (speeds e) (decode (bytes e)) (start c .args .d) (start c .args .finished))
-number c =
-    let e : tie.Else1 = tested c in
-    let s : tie.Start = start c in
-    let ticks : ℕ = c .before .new .result .ticks in
-    let until : ℕ = arrival c .next-arrival .result in
-    c .pass-number .ensures
-    ∙ ap (λ (x : Choice). firstNo (timeQuestions ticks x until (s .args .d) (s .args .finished))) (c .before .before .standing .ensures)
-    ∙ asked-is (speeds e) (decode (bytes e)) ticks until (s .args .d) (s .args .finished)
-    (c .before .new .ensures ∙ timed (arrival c .before) .clock-is) (next (arrival c))
-
-passing :
-    (c : tie.Else2) →
-    let e : tie.Else1 = tested (c .before) in
-    let s : tie.Start = start (c .before) in
-    Passing (speeds e) (bytes e) (found e .keys) (found e .nominal) (arrival (c .before) .next-arrival .result) (s .args .d) (s .args .finished)
-    (c .before .before .before .standing .result)
-passing c = record {
-  rising = rising (tested (c .before));
-  few = omega (arith, levels-are (made (tested (c .before)) .base .ensures .1));
-  good = good (tested (c .before));
-  order = c .before .before .before .standing .ensures;
-  arrival = next (arrival (c .before));
-  clear = sym (number (c .before)) ∙ c .if2 .left;
-}
-
-base-requires : tie.Need-base-requires
-base-requires c κs = search needs
-
-test-block-requires : tie.Need-test-block-requires
-test-block-requires c κs = c .before .before .base .ensures .1
+own-table-requires : tie.Need-own-table-requires
+own-table-requires c κs = search needs
 
 same-length : tie.Need-same-length
 same-length c = search needs
 
 returns : tie.Need-returns
 returns c =
-    let b : tie.After-base = c .before .before .before .before .before in
-    let s : tie.Start = b .before .before in
-    let r : Tested = c .before .before .test-block .result in
-    over-base b
-    (refused (table b) (s .args .state .now) (s .args .d) (s .args .finished) 10
-    (number-10 (table b) (s .args .state .now) (s .args .d) (s .args .finished) r (c .before .before .test-block .ensures)
-    (not-true (r .sound) (c .if1 .taken)))
-    (λ e. omega arith))
+    let t : tie.After-own-table = c .before .before in
+    let s : tie.Start = begun t in
+    no-table (s .args .state .now) (s .args .d) (s .args .finished) (t .own-table .ensures) (c .if1 .taken)
 
-clock-at-requires : tie.Need-clock-at-requires
-clock-at-requires c κs = good (c .before .before) .holds .size
-
-count-at-requires : tie.Need-count-at-requires
-count-at-requires c κs = good (c .before .before .before .before .before) .holds
-
-next-arrival-requires : tie.Need-next-arrival-requires
-next-arrival-requires c κs = choose-next (timed c)
-
-standing-requires : tie.Need-standing-requires
-standing-requires c κs =
-    let e : tie.Else1 = sound (c .before .before .before) in
-    let table-is = made e .base .ensures .1 in (
-      table-is,
-      good e .holds,
-      subst (λ (n : ℕ). Runnable n (decode (bytes e))) (levels-are table-is)
-          (runnable (speeds e) (rising e) (decode (bytes e)) (sound-state (speeds e) (bytes e) (good e .sound))),
-    )
-
-new-requires : tie.Need-new-requires
-new-requires c κs = search needs
-
-pass-number-requires : tie.Need-pass-number-requires
-pass-number-requires c κs =
-    let e : tie.Else1 = sound (c .before .before .before .before .before) in
-    omega (arith, c .new .ensures, timed (c .before .before .before .before .before) .clock-is, sound-clock (speeds e) (bytes e) (good e .sound))
+pass-over-requires : tie.Need-pass-over-requires
+pass-over-requires c κs =
+    let e : tie.Else1 = c .before .before .before in
+    let t : tie.After-own-table = e .before .before in
+    owns (begun t .args .state .now) (t .own-table .ensures) (e .if1 .left)
 
 same-length-2 : tie.Need-same-length-2
 same-length-2 c = search needs
 
 returns-2 : tie.Need-returns-2
-returns-2 c =
-    let s : tie.Start = start (c .before) in
-    let e : tie.Else1 = tested (c .before) in
-    over-base (made e)
-    (refused (speeds e) (s .args .state .now) (s .args .d) (s .args .finished) (c .before .pass-number .result)
-    (number-is (speeds e) (s .args .state .now) (s .args .d) (s .args .finished) (good e .sound) (c .before .pass-number .result) (number (c .before)))
-    (c .if2 .taken))
-
-passed-requires : tie.Need-passed-requires
-passed-requires c κs =
-    let e : tie.Else2 = c .before .before .before in
-    let k = passing e in
-    ((made (tested (e .before)) .base .ensures .1, k .good), (k .order, (k .arrival, k .clear)))
-
-same-length-3 : tie.Need-same-length-3
-same-length-3 c = search needs
-
-returns-3 : tie.Need-returns-3
-returns-3 c =
-    let e : tie.Else2 = c .before .before .before .before .before .before in
-    over-base (made (tested (e .before)))
-    (accepts (passing e) (c .before .before .passed .result) (c .before .before .passed .last .1 .1 .0)
-    (c .before .before .passed .ensures .0) (c .before .before .passed .ensures .1))
+returns-2 c = search needs
 
 pub pass-spec : {M : Type 1} → statement M
-pass-spec =
-    tie.close
-    (tie.spec
-    base-requires
-    test-block-requires
-    same-length
-    returns
-    clock-at-requires
-    count-at-requires
-    next-arrival-requires
-    standing-requires
-    new-requires
-    pass-number-requires
-    same-length-2
-    returns-2
-    passed-requires
-    same-length-3
-    returns-3)
+pass-spec = tie.close (tie.spec own-table-requires same-length returns pass-over-requires same-length-2 returns-2)

@@ -8,7 +8,8 @@ use native.Mathlib.Omega.{arith}
 use borrow.Author.Needs.{needs}
 use borrow.Author.Tests.{not-true, not-false}
 use Rattle.levels.specs.Code.{loaded}
-use Rattle.levels.proofs.Tables.{levels-are}
+use Rattle.plan.proofs.LevelBlockLaws.{few-levels}
+use Rattle.tables.proofs.TableLaws.{owned-fine, owned-stored}
 use Rattle.reclaiming.specs.StateBlock.{decode}
 use Rattle.reclaiming.specs.Passes.{choosesAnew}
 use Rattle.state.specs.Code.{timingIn}
@@ -28,8 +29,9 @@ table c = loaded (c .args .speeds .now) (c .args .levels)
 
 passing : (c : tie.Start) → Passing (table c) (block c) (keys c) (c .args .highest) (c .args .next) (c .args .d) (c .args .finished) (c .args .c)
 passing c = record {
-  rising = c .pre .0 .0 .rising;
-  few = omega (arith, levels-are (c .pre .0 .0), c .pre .0 .0 .few);
+  rising = c .pre .0 .0 .table .rising;
+  few = few-levels (owned-fine (c .pre .0 .0));
+  stored = owned-stored (c .pre .0 .0);
   good = c .pre .0 .1;
   order = c .pre .1 .0;
   arrival = c .pre .1 .1 .0;
@@ -65,13 +67,13 @@ chooses-anew-requires : tie.Need-chooses-anew-requires
 chooses-anew-requires c κs =
     let s : tie.Start = c .before .before in
     let k = reaching (passing s) in
-    ((s .pre .0 .0, k .ok, k .some, k .within), k .arrival)
+    ((s .pre .0 .0 .table, k .ok, k .some, k .within), k .arrival)
 
 move-on-requires : tie.Need-move-on-requires
 move-on-requires c κs =
     let s : tie.Start = c .before .before .before .before in
     let k = passing s in
-    ((s .pre .0 .0, stepping k), (k .order, k .arrival))
+    ((s .pre .0 .0 .table, stepping k), (k .order, k .arrival))
 
 hold-of-requires : tie.Need-hold-of-requires
 hold-of-requires c κs = search needs
@@ -100,7 +102,7 @@ choose-until-requires : tie.Need-choose-until-requires
 choose-until-requires c κs =
     let early : tie.Then2 = c .before in
     let k = moved (early .before .before) in (
-      (start (early .before .before) .pre .0 .0, after-holds k, after-again k),
+      (start (early .before .before) .pre .0 .0 .table, after-holds k, after-again k),
       (after-enough k, (after-kept k (early .if2 .taken), after-next k (early .if2 .taken))),
     )
 
@@ -136,7 +138,7 @@ choose-requires c κs =
     let counted : tie.After-count-at = clocked .before in
     let m : tie.After-slice-known2 = counted .before .before .before .before in
     let k = moved m in (
-      (start m .pre .0 .0, after-holds k, after-some k, after-again k),
+      (start m .pre .0 .0 .table, after-holds k, after-some k, after-again k),
       (
         after-enough k,
         after-keyed k (counted .count-at .result) (clocked .clock-at .result) (counted .count-at .ensures) (clocked .clock-at .ensures)
