@@ -1,5 +1,5 @@
 /* A firmware's main loop over the dispatcher, with the hardware played by a few functions: a timer,
- * a processor with six levels, and jobs that mostly end before their worst case.
+ * a processor with seven levels, and jobs that mostly end before their worst case.
  *
  * It packs the speeds of its board and the bench plan, starts the plan, does what the orders say
  * through two hyperperiods, and prints a listing like the bench program's, with the level block in
@@ -10,10 +10,10 @@
 #include <stdio.h>
 #include <stdlib.h>
 
-enum { TASKS = 3, LEVELS = 6, UNTIL = 60 };
+enum { TASKS = 3, LEVELS = 7, UNTIL = 60 };
 
 /* The units of work that the processor of this board does in a tick, level by level, as measured. */
-static const uint32_t speeds[LEVELS] = {13, 27, 41, 55, 83, 111};
+static const uint32_t speeds[LEVELS] = {13, 27, 41, 55, 69, 83, 111};
 
 /* The plan: a period and a worst case for each task. */
 static const uint32_t plan[2 * TASKS] = {10, 400, 10, 400, 30, 600};
