@@ -1,15 +1,19 @@
 /* A firmware's main loop over the dispatcher, with the hardware played by a few functions: a timer,
- * a processor with eight levels, and jobs that mostly end before their worst case.
+ * a processor with seven levels, and jobs that mostly end before their worst case.
  *
- * It packs the bench plan, starts it, does what the orders say through two hyperperiods, and prints a
- * listing like the bench program's, with the queue at the end. */
+ * It packs the speeds of its board and the bench plan, starts the plan, does what the orders say
+ * through two hyperperiods, and prints a listing like the bench program's, with the level block in
+ * front and the queue at the end. */
 
 #include "kilmstra.h"
 
 #include <stdio.h>
 #include <stdlib.h>
 
-enum { TASKS = 3, UNTIL = 60 };
+enum { TASKS = 3, LEVELS = 7, UNTIL = 60 };
+
+/* The units of work that the processor of this board does in a tick, level by level, as measured. */
+static const uint32_t speeds[LEVELS] = {13, 27, 41, 55, 69, 83, 111};
 
 /* The plan: a period and a worst case for each task. */
 static const uint32_t plan[2 * TASKS] = {10, 400, 10, 400, 30, 600};
@@ -18,8 +22,6 @@ static const uint32_t plan[2 * TASKS] = {10, 400, 10, 400, 30, 600};
 static uint8_t state[KILMSTRA_STATE_BYTES];
 
 /* The hardware. */
-
-static const uint32_t speeds[KILMSTRA_LEVELS] = {10, 20, 30, 40, 50, 60, 80, 100};
 
 static uint32_t now;
 
@@ -83,15 +85,51 @@ static void print_order(uint64_t order)
     }
 }
 
+/* Puts bits at the end of a block that was zero, the most significant first. */
+static void put_bits(uint8_t *block, size_t *bits, uint32_t number, int width)
+{
+    for (int place = width - 1; place >= 0; place--) {
+        if ((number >> place) & 1) {
+            block[*bits / 8] |= (uint8_t)(0x80 >> (*bits % 8));
+        }
+        *bits += 1;
+    }
+}
+
+/* Packs the level block: the count, then the speeds. The bits that fill up its last byte are zero
+ * already. Says how many bytes it has. A firmware may as well hold the bytes that are printed. */
+static size_t pack_levels(uint8_t *block)
+{
+    size_t bits = 0;
+    put_bits(block, &bits, LEVELS, 4);
+    for (int level = 0; level < LEVELS; level++) {
+        put_bits(block, &bits, speeds[level], 10);
+    }
+    return (bits + 7) / 8;
+}
+
+static void print_levels(const uint8_t *block, size_t length)
+{
+    printf("levels %u:", kilmstra_level_count(accepted(kilmstra_levels_read(block, length))));
+    for (size_t at = 0; at < length; at++) {
+        printf(" %02x", block[at]);
+    }
+    printf("\n");
+}
+
 static uint64_t start(void)
 {
+    uint8_t levels[KILMSTRA_LEVEL_BLOCK_BYTES] = {0};
+    size_t size = pack_levels(levels);
+    print_levels(levels, size);
     uint8_t block[KILMSTRA_BLOCK_BYTES];
-    uint64_t written = accepted(kilmstra_plan_write(TASKS, plan, 2 * TASKS, block, sizeof block));
+    uint64_t written = accepted(
+        kilmstra_plan_write(levels, size, TASKS, plan, 2 * TASKS, block, sizeof block));
     size_t length = kilmstra_byte_count(written);
-    uint64_t judged = accepted(kilmstra_plan_read(block, length));
+    uint64_t judged = accepted(kilmstra_plan_read(levels, size, block, length));
     printf("plan %d %u %lu\n", TASKS, kilmstra_nominal_level(judged),
            (unsigned long)kilmstra_hyperperiod(judged));
-    return accepted(kilmstra_start(block, length, state, sizeof state));
+    return accepted(kilmstra_start(levels, size, block, length, state, sizeof state));
 }
 
 /* Does what the order says, and tells the dispatcher what came of it. */

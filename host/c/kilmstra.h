@@ -1,8 +1,14 @@
 /* Kilmstra: a dispatcher for periodic jobs, proved to meet its contracts. For C99 and C++.
  *
- * The firmware packs a plan, starts it, and does what the order says: it runs the named task's job
- * at the named level, or stays idle, for the hold at most. When the job ends or the hold is over it
- * tells the dispatcher by a pass, and gets the next order.
+ * The firmware has a block with the speeds of its board, packs a plan, starts it over these speeds,
+ * and does what the order says: it runs the named task's job at the named level, or stays idle, for
+ * the hold at most. When the job ends or the hold is over it tells the dispatcher by a pass, and gets
+ * the next order.
+ *
+ * A level block says how fast each level is: 4 bits of count (1 to 8), then 10 bits for each speed,
+ * level 0 first, then zero bits to a whole byte, the most significant bit of a byte first. A speed is
+ * in units of work per tick, 1 to 1,000, and above the speed before it. Every call that takes a plan
+ * takes a level block before it. The state keeps the speeds, so the calls on a state take none.
  *
  * What holds for every call:
  * - It answers with one number, a reply. The functions at the end of this file take it apart.
@@ -31,17 +37,27 @@ extern "C" {
 #endif
 
 enum {
-    KILMSTRA_TASKS = 16,        /* a plan has at most so many */
-    KILMSTRA_LEVELS = 8,        /* 0 to 7 */
-    KILMSTRA_STATE_BYTES = 200, /* a state has exactly so many */
-    KILMSTRA_BLOCK_BYTES = 74,  /* enough for every plan block */
-    KILMSTRA_QUEUE_BYTES = 48   /* enough for every queue */
+    KILMSTRA_TASKS = 16,             /* a plan has at most so many */
+    KILMSTRA_LEVELS = 8,             /* a level block has at most so many */
+    KILMSTRA_STATE_BYTES = 217,      /* a state has exactly so many */
+    KILMSTRA_LEVEL_BLOCK_BYTES = 11, /* enough for every level block */
+    KILMSTRA_BLOCK_BYTES = 74,       /* enough for every plan block */
+    KILMSTRA_QUEUE_BYTES = 48        /* enough for every queue */
 };
 
-/* Why a call was refused. Where there are several reasons, the one that stands first here is told;
- * only 10 comes before 9. */
+/* The level block of document 01's speeds: 10, 20, 30, 40, 50, 60, 80, 100. */
+static const uint8_t kilmstra_base_levels[KILMSTRA_LEVEL_BLOCK_BYTES] = {
+    0x80, 0x28, 0x14, 0x07, 0x82, 0x80, 0xc8, 0x3c, 0x14, 0x06, 0x40
+};
+
+/* Why a call was refused. Where there are several reasons, the one that stands first here is told,
+ * whatever its number; only 10 comes before 9. */
 enum kilmstra_refusal {
     KILMSTRA_ACCEPTED = 0,            /* it was not */
+    KILMSTRA_LONG_INPUT = 17,         /* the bench program alone: more than 65,536 bytes */
+    KILMSTRA_WRONG_LEVEL_COUNT = 18,  /* the level block is empty, or there are not 1 to 8 levels */
+    KILMSTRA_WRONG_LEVEL_LENGTH = 19, /* its length is not its count's, or its closing bits are set */
+    KILMSTRA_WRONG_SPEED = 20,        /* a speed not 1 to 1,000, or not above the one before it */
     KILMSTRA_SHORT_BLOCK = 1,         /* the plan block has fewer than 2 bytes */
     KILMSTRA_WRONG_EDITION = 2,       /* the edition is not 1 */
     KILMSTRA_WRONG_COUNT = 3,         /* there are not 1 to 16 tasks */
@@ -51,14 +67,13 @@ enum kilmstra_refusal {
     KILMSTRA_LONG_HYPERPERIOD = 7,    /* the least common multiple of all periods is over 1,000,000 */
     KILMSTRA_OVERLOAD = 8,            /* the plan is too much for the highest level */
     KILMSTRA_SHORT_BUFFER = 9,        /* what is to be written does not fit the lent buffer */
-    KILMSTRA_UNSOUND_STATE = 10,      /* not exactly 200 bytes, or they do not agree with each other */
+    KILMSTRA_UNSOUND_STATE = 10,      /* not exactly 217 bytes, or they do not agree with each other */
     KILMSTRA_NO_TICK = 11,            /* d is 0 */
     KILMSTRA_PAST_ARRIVAL = 12,       /* d goes past the next arrival */
     KILMSTRA_NOTHING_RUNS = 13,       /* finished, though the order is to stay idle */
     KILMSTRA_PAST_WORST_CASE = 14,    /* the running job would have used up more than its worst case */
     KILMSTRA_PAST_LARGEST_CLOCK = 15, /* the clock would go past 4,000,000,000 */
-    KILMSTRA_ODD_BYTE = 16,           /* the bench program alone: a byte is left at the end */
-    KILMSTRA_LONG_INPUT = 17          /* the bench program alone: more than 65,536 bytes */
+    KILMSTRA_ODD_BYTE = 16            /* the bench program alone: a byte is left at the end */
 };
 
 /* A task in a list: its period in ticks and its worst case in units of work. */
@@ -67,15 +82,18 @@ struct kilmstra_task {
     uint32_t worst;
 };
 
-/* Starts a plan at tick 0, where a job of every task arrives, and answers with the first order.
- * Writes the first 200 bytes of state; bytes past them stay as they were.
- * Refuses with 1 to 8, as reading the block does, then with 9 if state has fewer than 200 bytes. */
-uint64_t kilmstra_start(const uint8_t *block, size_t block_len, uint8_t *state, size_t state_len);
+/* Starts a plan over the speeds of a level block at tick 0, where a job of every task arrives, and
+ * answers with the first order.
+ * Writes the first 217 bytes of state; bytes past them stay as they were.
+ * Refuses with 18 to 20, then with 1 to 8, as reading the two blocks does, then with 9 if state has
+ * fewer than 217 bytes. */
+uint64_t kilmstra_start(const uint8_t *levels, size_t levels_len,
+                        const uint8_t *block, size_t block_len, uint8_t *state, size_t state_len);
 
 /* Says that d ticks went by, and whether the running job finished at their end (0 for no, anything
  * else for yes). Brings the state up to date and answers with the order that stands from then on: a
  * new one if a job finished or arrived, else the old one with what is left of its hold.
- * Writes within the 200 bytes of state.
+ * Writes within the 217 bytes of state.
  * Refuses with 10 if the state is not sound, then with 11 to 15. */
 uint64_t kilmstra_pass(uint8_t *state, size_t state_len, uint32_t d, uint8_t finished);
 
@@ -86,32 +104,44 @@ uint64_t kilmstra_pass(uint8_t *state, size_t state_len, uint32_t d, uint8_t fin
  * Refuses with 10 if the state is not sound, then with 9 if the queue does not fit. */
 uint64_t kilmstra_show(const uint8_t *state, size_t state_len, uint8_t *buffer, size_t buffer_len);
 
-/* Judges a list of tasks and answers with the nominal level and the hyperperiod. Writes nothing.
- * Refuses with 3, 6, 7, 8. */
-uint64_t kilmstra_judge_list(const struct kilmstra_task *tasks, size_t count);
+/* Reads a level block and answers with the count of its levels. Writes nothing.
+ * Refuses with 18 to 20. */
+uint64_t kilmstra_levels_read(const uint8_t *levels, size_t levels_len);
 
-/* Judges a plan of so many tasks and answers with the nominal level and the hyperperiod. The
- * numbers are a period and a worst case for each task in turn; one that is not there is 0, and one
- * past the count is not looked at. Writes nothing.
- * Refuses with 3, 6, 7, 8. */
-uint64_t kilmstra_plan_judge(size_t count, const uint32_t *numbers, size_t numbers_len);
+/* Judges a list of tasks over the speeds of a level block and answers with the nominal level and the
+ * hyperperiod. Writes nothing.
+ * Refuses with 18 to 20, then with 3, 6, 7, 8. */
+uint64_t kilmstra_judge_list(const uint8_t *levels, size_t levels_len,
+                             const struct kilmstra_task *tasks, size_t count);
 
-/* Reads a plan block and answers with the nominal level and the hyperperiod. Writes nothing.
- * Refuses with 1 to 8. */
-uint64_t kilmstra_plan_read(const uint8_t *block, size_t block_len);
+/* Judges a plan of so many tasks over the speeds of a level block and answers with the nominal level
+ * and the hyperperiod. The numbers are a period and a worst case for each task in turn; one that is
+ * not there is 0, and one past the count is not looked at. Writes nothing.
+ * Refuses with 18 to 20, then with 3, 6, 7, 8. */
+uint64_t kilmstra_plan_judge(const uint8_t *levels, size_t levels_len,
+                             size_t count, const uint32_t *numbers, size_t numbers_len);
+
+/* Reads a plan block over the speeds of a level block and answers with the nominal level and the
+ * hyperperiod. Writes nothing.
+ * Refuses with 18 to 20, then with 1 to 8. */
+uint64_t kilmstra_plan_read(const uint8_t *levels, size_t levels_len,
+                            const uint8_t *block, size_t block_len);
 
 /* Writes the block of a plan, which is given as for judging, and answers with the count of bytes:
- * 6 for one task, 74 for sixteen.
+ * 6 for one task, 74 for sixteen. The speeds are not in it: they only say whether the plan is
+ * accepted.
  * Leaves the bytes of buffer past those written as they were.
- * Refuses with 3, 6, 7, 8, then with 9 if the block does not fit. */
-uint64_t kilmstra_plan_write(size_t count, const uint32_t *numbers, size_t numbers_len,
+ * Refuses with 18 to 20, then with 3, 6, 7, 8, then with 9 if the block does not fit. */
+uint64_t kilmstra_plan_write(const uint8_t *levels, size_t levels_len,
+                             size_t count, const uint32_t *numbers, size_t numbers_len,
                              uint8_t *buffer, size_t buffer_len);
 
-/* Reads a plan block, writes its plan again, which gives the same bytes, and answers with their
- * count.
+/* Reads a plan block, as kilmstra_plan_read does, writes its plan again, which gives the same bytes,
+ * and answers with their count.
  * Leaves the bytes of buffer past those written as they were.
- * Refuses with 1 to 8, then with 9 if the block does not fit. */
-uint64_t kilmstra_plan_copy(const uint8_t *block, size_t block_len,
+ * Refuses with 18 to 20, then with 1 to 8, then with 9 if the block does not fit. */
+uint64_t kilmstra_plan_copy(const uint8_t *levels, size_t levels_len,
+                            const uint8_t *block, size_t block_len,
                             uint8_t *buffer, size_t buffer_len);
 
 /* Any reply. */
@@ -164,7 +194,14 @@ static inline size_t kilmstra_byte_count(uint64_t reply)
     return (size_t)(reply >> 8);
 }
 
-/* A reply of judging or reading that is no refusal. */
+/* A reply of reading a level block that is no refusal. */
+
+static inline uint8_t kilmstra_level_count(uint64_t reply)
+{
+    return (uint8_t)(reply >> 8);
+}
+
+/* A reply of judging or reading a plan that is no refusal. */
 
 static inline uint8_t kilmstra_nominal_level(uint64_t reply)
 {

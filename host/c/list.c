@@ -1,4 +1,5 @@
-/* Has lists of tasks judged without packing them, and prints what is said of each. */
+/* Has lists of tasks judged without packing them, and prints what is said of each. Ahead of that it
+ * prints the speeds that the library finds in the header's own level block. */
 
 #include "kilmstra.h"
 
@@ -8,9 +9,30 @@ enum { MOST = 17 };
 
 static struct kilmstra_task tasks[MOST];
 
+/* With a period of 1 tick a level admits as much work as its speed, so the most that is admitted at a
+ * level is its speed. */
+static void print_base_speeds(void)
+{
+    const uint8_t *levels = kilmstra_base_levels;
+    size_t length = sizeof kilmstra_base_levels;
+    printf("%u levels:", kilmstra_level_count(kilmstra_levels_read(levels, length)));
+    uint32_t task[2] = {1, 1};
+    uint64_t reply = kilmstra_plan_judge(levels, length, 1, task, 2);
+    while (!kilmstra_is_refused(reply)) {
+        unsigned level = kilmstra_nominal_level(reply);
+        uint32_t worst = task[1]++;
+        reply = kilmstra_plan_judge(levels, length, 1, task, 2);
+        if (kilmstra_is_refused(reply) || kilmstra_nominal_level(reply) != level) {
+            printf(" %lu", (unsigned long)worst);
+        }
+    }
+    printf(", then refused %u\n", kilmstra_refusal_number(reply));
+}
+
 static void print_judged(const char *what, size_t count)
 {
-    uint64_t reply = kilmstra_judge_list(tasks, count);
+    uint64_t reply =
+        kilmstra_judge_list(kilmstra_base_levels, sizeof kilmstra_base_levels, tasks, count);
     if (kilmstra_is_refused(reply)) {
         printf("%s: refused %u\n", what, kilmstra_refusal_number(reply));
     } else {
@@ -27,6 +49,7 @@ static void set(size_t place, uint32_t period, uint32_t worst)
 
 int main(void)
 {
+    print_base_speeds();
     print_judged("no task", 0);
 
     set(0, 10, 400);

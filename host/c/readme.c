@@ -1,7 +1,7 @@
 /* What the loop in the README at the top needs around it, so that it can be built and run as it stands
- * there: 01's bench plan, and a processor, a timer and jobs that are played. Up to tick 20 the jobs
- * end as in 01's example, where the processor idles at tick 18. The last job never ends, so that its
- * pass is refused. */
+ * there: 01's speeds and bench plan, and a processor, a timer and jobs that are played. Up to tick 20
+ * the jobs end as in 01's example, where the processor idles at tick 18. The last job never ends, so
+ * that its pass is refused. */
 
 #include "kilmstra.h"
 
@@ -63,12 +63,17 @@ static void fail_safe(unsigned refusal)
 
 int main(void)
 {
+    const uint8_t *levels = kilmstra_base_levels;
+    size_t size = sizeof kilmstra_base_levels;
     uint8_t block[KILMSTRA_BLOCK_BYTES];
-    uint64_t written = kilmstra_plan_write(TASKS, plan, 2 * TASKS, block, sizeof block);
+    uint64_t written =
+        kilmstra_plan_write(levels, size, TASKS, plan, 2 * TASKS, block, sizeof block);
     if (kilmstra_is_refused(written)) {
         return 1;
     }
-    dispatch(block, kilmstra_byte_count(written));
-    dispatch(block, kilmstra_byte_count(written) - 1);
+    size_t length = kilmstra_byte_count(written);
+    dispatch(levels, size, block, length);
+    dispatch(levels, size, block, length - 1);
+    dispatch(levels, size - 1, block, length - 1);
     return 0;
 }

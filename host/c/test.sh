@@ -67,10 +67,11 @@ as_cpp() { # PROGRAM FLAGS..
         runs "$program"
 }
 
-# The header alone must do, first in a file and more than once.
+# The header alone must do, first in a file and more than once. It is compiled and not only parsed:
+# only then does a compiler warn of what is defined and not used, as the header's level block is here.
 header_alone() { # COMPILER..
     printf '#include "kilmstra.h"\n#include "kilmstra.h"\nint main(void) { return 0; }\n' |
-        "$@" "${warnings[@]}" -I . -fsyntax-only -
+        "$@" "${warnings[@]}" -I . -c -o "$work/header.o" -
 }
 
 installs() {

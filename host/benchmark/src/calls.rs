@@ -5,7 +5,7 @@ use crate::fast;
 use differ as _;
 use std::slice::{from_raw_parts, from_raw_parts_mut};
 
-pub type Start = unsafe extern "C" fn(*const u8, usize, *mut u8, usize) -> u64;
+pub type Start = unsafe extern "C" fn(*const u8, usize, *const u8, usize, *mut u8, usize) -> u64;
 pub type Pass = unsafe extern "C" fn(*mut u8, usize, u32, u8) -> u64;
 pub type Show = unsafe extern "C" fn(*const u8, usize, *mut u8, usize) -> u64;
 
@@ -17,7 +17,14 @@ pub struct Calls {
 }
 
 extern "C" {
-    fn kilmstra_start(block: *const u8, block_len: usize, state: *mut u8, state_len: usize) -> u64;
+    fn kilmstra_start(
+        levels: *const u8,
+        levels_len: usize,
+        block: *const u8,
+        block_len: usize,
+        state: *mut u8,
+        state_len: usize,
+    ) -> u64;
 
     fn kilmstra_pass(state: *mut u8, state_len: usize, d: u32, finished: u8) -> u64;
 
@@ -43,7 +50,7 @@ pub const BY_HAND: Calls = Calls {
 pub const NONE: Calls = Calls {
     start: no_start,
     pass: no_pass,
-    show: no_start,
+    show: no_show,
 };
 
 impl Calls {
@@ -56,9 +63,18 @@ impl Calls {
         }
     }
 
-    pub fn start(&self, block: &[u8], state: &mut [u8]) -> u64 {
-        // SAFETY: pointers and lengths are those of two slices that don't overlap.
-        unsafe { (self.start)(block.as_ptr(), block.len(), state.as_mut_ptr(), state.len()) }
+    pub fn start(&self, levels: &[u8], block: &[u8], state: &mut [u8]) -> u64 {
+        // SAFETY: pointers and lengths are those of slices; the one that is written overlaps no other.
+        unsafe {
+            (self.start)(
+                levels.as_ptr(),
+                levels.len(),
+                block.as_ptr(),
+                block.len(),
+                state.as_mut_ptr(),
+                state.len(),
+            )
+        }
     }
 
     pub fn pass(&self, state: &mut [u8], d: u32, finished: bool) -> u64 {
@@ -80,15 +96,17 @@ impl Calls {
 }
 
 unsafe extern "C" fn fast_start(
+    levels: *const u8,
+    levels_len: usize,
     block: *const u8,
     block_len: usize,
     state: *mut u8,
     state_len: usize,
 ) -> u64 {
-    // SAFETY: the caller lends two slices that don't overlap.
+    // SAFETY: the caller lends slices; the one that is written overlaps no other.
     unsafe {
         fast::start(
-            fast::BASE,
+            from_raw_parts(levels, levels_len),
             from_raw_parts(block, block_len),
             from_raw_parts_mut(state, state_len),
         )
@@ -97,14 +115,7 @@ unsafe extern "C" fn fast_start(
 
 unsafe extern "C" fn fast_pass(state: *mut u8, state_len: usize, d: u32, finished: u8) -> u64 {
     // SAFETY: the caller lends a slice.
-    unsafe {
-        fast::pass(
-            fast::BASE,
-            from_raw_parts_mut(state, state_len),
-            d,
-            finished != 0,
-        )
-    }
+    unsafe { fast::pass(from_raw_parts_mut(state, state_len), d, finished != 0) }
 }
 
 unsafe extern "C" fn fast_show(
@@ -116,17 +127,27 @@ unsafe extern "C" fn fast_show(
     // SAFETY: the caller lends two slices that don't overlap.
     unsafe {
         fast::show(
-            fast::BASE,
             from_raw_parts(state, state_len),
             from_raw_parts_mut(buffer, buffer_len),
         )
     }
 }
 
-unsafe extern "C" fn no_start(_: *const u8, _: usize, _: *mut u8, _: usize) -> u64 {
+unsafe extern "C" fn no_start(
+    _: *const u8,
+    _: usize,
+    _: *const u8,
+    _: usize,
+    _: *mut u8,
+    _: usize,
+) -> u64 {
     0
 }
 
 unsafe extern "C" fn no_pass(_: *mut u8, _: usize, _: u32, _: u8) -> u64 {
+    0
+}
+
+unsafe extern "C" fn no_show(_: *const u8, _: usize, _: *mut u8, _: usize) -> u64 {
     0
 }

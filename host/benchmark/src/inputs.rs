@@ -1,7 +1,8 @@
-//! What the measured calls are given: blocks of accepted plans, states that runs of them reach, and
-//! passes that are accepted there. The same every time.
+//! What the measured calls are given: level blocks, blocks of plans that are accepted over them, states
+//! that their runs reach, and passes that are accepted there. The same every time.
 
 use crate::calls::PROVED;
+use sim::level_block::write_levels;
 use sim::levels::Levels;
 use sim::plan::{judge_list, Task};
 use sim::random::blocks::block_of;
@@ -10,17 +11,26 @@ use sim::random::Random;
 pub use sim::layout::STATE_BYTES;
 pub const QUEUE_BYTES: usize = 48;
 
-const PLANS: usize = 8;
+const PLANS_OF_A_TABLE: usize = 2;
 const PASSES_OF_A_PLAN: usize = 32;
+
+/// 01's speeds, fewer levels, odd speeds, and speeds far apart up to the fastest that there can be.
+const TABLES: [&[u64]; 4] = [
+    &[10, 20, 30, 40, 50, 60, 80, 100],
+    &[40, 70, 100],
+    &[13, 27, 41, 55, 83, 111],
+    &[7, 19, 53, 101, 211, 419, 677, 1_000],
+];
 
 /// Divisors of 720,720, so that every choice of them has an accepted hyperperiod.
 const PERIODS: [u64; 12] = [
     280, 420, 560, 630, 840, 1_008, 1_260, 1_680, 2_520, 5_040, 9_360, 10_010,
 ];
 
-/// One input: the block is for starting, the state for passing and showing, the rest for passing.
+/// One input: the blocks are for starting, the state for passing and showing, the rest for passing.
 #[derive(Clone)]
 pub struct Input {
+    pub levels: Vec<u8>,
     pub block: Vec<u8>,
     pub state: [u8; STATE_BYTES],
     pub d: u32,
@@ -31,32 +41,37 @@ pub struct Input {
 pub fn inputs(tasks: usize) -> Vec<Input> {
     let mut random = Random::new(tasks as u64);
     let mut found = Vec::new();
-    for _ in 0..PLANS {
-        let block = block_of(&accepted_plan(&mut random, tasks));
-        add_run(&mut random, &block, &mut found);
+    for table in TABLES {
+        let table = Levels::new(table);
+        let levels = write_levels(&table);
+        for _ in 0..PLANS_OF_A_TABLE {
+            let block = block_of(&accepted_plan(&mut random, &table, tasks));
+            add_run(&mut random, &levels, &block, &mut found);
+        }
     }
     found
 }
 
 /// A plan that fills much of what some level has.
-fn accepted_plan(random: &mut Random, count: usize) -> Vec<Task> {
+fn accepted_plan(random: &mut Random, levels: &Levels, count: usize) -> Vec<Task> {
+    let fastest = levels.speed(levels.top());
     loop {
-        let units = random.between(20, 100);
+        let units = random.between(fastest / 5, fastest);
         let task = |period: u64| Task {
             period,
             worst: (period * units / count as u64).max(1),
         };
         let plan: Vec<Task> = (0..count).map(|_| task(random.pick(&PERIODS))).collect();
-        if judge_list(&Levels::base(), &plan).is_ok() {
+        if judge_list(levels, &plan).is_ok() {
             return plan;
         }
     }
 }
 
 /// Runs a plan, and keeps each accepted pass with the state that it was made in.
-fn add_run(random: &mut Random, block: &[u8], found: &mut Vec<Input>) {
+fn add_run(random: &mut Random, levels: &[u8], block: &[u8], found: &mut Vec<Input>) {
     let mut state = [0; STATE_BYTES];
-    let mut hold = hold_of(PROVED.start(block, &mut state));
+    let mut hold = hold_of(PROVED.start(levels, block, &mut state));
     let mut kept = 0;
     while kept < PASSES_OF_A_PLAN {
         // Half the passes use the hold up, so that there are many ends and arrivals.
@@ -71,6 +86,7 @@ fn add_run(random: &mut Random, block: &[u8], found: &mut Vec<Input>) {
             hold = hold_of(reply);
             kept += 1;
             found.push(Input {
+                levels: levels.to_vec(),
                 block: block.to_vec(),
                 state: before,
                 d,

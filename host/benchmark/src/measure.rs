@@ -45,7 +45,7 @@ pub fn round(call: Call, calls: &Calls, inputs: &[Input]) {
         state.copy_from_slice(&input.state);
         let lent = black_box(&mut state);
         black_box(match call {
-            Call::Start => calls.start(&input.block, lent),
+            Call::Start => calls.start(&input.levels, &input.block, lent),
             Call::Pass => calls.pass(lent, input.d, input.finished),
             Call::Show => calls.show(lent, black_box(&mut queue)),
         });

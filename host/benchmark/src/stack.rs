@@ -26,32 +26,40 @@ fn used_by(call: Call, calls: &Calls, input: &Input) -> usize {
     let mut most = 0;
     for pattern in PATTERNS {
         state.copy_from_slice(&input.state);
-        let lent = (state.as_mut_ptr() as u64, state.len() as u64);
-        let (function, numbers) = match call {
+        let lent = [state.as_mut_ptr() as u64, state.len() as u64];
+        let (function, pairs) = match call {
             Call::Start => {
-                let block = (input.block.as_ptr() as u64, input.block.len() as u64);
-                (calls.start as usize, [block.0, block.1, lent.0, lent.1])
+                let blocks = (lent_to_read(&input.levels), lent_to_read(&input.block));
+                (calls.start as usize, [blocks.0, blocks.1, lent])
             }
             Call::Pass => {
-                let told = (u64::from(input.d), u64::from(input.finished));
-                (calls.pass as usize, [lent.0, lent.1, told.0, told.1])
+                let told = [u64::from(input.d), u64::from(input.finished)];
+                (calls.pass as usize, [lent, told, NOT_TAKEN])
             }
             Call::Show => {
-                let room = (queue.as_mut_ptr() as u64, queue.len() as u64);
-                (calls.show as usize, [lent.0, lent.1, room.0, room.1])
+                let room = [queue.as_mut_ptr() as u64, queue.len() as u64];
+                (calls.show as usize, [lent, room, NOT_TAKEN])
             }
         };
         let mut stack = Box::new(Stack([pattern; STACK_BYTES]));
-        // SAFETY: the function takes these four numbers, and the stack is large and aligned.
-        unsafe { call_on(&mut stack, function, numbers) };
+        // SAFETY: the function takes these numbers or the first four of them, and the stack is large
+        // and aligned.
+        unsafe { call_on(&mut stack, function, pairs) };
         let untouched = stack.0.iter().take_while(|byte| **byte == pattern).count();
         most = most.max(STACK_BYTES - untouched);
     }
     most
 }
 
-/// Calls a C function of four numbers on another stack.
-unsafe fn call_on(stack: &mut Stack, function: usize, numbers: [u64; 4]) -> u64 {
+/// What a call with four numbers gets for the last two: C lets it not look at them.
+const NOT_TAKEN: [u64; 2] = [0, 0];
+
+fn lent_to_read(bytes: &[u8]) -> [u64; 2] {
+    [bytes.as_ptr() as u64, bytes.len() as u64]
+}
+
+/// Calls a C function of six numbers, which are three pairs, on another stack.
+unsafe fn call_on(stack: &mut Stack, function: usize, pairs: [[u64; 2]; 3]) -> u64 {
     let top = stack.0.as_mut_ptr_range().end;
     let reply;
     // SAFETY: r12 is kept by what is called, so the old stack is found again.
@@ -63,10 +71,12 @@ unsafe fn call_on(stack: &mut Stack, function: usize, numbers: [u64; 4]) -> u64 
             "mov rsp, r12",
             top = in(reg) top,
             function = in(reg) function,
-            in("rdi") numbers[0],
-            in("rsi") numbers[1],
-            in("rdx") numbers[2],
-            in("rcx") numbers[3],
+            in("rdi") pairs[0][0],
+            in("rsi") pairs[0][1],
+            in("rdx") pairs[1][0],
+            in("rcx") pairs[1][1],
+            in("r8") pairs[2][0],
+            in("r9") pairs[2][1],
             out("r12") _,
             lateout("rax") reply,
             clobber_abi("C"),

@@ -1,20 +1,22 @@
-//! The calls written by hand are a fair yardstick only if they do what the proved ones do: both get
-//! the same calls, and must give the same replies and leave the same bytes.
+//! The calls written by hand are a fair yardstick only if they do what the proved ones do. They, the
+//! proved calls and the simulator get the same calls, and must give the same replies and leave the same
+//! bytes.
 
 use benchmark::calls::{BY_HAND, PROVED};
-use benchmark::fast;
 use benchmark::inputs::{inputs, QUEUE_BYTES};
 use sim::dispatch::Order;
 use sim::layout::{self, STATE_BYTES};
+use sim::level_block::write_levels;
 use sim::levels::Levels;
 use sim::plan::Task;
 use sim::random::blocks::{block_of, damaged_block};
 use sim::random::passes::any_pass;
 use sim::random::plans;
-use sim::random::states::{forged_state, invented_state, late_state};
-use sim::random::tables::some_levels;
+use sim::random::states::{forged_state, invented_state, late_state, with_a_table_changed};
+use sim::random::tables::{bad_level_block, damaged_level_block, some_or_base_levels};
 use sim::random::Random;
 use std::collections::BTreeMap;
+use std::fmt::Arguments;
 
 /// How often each reply was given: 0 for an accepted call, else the refusal's number.
 #[derive(Default)]
@@ -33,55 +35,29 @@ impl Seen {
     }
 }
 
-fn start_agrees(block: &[u8], room: usize, seen: &mut Seen) -> Vec<u8> {
-    let (mut proved, mut hand) = (vec![0xa5; room], vec![0xa5; room]);
-    let reply = PROVED.start(block, &mut proved);
-    assert_eq!(BY_HAND.start(block, &mut hand), reply, "{block:02x?}");
-    assert_eq!(hand, proved, "{block:02x?}");
-    seen.add(reply);
-    proved
+/// A reply, and the bytes that the call was lent, as it left them.
+type Outcome = (u64, Vec<u8>);
+
+#[track_caller]
+fn same(hand: &Outcome, proved: &Outcome, simulated: &Outcome, told: Arguments) {
+    assert_eq!(hand, proved, "by hand and proved, told {told}");
+    assert_eq!(hand, simulated, "by hand and simulated, told {told}");
 }
 
-fn pass_agrees(state: &mut [u8], d: u32, finished: bool, seen: &mut Seen) -> u64 {
-    let (before, mut hand) = (state.to_vec(), state.to_vec());
-    let reply = PROVED.pass(state, d, finished);
-    let told = format_args!("{d} {finished} in {before:02x?}").to_string();
-    assert_eq!(BY_HAND.pass(&mut hand, d, finished), reply, "{told}");
-    assert_eq!(hand, state, "{told}");
-    seen.add(reply);
-    reply
+/// What a call makes of lent bytes.
+fn outcome(lent: &[u8], call: impl Fn(&mut [u8]) -> u64) -> Outcome {
+    let mut bytes = lent.to_vec();
+    (call(&mut bytes), bytes)
 }
 
-fn show_agrees(state: &[u8], room: usize, seen: &mut Seen) {
-    let (mut proved, mut hand) = (vec![0xa5; room], vec![0xa5; room]);
-    let reply = PROVED.show(state, &mut proved);
-    assert_eq!(BY_HAND.show(state, &mut hand), reply, "{state:02x?}");
-    assert_eq!(hand, proved, "{state:02x?}");
-    seen.add(reply);
-}
-
-/// Plans of all kinds, most of them accepted.
-fn any_plan(random: &mut Random) -> Vec<Task> {
-    let levels = Levels::base();
-    let level = random.place(levels.count());
-    match random.below(8) {
-        0 => plans::plan_at_largest_hyperperiod(random, &levels),
-        1 => plans::plan_above_largest_hyperperiod(random),
-        2 => plans::plan_one_over(random, &levels, level),
-        3 => plans::edge_list(random, &levels),
-        4 => plans::full_plan(random, &levels, level),
-        _ => plans::plan_at_level(random, &levels, level),
-    }
-}
-
-/// An accepted plan.
-fn good_plan(random: &mut Random) -> Vec<Task> {
-    let levels = Levels::base();
-    let level = random.place(levels.count());
-    if random.one_in(2) {
-        plans::full_plan(random, &levels, level)
-    } else {
-        plans::plan_at_level(random, &levels, level)
+/// What the simulator answers, as a call's reply has it: 0 or a refusal's number in the lowest byte.
+fn reply_of(simulated: Result<Order, u32>) -> u64 {
+    match simulated {
+        Err(number) => u64::from(number),
+        Ok(Order::Idle { hold }) => u64::from(hold) << 32 | 2 << 8,
+        Ok(Order::Run { task, level, hold }) => {
+            u64::from(hold) << 32 | u64::from(level) << 24 | u64::from(task) << 16 | 1 << 8
+        }
     }
 }
 
@@ -97,67 +73,236 @@ fn order_in(reply: u64) -> Order {
     }
 }
 
-/// Would catch a plan read, judged or started in another way.
+fn start_agrees(levels: &[u8], block: &[u8], room: usize, seen: &mut Seen) -> Outcome {
+    let lent = vec![0xa5; room];
+    let hand = outcome(&lent, |state| BY_HAND.start(levels, block, state));
+    same(
+        &hand,
+        &outcome(&lent, |state| PROVED.start(levels, block, state)),
+        &outcome(&lent, |state| reply_of(sim::start(levels, block, state))),
+        format_args!("{levels:02x?}, {block:02x?}, {room} bytes"),
+    );
+    seen.add(hand.0);
+    hand
+}
+
+fn pass_agrees(state: &[u8], d: u32, finished: bool, seen: &mut Seen) -> Outcome {
+    let hand = outcome(state, |state| BY_HAND.pass(state, d, finished));
+    same(
+        &hand,
+        &outcome(state, |state| PROVED.pass(state, d, finished)),
+        &outcome(state, |state| reply_of(sim::pass(state, d, finished))),
+        format_args!("{state:02x?}, {d} ticks, finished: {finished}"),
+    );
+    seen.add(hand.0);
+    hand
+}
+
+fn show_agrees(state: &[u8], room: usize, seen: &mut Seen) {
+    let lent = vec![0xa5; room];
+    let simulated = |buffer: &mut [u8]| match sim::show(state, buffer) {
+        Ok(length) => 256 * length as u64,
+        Err(number) => u64::from(number),
+    };
+    let hand = outcome(&lent, |buffer| BY_HAND.show(state, buffer));
+    same(
+        &hand,
+        &outcome(&lent, |buffer| PROVED.show(state, buffer)),
+        &outcome(&lent, simulated),
+        format_args!("{state:02x?}, {room} bytes"),
+    );
+    seen.add(hand.0);
+}
+
+/// Plans of all kinds, most of them accepted.
+fn any_plan(random: &mut Random, levels: &Levels) -> Vec<Task> {
+    let level = random.place(levels.count());
+    match random.below(8) {
+        0 => plans::plan_at_largest_hyperperiod(random, levels),
+        1 => plans::plan_above_largest_hyperperiod(random),
+        2 => plans::plan_one_over(random, levels, level),
+        3 => plans::edge_list(random, levels),
+        4 => plans::full_plan(random, levels, level),
+        _ => plans::plan_at_level(random, levels, level),
+    }
+}
+
+/// An accepted plan.
+fn good_plan(random: &mut Random, levels: &Levels) -> Vec<Task> {
+    let level = random.place(levels.count());
+    if random.one_in(2) {
+        plans::full_plan(random, levels, level)
+    } else {
+        plans::plan_at_level(random, levels, level)
+    }
+}
+
+/// A level block as it is to be, or one that is refused in some way.
+fn any_level_block(random: &mut Random, levels: &Levels) -> Vec<u8> {
+    let block = write_levels(levels);
+    match random.below(8) {
+        0 => {
+            let number = random.pick(&[18, 19, 20]);
+            bad_level_block(random, number)
+        }
+        1 => damaged_level_block(random, &block),
+        _ => block,
+    }
+}
+
+/// Would catch a table or a plan read, judged or started in another way, and questions put in another
+/// order.
 #[test]
 fn starts_agree() {
     let mut random = Random::new(1);
     let mut seen = Seen::default();
-    for _ in 0..4_000 {
-        let mut block = block_of(&any_plan(&mut random));
+    for _ in 0..6_000 {
+        let table = some_or_base_levels(&mut random);
+        let mut block = block_of(&any_plan(&mut random, &table));
         if random.one_in(2) {
             block = damaged_block(&mut random, &block);
         }
+        let levels = any_level_block(&mut random, &table);
         let exact = STATE_BYTES;
         let room = random.pick(&[0, exact - 1, exact, exact, exact, exact + 1, exact + 40]);
-        start_agrees(&block, room, &mut seen);
+        start_agrees(&levels, &block, room, &mut seen);
     }
-    seen.were("start", &[0, 1, 2, 3, 4, 5, 6, 7, 8, 9]);
+    seen.were("start", &[0, 1, 2, 3, 4, 5, 6, 7, 8, 9, 18, 19, 20]);
+}
+
+/// Would catch an edge of the level block that is drawn elsewhere: every block of two bytes is tried,
+/// which are those of a single level, every shorter one, and every last byte of the longest.
+#[test]
+fn level_blocks_agree() {
+    let mut seen = Seen::default();
+    let task = Task {
+        period: 65_535,
+        worst: 1,
+    };
+    let plan = block_of(&[task]);
+    start_agrees(&[], &plan, STATE_BYTES, &mut seen);
+    for first in 0..=u8::MAX {
+        start_agrees(&[first], &plan, STATE_BYTES, &mut seen);
+    }
+    for bytes in 0..=u16::MAX {
+        start_agrees(&bytes.to_be_bytes(), &plan, STATE_BYTES, &mut seen);
+    }
+    for last in 0..=u8::MAX {
+        let mut base = write_levels(&Levels::base());
+        *base.last_mut().expect("it has eleven bytes") = last;
+        start_agrees(&base, &plan, STATE_BYTES, &mut seen);
+    }
+    seen.were("start, level blocks", &[0, 18, 19, 20]);
 }
 
 /// Would catch a pass that goes another way at some point of a run.
 #[test]
 fn runs_agree() {
     let mut random = Random::new(2);
-    let mut seen = Seen::default();
-    for _ in 0..200 {
-        let block = block_of(&good_plan(&mut random));
-        let mut state = vec![0; STATE_BYTES];
-        let mut order = order_in(PROVED.start(&block, &mut state));
+    let (mut starts, mut passes, mut shows) = Default::default();
+    for _ in 0..400 {
+        let table = some_or_base_levels(&mut random);
+        let block = block_of(&good_plan(&mut random, &table));
+        let levels = write_levels(&table);
+        let (first, mut state) = start_agrees(&levels, &block, STATE_BYTES, &mut starts);
+        let mut order = order_in(first);
         for _ in 0..50 {
             let (d, finished) = any_pass(&mut random, order);
-            let reply = pass_agrees(&mut state, d, finished, &mut seen);
+            let (reply, after) = pass_agrees(&state, d, finished, &mut passes);
+            state = after;
             if reply % 256 == 0 {
                 order = order_in(reply);
             }
         }
+        show_agrees(&state, QUEUE_BYTES, &mut shows);
     }
-    seen.were("pass, in runs", &[0, 11, 12, 13, 14]);
+    starts.were("start, of runs", &[0]);
+    passes.were("pass, in runs", &[0, 11, 12, 13, 14]);
+    shows.were("show, after runs", &[0]);
 }
 
 /// Would catch a state called sound by one and not by the other, or changed in another way.
 #[test]
 fn invented_and_forged_states_agree() {
-    let levels = Levels::base();
     let mut random = Random::new(3);
     let (mut passes, mut shows) = (Seen::default(), Seen::default());
-    for _ in 0..6_000 {
-        let plan = good_plan(&mut random);
-        let sound = invented_state(&mut random, &levels, &plan);
-        let mut state = match random.below(4) {
+    for _ in 0..20_000 {
+        let table = some_or_base_levels(&mut random);
+        let plan = good_plan(&mut random, &table);
+        let sound = invented_state(&mut random, &table, &plan);
+        let state = match random.below(5) {
             0 => sound.to_vec(),
-            1 => late_state(&mut random, &levels, &sound).to_vec(),
-            _ => forged_state(&mut random, &levels, &sound),
+            1 => late_state(&mut random, &sound).to_vec(),
+            2 => with_a_table_changed(&mut random, &sound).to_vec(),
+            _ => forged_state(&mut random, &sound),
         };
         let room = random.place(QUEUE_BYTES + 9);
         show_agrees(&state, room, &mut shows);
         let hold = random.pick(&[1, 2, 5, 20, 100, 1_000]);
-        let order = Order::Idle { hold };
-        let (d, _) = any_pass(&mut random, order);
+        let (d, _) = any_pass(&mut random, Order::Idle { hold });
         let finished = random.one_in(2);
-        pass_agrees(&mut state, d, finished, &mut passes);
+        pass_agrees(&state, d, finished, &mut passes);
     }
     shows.were("show", &[0, 9, 10]);
     passes.were("pass, in made states", &[0, 10, 11, 12, 13, 14, 15]);
+}
+
+/// Numbers on both sides of every edge that a speed has beside these two.
+fn edges(before: u64, after: u64) -> [u64; 14] {
+    let (below, above) = (before.saturating_sub(1), after + 1);
+    [
+        0,
+        1,
+        below,
+        before,
+        before + 1,
+        after.saturating_sub(1),
+        after,
+        above,
+        999,
+        1_000,
+        1_001,
+        1_024,
+        32_768,
+        65_535,
+    ]
+}
+
+/// Would catch a table in the state that is tested in another way: for every size of it each speed is
+/// put at its edges, unused ones too, and the count is anything. The job needs so little that the
+/// order does not fail in the table's stead.
+#[test]
+fn tables_in_states_agree() {
+    let speeds = [2, 3, 5, 300, 301, 640, 998, 999];
+    let block = block_of(&[Task {
+        period: 60_000,
+        worst: 1,
+    }]);
+    let (mut starts, mut passes, mut shows) = Default::default();
+    for count in 1..=speeds.len() {
+        let levels = write_levels(&Levels::new(&speeds[..count]));
+        let (_, state) = start_agrees(&levels, &block, STATE_BYTES, &mut starts);
+        let mut forged_agrees = |field: layout::Field, number: u64| {
+            let mut forged = state.clone();
+            field.put(&mut forged, number);
+            show_agrees(&forged, QUEUE_BYTES, &mut shows);
+            pass_agrees(&forged, 1, true, &mut passes);
+        };
+        for other in 0..=255 {
+            forged_agrees(layout::LEVEL_COUNT, other);
+        }
+        for level in 0..speeds.len() {
+            let kept = |place: usize| layout::speed_of(place).get(&state);
+            let before = if level > 0 { kept(level - 1) } else { 0 };
+            let after = if level < 7 { kept(level + 1) } else { 0 };
+            for number in edges(before, after) {
+                forged_agrees(layout::speed_of(level), number);
+            }
+        }
+    }
+    starts.were("start, before tables are forged", &[0]);
+    shows.were("show, with forged tables", &[0, 10]);
+    passes.were("pass, with forged tables", &[0, 10]);
 }
 
 /// Would catch a state whose worst case is too large and nothing else wrong: 1,048,576 for 1,048,575
@@ -165,144 +310,31 @@ fn invented_and_forged_states_agree() {
 #[test]
 fn the_largest_worst_case_agrees() {
     let mut seen = Seen::default();
-    let task = Task {
+    let levels = write_levels(&Levels::base());
+    let block = block_of(&[Task {
         period: 60_000,
         worst: 1_048_575,
-    };
-    let mut state = start_agrees(&block_of(&[task]), STATE_BYTES, &mut seen);
+    }]);
+    let (_, mut state) = start_agrees(&levels, &block, STATE_BYTES, &mut seen);
     show_agrees(&state, QUEUE_BYTES, &mut seen);
     layout::of_task(0, layout::WORST).put(&mut state, 1_048_576);
     show_agrees(&state, QUEUE_BYTES, &mut seen);
-    pass_agrees(&mut state, 1, false, &mut seen);
+    pass_agrees(&state, 1, false, &mut seen);
     seen.were("the largest worst case", &[0, 10]);
 }
 
-/// Would catch measured calls that are refused, or that the two do differently.
+/// Would catch measured calls that are refused, or that are done differently.
 #[test]
 fn measured_inputs_agree() {
     let (mut starts, mut passes, mut shows) = Default::default();
     for input in [1, 3, 8, 16].into_iter().flat_map(inputs) {
-        start_agrees(&input.block, STATE_BYTES, &mut starts);
+        start_agrees(&input.levels, &input.block, STATE_BYTES, &mut starts);
         show_agrees(&input.state, QUEUE_BYTES, &mut shows);
-        let mut state = input.state;
-        pass_agrees(&mut state, input.d, input.finished, &mut passes);
+        pass_agrees(&input.state, input.d, input.finished, &mut passes);
     }
     starts.were("start, measured", &[0]);
     passes.were("pass, measured", &[0]);
     shows.were("show, measured", &[0]);
-}
-
-/// The table as the calls written by hand take it: zeros past the count.
-fn speeds_of(levels: &Levels) -> [u32; 8] {
-    let mut speeds = [0; 8];
-    for (place, speed) in speeds.iter_mut().zip(levels.speeds()) {
-        *place = *speed as u32;
-    }
-    speeds
-}
-
-/// What the simulator answers, as a call's reply has it: 0 or a refusal's number in the lowest byte.
-fn reply_of(simulated: Result<Order, u32>) -> u64 {
-    match simulated {
-        Err(number) => u64::from(number),
-        Ok(Order::Idle { hold }) => u64::from(hold) << 32 | 2 << 8,
-        Ok(Order::Run { task, level, hold }) => {
-            u64::from(hold) << 32 | u64::from(level) << 24 | u64::from(task) << 16 | 1 << 8
-        }
-    }
-}
-
-/// The calls written by hand with some table, beside the simulator with the same.
-struct WithTable {
-    levels: Levels,
-    speeds: [u32; 8],
-}
-
-impl WithTable {
-    fn hand(&self) -> fast::Levels<'_> {
-        fast::Levels {
-            speeds: &self.speeds,
-            count: self.levels.count(),
-        }
-    }
-
-    fn start(&self, block: &[u8], seen: &mut Seen) -> (Vec<u8>, u64) {
-        let (mut wanted, mut state) = (vec![0xa5; STATE_BYTES], vec![0xa5; STATE_BYTES]);
-        let reply = reply_of(sim::start(&self.levels, block, &mut wanted));
-        let hand = fast::start(self.hand(), block, &mut state);
-        assert_eq!(hand, reply, "{:?} {block:02x?}", self.levels);
-        assert_eq!(state, wanted, "{:?} {block:02x?}", self.levels);
-        seen.add(reply);
-        (state, reply)
-    }
-
-    fn pass(&self, state: &mut [u8], d: u32, finished: bool, seen: &mut Seen) -> u64 {
-        let (before, mut wanted) = (state.to_vec(), state.to_vec());
-        let reply = reply_of(sim::pass(&self.levels, &mut wanted, d, finished));
-        let told = format!("{:?}: {d} {finished} in {before:02x?}", self.levels);
-        let hand = fast::pass(self.hand(), state, d, finished);
-        assert_eq!(hand, reply, "{told}");
-        assert_eq!(state, wanted, "{told}");
-        seen.add(reply);
-        reply
-    }
-
-    fn show(&self, state: &[u8], seen: &mut Seen) {
-        let (mut wanted, mut buffer) = ([0xa5; QUEUE_BYTES], [0xa5; QUEUE_BYTES]);
-        let reply = match sim::show(&self.levels, state, &mut wanted) {
-            Ok(length) => 256 * length as u64,
-            Err(number) => u64::from(number),
-        };
-        let hand = fast::show(self.hand(), state, &mut buffer);
-        assert_eq!(hand, reply, "{:?} {state:02x?}", self.levels);
-        assert_eq!(buffer, wanted, "{:?} {state:02x?}", self.levels);
-        seen.add(reply);
-    }
-}
-
-/// Would catch a speed or a count of levels that the calls written by hand have in themselves, and a
-/// product that isn't the quotient for some speed. The proved calls have no other table than 01's, so
-/// the simulator says what is right.
-#[test]
-fn other_tables_agree_with_the_simulator() {
-    let mut random = Random::new(5);
-    let (mut starts, mut passes, mut shows) = Default::default();
-    for _ in 0..1_500 {
-        let levels = some_levels(&mut random);
-        let both = WithTable {
-            speeds: speeds_of(&levels),
-            levels,
-        };
-        let level = random.place(both.levels.count());
-        let plan = match random.below(4) {
-            0 => plans::full_plan(&mut random, &both.levels, level),
-            1 => plans::plan_one_over(&mut random, &both.levels, level),
-            _ => plans::plan_at_level(&mut random, &both.levels, level),
-        };
-        let (mut state, first) = both.start(&block_of(&plan), &mut starts);
-        if first % 256 != 0 {
-            continue;
-        }
-        let mut order = order_in(first);
-        for _ in 0..12 {
-            let (d, finished) = any_pass(&mut random, order);
-            let reply = both.pass(&mut state, d, finished, &mut passes);
-            if reply % 256 == 0 {
-                order = order_in(reply);
-            }
-            both.show(&state, &mut shows);
-        }
-        let mut made = invented_state(&mut random, &both.levels, &plan).to_vec();
-        if random.one_in(2) {
-            let sound = made[..].try_into().expect("it has the state's length");
-            made = forged_state(&mut random, &both.levels, sound);
-        }
-        both.show(&made, &mut shows);
-        both.pass(&mut made, 1, random.one_in(2), &mut passes);
-    }
-    starts.were("start, other tables", &[0, 8]);
-    passes.were("pass, other tables", &[0, 10, 11, 12, 13, 14, 15]);
-    shows.were("show, other tables", &[0, 10]);
 }
 
 /// Would catch a reciprocal that is off for one of the speeds that a table can have: the time of a
@@ -311,19 +343,15 @@ fn other_tables_agree_with_the_simulator() {
 fn every_speed_divides_exactly() {
     let mut starts = Seen::default();
     for speed in 1..=1_000 {
-        let levels = Levels::new(&[speed]);
-        let both = WithTable {
-            speeds: speeds_of(&levels),
-            levels,
-        };
+        let levels = write_levels(&Levels::new(&[speed]));
         let most = (1_048_575 / speed).min(65_535);
         for ticks in [1, 2, most / 2, most - 1, most] {
             for worst in [(ticks - 1) * speed + 1, ticks * speed] {
-                let plan = [Task {
+                let block = block_of(&[Task {
                     period: 65_535,
                     worst,
-                }];
-                let (state, _) = both.start(&block_of(&plan), &mut starts);
+                }]);
+                let (_, state) = start_agrees(&levels, &block, STATE_BYTES, &mut starts);
                 let left = layout::of_task(0, layout::PLAIN_LEFT).get(&state);
                 assert_eq!(left, ticks, "{worst} at {speed}");
             }

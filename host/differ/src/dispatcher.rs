@@ -3,7 +3,14 @@
 use crate::proved::unpacked;
 
 extern "C" {
-    fn kilmstra_start(block: *const u8, block_len: usize, state: *mut u8, state_len: usize) -> u64;
+    fn kilmstra_start(
+        levels: *const u8,
+        levels_len: usize,
+        block: *const u8,
+        block_len: usize,
+        state: *mut u8,
+        state_len: usize,
+    ) -> u64;
 
     fn kilmstra_pass(state: *mut u8, state_len: usize, d: u32, finished: u8) -> u64;
 
@@ -20,12 +27,21 @@ pub enum Order {
 const RUN: u8 = 1;
 const IDLE: u8 = 2;
 
-/// Reads a plan block, fills the state with a fresh start of it, and returns the first order.
-pub fn start(block: &[u8], state: &mut [u8]) -> Result<Order, u32> {
-    // SAFETY: pointers and lengths are those of two slices that don't overlap; the call reads the
-    // first and writes within the second.
-    let answer =
-        unsafe { kilmstra_start(block.as_ptr(), block.len(), state.as_mut_ptr(), state.len()) };
+/// Reads a level block and a plan block, fills the state with a fresh start of them, and returns the
+/// first order.
+pub fn start(levels: &[u8], block: &[u8], state: &mut [u8]) -> Result<Order, u32> {
+    // SAFETY: pointers and lengths are those of three slices that don't overlap; the call reads the
+    // first two and writes within the third.
+    let answer = unsafe {
+        kilmstra_start(
+            levels.as_ptr(),
+            levels.len(),
+            block.as_ptr(),
+            block.len(),
+            state.as_mut_ptr(),
+            state.len(),
+        )
+    };
     ordered(answer)
 }
 

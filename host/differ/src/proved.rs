@@ -1,13 +1,30 @@
-//! The calls on plans that the proved library has for C, with slices in and results out.
+//! The calls on level blocks and plans that the proved library has for C, with slices in and results
+//! out.
 //!
-//! In C a slice is a pointer, then a length in elements.
+//! In C a slice is a pointer, then a length in elements. Each call on a plan takes a level block
+//! first.
 
 extern "C" {
-    fn kilmstra_plan_judge(count: usize, numbers: *const u32, numbers_len: usize) -> u64;
+    fn kilmstra_levels_read(levels: *const u8, levels_len: usize) -> u64;
 
-    fn kilmstra_plan_read(block: *const u8, block_len: usize) -> u64;
+    fn kilmstra_plan_judge(
+        levels: *const u8,
+        levels_len: usize,
+        count: usize,
+        numbers: *const u32,
+        numbers_len: usize,
+    ) -> u64;
+
+    fn kilmstra_plan_read(
+        levels: *const u8,
+        levels_len: usize,
+        block: *const u8,
+        block_len: usize,
+    ) -> u64;
 
     fn kilmstra_plan_write(
+        levels: *const u8,
+        levels_len: usize,
         count: usize,
         numbers: *const u32,
         numbers_len: usize,
@@ -16,6 +33,8 @@ extern "C" {
     ) -> u64;
 
     fn kilmstra_plan_copy(
+        levels: *const u8,
+        levels_len: usize,
         block: *const u8,
         block_len: usize,
         buffer: *mut u8,
@@ -30,27 +49,45 @@ pub struct Judged {
     pub hyperperiod: u64,
 }
 
+/// Reads a level block, and says how many levels it has.
+pub fn read_levels(levels: &[u8]) -> Result<u64, u32> {
+    // SAFETY: pointer and length are those of a slice, which the call only reads.
+    let answer = unsafe { kilmstra_levels_read(levels.as_ptr(), levels.len()) };
+    unpacked(answer)
+}
+
 /// Judges the plan of so many tasks. Its numbers are a period and a worst case for each task; the
 /// ones that are not there are 0.
-pub fn judge(count: usize, numbers: &[u32]) -> Result<Judged, u32> {
-    // SAFETY: pointer and length are those of a slice, which the call only reads.
-    let answer = unsafe { kilmstra_plan_judge(count, numbers.as_ptr(), numbers.len()) };
+pub fn judge(levels: &[u8], count: usize, numbers: &[u32]) -> Result<Judged, u32> {
+    // SAFETY: pointers and lengths are those of two slices, which the call only reads.
+    let answer = unsafe {
+        kilmstra_plan_judge(
+            levels.as_ptr(),
+            levels.len(),
+            count,
+            numbers.as_ptr(),
+            numbers.len(),
+        )
+    };
     judged(answer)
 }
 
 /// Reads a plan block.
-pub fn read(block: &[u8]) -> Result<Judged, u32> {
-    // SAFETY: pointer and length are those of a slice, which the call only reads.
-    let answer = unsafe { kilmstra_plan_read(block.as_ptr(), block.len()) };
+pub fn read(levels: &[u8], block: &[u8]) -> Result<Judged, u32> {
+    // SAFETY: pointers and lengths are those of two slices, which the call only reads.
+    let answer =
+        unsafe { kilmstra_plan_read(levels.as_ptr(), levels.len(), block.as_ptr(), block.len()) };
     judged(answer)
 }
 
 /// Writes the block of a plan, given as for judging, and says how many bytes it has.
-pub fn write(count: usize, numbers: &[u32], buffer: &mut [u8]) -> Result<u64, u32> {
-    // SAFETY: pointers and lengths are those of two slices that don't overlap; the call reads the
-    // first and writes within the second.
+pub fn write(levels: &[u8], count: usize, numbers: &[u32], buffer: &mut [u8]) -> Result<u64, u32> {
+    // SAFETY: pointers and lengths are those of three slices that don't overlap; the call reads the
+    // first two and writes within the third.
     let answer = unsafe {
         kilmstra_plan_write(
+            levels.as_ptr(),
+            levels.len(),
             count,
             numbers.as_ptr(),
             numbers.len(),
@@ -62,11 +99,13 @@ pub fn write(count: usize, numbers: &[u32], buffer: &mut [u8]) -> Result<u64, u3
 }
 
 /// Reads a plan block, writes its plan again, and says how many bytes were written.
-pub fn copy(block: &[u8], buffer: &mut [u8]) -> Result<u64, u32> {
-    // SAFETY: pointers and lengths are those of two slices that don't overlap; the call reads the
-    // first and writes within the second.
+pub fn copy(levels: &[u8], block: &[u8], buffer: &mut [u8]) -> Result<u64, u32> {
+    // SAFETY: pointers and lengths are those of three slices that don't overlap; the call reads the
+    // first two and writes within the third.
     let answer = unsafe {
         kilmstra_plan_copy(
+            levels.as_ptr(),
+            levels.len(),
             block.as_ptr(),
             block.len(),
             buffer.as_mut_ptr(),

@@ -1,15 +1,17 @@
 //! A list of tasks judged without packing it, on both sides. The lists stand between entries that
-//! may not be looked at, and no entry may change.
+//! may not be looked at, the level block between bytes, and nothing of them may change.
 
 // Brings the archives in.
 use differ as _;
 use sim::levels::Levels;
-use sim::plan::{judge_list, Judged, Task, LARGEST_PERIOD, LARGEST_WORST};
+use sim::plan::{Judged, Task, LARGEST_PERIOD, LARGEST_WORST};
 use sim::random::plans::{
     edge_list, full_plan, plan_above_largest_hyperperiod, plan_at_largest_hyperperiod,
     plan_at_level, plan_one_over, plan_one_unit_over,
 };
+use sim::random::tables::{bad_level_block, damaged_level_block, some_or_base_levels};
 use sim::random::Random;
+use sim::{judge_list, write_levels};
 use std::collections::BTreeMap;
 
 /// A task as C has it.
@@ -21,7 +23,12 @@ struct Entry {
 }
 
 extern "C" {
-    fn kilmstra_judge_list(tasks: *const Entry, count: usize) -> u64;
+    fn kilmstra_judge_list(
+        levels: *const u8,
+        levels_len: usize,
+        tasks: *const Entry,
+        count: usize,
+    ) -> u64;
 }
 
 /// Stands for "accepted" where else a refusal's number stands.
@@ -39,35 +46,50 @@ const fn entry(period: u32, worst: u32) -> Entry {
     Entry { period, worst }
 }
 
+/// What stands around a level block.
+const MARKS: [u8; 2] = [0xa5, 0x5a];
+
 /// Puts lists to both sides, and counts the answers on which they agreed.
 struct Both {
-    /// The speeds that the simulator is handed.
-    levels: Levels,
+    /// The level block that both sides are handed.
+    level_block: Vec<u8>,
     seen: BTreeMap<u32, u64>,
+}
+
+/// The content with two elements like this on each side.
+fn between<T: Copy>(around: T, content: &[T]) -> Vec<T> {
+    [&[around; 2][..], content, &[around; 2]].concat()
 }
 
 impl Both {
     fn new(levels: &Levels) -> Both {
         Both {
-            levels: levels.clone(),
+            level_block: write_levels(levels),
             seen: BTreeMap::new(),
         }
     }
 
     #[track_caller]
     fn judge(&mut self, list: &[Entry]) -> Result<Judged, u32> {
-        let wanted = judge_list(&self.levels, &as_tasks(list));
+        let levels = &self.level_block;
+        let wanted = judge_list(levels, &as_tasks(list));
         let lists: u64 = self.seen.values().sum();
-        let around = AROUND[(lists % 3) as usize];
-        let mut lent = vec![around; list.len() + 4];
-        let from = 2;
-        let end = from + list.len();
-        lent[from..end].copy_from_slice(list);
-        let before = lent.clone();
-        // SAFETY: pointer and length are those of a slice, which the call only reads.
-        let answer = unsafe { kilmstra_judge_list(lent[from..end].as_ptr(), list.len()) };
-        assert_eq!(answer, as_answer(wanted), "{} of {list:?}", list.len());
+        let lent = between(AROUND[(lists % 3) as usize], list);
+        let lent_levels = between(MARKS[(lists % 2) as usize], levels);
+        let (before, levels_before) = (lent.clone(), lent_levels.clone());
+        // SAFETY: pointers and lengths are those of two slices, which the call only reads.
+        let answer = unsafe {
+            kilmstra_judge_list(
+                lent_levels[2..].as_ptr(),
+                levels.len(),
+                lent[2..].as_ptr(),
+                list.len(),
+            )
+        };
+        let what = || format!("{} of {list:?}, levels {levels:02x?}", list.len());
+        assert_eq!(answer, as_answer(wanted), "{}", what());
         assert_eq!(lent, before, "an entry has changed");
+        assert_eq!(lent_levels, levels_before, "a level has changed");
         *self
             .seen
             .entry(wanted.err().unwrap_or(ACCEPTED))
@@ -193,27 +215,13 @@ fn lists_of_every_kind() {
     let mut random = Random::new(1_001);
     let mut nominal = vec![0; levels.count()];
     for round in 0..2_000 {
-        let level = round % levels.count();
-        let lists = [
-            plan_at_level(&mut random, &levels, level),
-            full_plan(&mut random, &levels, level),
-            plan_one_over(&mut random, &levels, level),
-            plan_one_unit_over(&mut random, &levels, level),
-            plan_at_largest_hyperperiod(&mut random, &levels),
-            plan_above_largest_hyperperiod(&mut random),
-            edge_list(&mut random, &levels),
-        ];
-        for tasks in lists {
-            let mut list = as_entries(&tasks);
-            if let Ok(judged) = both.judge(&list) {
-                nominal[judged.nominal] += 1;
-            }
-            // One field a little off.
-            if let Some(last) = list.last_mut() {
-                last.worst = last.worst.wrapping_add(1);
-                let _ = both.judge(&list);
-            }
-        }
+        put_lists(
+            &mut both,
+            &mut random,
+            &levels,
+            round % levels.count(),
+            &mut nominal,
+        );
     }
     both.saw("lists of every kind");
     println!("levels {nominal:?}");
@@ -223,6 +231,91 @@ fn lists_of_every_kind() {
     both.wants(7, 3_000);
     both.wants(8, 1_000);
     assert!(nominal.iter().all(|times| *times > 300), "{nominal:?}");
+}
+
+/// The same with the speeds of other boards: would catch a list judged with 01's.
+#[test]
+fn lists_of_every_kind_with_any_table() {
+    let mut both = Both::new(&Levels::base());
+    let mut random = Random::new(1_002);
+    let mut nominal = vec![0; 8];
+    for _ in 0..2_500 {
+        let levels = some_or_base_levels(&mut random);
+        both.level_block = write_levels(&levels);
+        let level = random.place(levels.count());
+        put_lists(&mut both, &mut random, &levels, level, &mut nominal);
+    }
+    both.saw("lists of every kind with any table");
+    println!("levels {nominal:?}");
+    both.wants(ACCEPTED, 12_000);
+    both.wants(3, 30);
+    both.wants(6, 500);
+    both.wants(7, 3_000);
+    both.wants(8, 1_000);
+    assert!(nominal.iter().all(|times| *times > 100), "{nominal:?}");
+}
+
+/// Puts lists of every kind for a level, and counts the nominal levels that they have.
+fn put_lists(
+    both: &mut Both,
+    random: &mut Random,
+    levels: &Levels,
+    level: usize,
+    nominal: &mut [u64],
+) {
+    let lists = [
+        plan_at_level(random, levels, level),
+        full_plan(random, levels, level),
+        plan_one_over(random, levels, level),
+        plan_one_unit_over(random, levels, level),
+        plan_at_largest_hyperperiod(random, levels),
+        plan_above_largest_hyperperiod(random),
+        edge_list(random, levels),
+    ];
+    for tasks in lists {
+        let mut list = as_entries(&tasks);
+        if let Ok(judged) = both.judge(&list) {
+            nominal[judged.nominal] += 1;
+        }
+        // One field a little off.
+        if let Some(last) = list.last_mut() {
+            last.worst = last.worst.wrapping_add(1);
+            let _ = both.judge(&list);
+        }
+    }
+}
+
+/// Would catch a level block that isn't asked about, or is asked about after the list.
+#[test]
+fn bad_level_blocks() {
+    let mut both = Both::new(&Levels::base());
+    let mut random = Random::new(1_003);
+    let lists = [
+        vec![entry(10, 400)],
+        vec![],
+        vec![entry(0, 0); 17],
+        vec![entry(0, 0)],
+        vec![entry(1_000, 1), entry(1_001, 1)],
+        vec![entry(1, 1_001)],
+    ];
+    for round in 0..1_800 {
+        let number = [18, 19, 20][round % 3];
+        both.level_block = bad_level_block(&mut random, number);
+        let list = &lists[round / 3 % lists.len()];
+        assert_eq!(both.judge(list), Err(number), "{list:?}");
+    }
+    // Damage that may leave the block a good one, and then the list decides.
+    for round in 0..3_000 {
+        let levels = write_levels(&some_or_base_levels(&mut random));
+        both.level_block = damaged_level_block(&mut random, &levels);
+        let _ = both.judge(&lists[round % lists.len()]);
+    }
+    both.saw("bad level blocks");
+    for number in [18, 19, 20] {
+        both.wants(number, 800);
+    }
+    both.wants(ACCEPTED, 10);
+    both.wants(3, 50);
 }
 
 /// Would catch a question asked before its turn: each list is refused for two reasons.

@@ -4,9 +4,10 @@
 
 use sim::dispatch::{pass, start, Order};
 use sim::layout::STATE_BYTES;
+use sim::level_block::pack_levels;
 use sim::plan::Task;
 use sim::random::blocks::block_of;
-use sim::{listing, Levels};
+use sim::{listing, write_levels, Levels};
 use std::fs;
 use std::path::Path;
 
@@ -29,9 +30,14 @@ fn bench_block() -> Vec<u8> {
     block(&[(10, 400), (10, 400), (30, 600)])
 }
 
-/// The bench plan with these passes.
+/// 01's speeds in front of what follows them.
+fn with_base_levels(rest: &[u8]) -> Vec<u8> {
+    [&write_levels(&Levels::base())[..], rest].concat()
+}
+
+/// 01's speeds and the bench plan with these passes.
 fn bench_with(passes: &[(u32, bool)]) -> Vec<u8> {
-    let mut input = bench_block();
+    let mut input = with_base_levels(&bench_block());
     for (d, finished) in passes {
         input.extend(packed(*d, *finished));
     }
@@ -41,17 +47,18 @@ fn bench_with(passes: &[(u32, bool)]) -> Vec<u8> {
 /// A run that follows the orders. Up to `early_from` each job takes its worst case; from then on
 /// each ends when this part of its hold is over.
 fn run(levels: &Levels, pairs: &[(u64, u64)], early_from: u64, part: u32, until: u64) -> Vec<u8> {
-    let mut input = block(pairs);
+    let plan = block(pairs);
+    let mut input = [&write_levels(levels)[..], &plan].concat();
     let mut state = [0; STATE_BYTES];
-    let mut order = start(levels, &input, &mut state).expect("the plan is an accepted one");
+    let mut order = start(levels, &plan, &mut state).expect("the plan is an accepted one");
     let mut clock = 0;
     while clock < until {
         let (d, finished) = match order {
             Order::Idle { hold } => (hold, false),
             Order::Run { hold, .. } if clock >= early_from => ((hold + part - 1) / part, true),
-            Order::Run { hold, .. } => (hold, worst_case_is_used(levels, &state, hold)),
+            Order::Run { hold, .. } => (hold, worst_case_is_used(&state, hold)),
         };
-        order = pass(levels, &mut state, d, finished).expect("the pass follows the order");
+        order = pass(&mut state, d, finished).expect("the pass follows the order");
         input.extend(packed(d, finished));
         clock += u64::from(d);
     }
@@ -59,12 +66,26 @@ fn run(levels: &Levels, pairs: &[(u64, u64)], early_from: u64, part: u32, until:
 }
 
 /// After so many ticks, the running job can't be said to go on.
-fn worst_case_is_used(levels: &Levels, state: &[u8; STATE_BYTES], ticks: u32) -> bool {
-    pass(levels, &mut state.clone(), ticks, false) == Err(14)
+fn worst_case_is_used(state: &[u8; STATE_BYTES], ticks: u32) -> bool {
+    pass(&mut state.clone(), ticks, false) == Err(14)
 }
 
 /// 01's passes up to the tick at which the processor idles.
 const TO_TICK_18: [(u32, bool); 5] = [(1, true), (7, true), (2, true), (4, true), (4, true)];
+
+/// Inputs whose level block is refused, with the bench plan and a pass behind it.
+fn refused_levels() -> Vec<(u32, Vec<u8>)> {
+    let rest = [&bench_block()[..], &packed(1, true)].concat();
+    let nine = pack_levels(9, &[10, 20, 30, 40, 50, 60, 80, 100, 120]);
+    let mut closing = write_levels(&Levels::base());
+    closing[10] |= 1;
+    let flat = pack_levels(8, &[10, 20, 30, 40, 50, 60, 60, 100]);
+    vec![
+        (18, [&nine[..], &rest].concat()),
+        (19, [&closing[..], &rest].concat()),
+        (20, [&flat[..], &rest].concat()),
+    ]
+}
 
 /// Inputs whose plan is refused.
 fn refused_plans() -> Vec<(u32, Vec<u8>)> {
@@ -73,16 +94,20 @@ fn refused_plans() -> Vec<(u32, Vec<u8>)> {
     edition[0] = 0x21;
     let mut closing = bench.clone();
     closing[14] |= 1;
-    vec![
-        (1, vec![0x10]),
-        (2, edition),
-        (3, block(&[(1_000, 37); 17])),
-        (4, bench[..14].to_vec()),
-        (5, closing),
-        (6, block(&[(10, 400), (0, 400)])),
-        (7, block(&[(1_000, 1), (1_001, 1)])),
-        (8, block(&[(10, 400), (10, 400), (30, 601)])),
-    ]
+    let plans = [
+        vec![0x10],
+        edition,
+        block(&[(1_000, 37); 17]),
+        bench[..14].to_vec(),
+        closing,
+        block(&[(10, 400), (0, 400)]),
+        block(&[(1_000, 1), (1_001, 1)]),
+        block(&[(10, 400), (10, 400), (30, 601)]),
+    ];
+    let numbered = plans.iter().zip(1..);
+    numbered
+        .map(|(plan, number)| (number, with_base_levels(plan)))
+        .collect()
 }
 
 /// Inputs with a refused pass, an odd byte, or a byte too many. A refused pass is followed by one
@@ -104,30 +129,47 @@ fn refused_later() -> Vec<(u32, Vec<u8>)> {
     ]
 }
 
-fn all(levels: &Levels) -> Vec<(String, Vec<u8>)> {
+/// Runs with other boards' speeds.
+fn other_boards() -> Vec<(String, Vec<u8>)> {
+    // 64 of 80 ticks at 97 units a tick, and 102 at 61.
+    let odd = Levels::new(&[7, 19, 33, 61, 97]);
+    let plan = [(40, 2_300), (40, 580), (80, 310)];
+    let another = run(&odd, &plan, 0, 8, 160);
+    // 19 of 20 ticks. However much time there is, no level is lower.
+    let plan = [(10, 250), (20, 450)];
+    let one = run(&Levels::new(&[50]), &plan, 20, 2, 40);
+    vec![
+        ("another-board".to_string(), another),
+        ("one-level".to_string(), one),
+    ]
+}
+
+fn all() -> Vec<(String, Vec<u8>)> {
+    let levels = Levels::base();
     let mut bench = TO_TICK_18.to_vec();
     bench.push((2, false));
     let mut inputs = vec![("bench".to_string(), bench_with(&bench))];
     for (level, speed) in levels.speeds().iter().enumerate() {
         // 38 of 40 ticks at this level, and more than 40 at the one below.
         let plan = [(10, 4 * speed), (20, 6 * speed), (40, 10 * speed)];
-        inputs.push((format!("level-{level}"), run(levels, &plan, 40, 2, 80)));
+        inputs.push((format!("level-{level}"), run(&levels, &plan, 40, 2, 80)));
     }
     // The first task's job most often ends long before its 24 ticks are over.
     let plan = [(40, 2_400), (40, 600), (80, 600)];
-    inputs.push(("reclaiming".to_string(), run(levels, &plan, 0, 8, 160)));
-    for (number, input) in refused_plans().into_iter().chain(refused_later()) {
+    inputs.push(("reclaiming".to_string(), run(&levels, &plan, 0, 8, 160)));
+    inputs.extend(other_boards());
+    let refused = [refused_plans(), refused_later(), refused_levels()];
+    for (number, input) in refused.concat() {
         inputs.push((format!("refused-{number:02}"), input));
     }
     inputs
 }
 
 fn main() {
-    let levels = Levels::base();
     let folder = Path::new(env!("CARGO_MANIFEST_DIR")).join("../../examples");
     fs::create_dir_all(&folder).expect("the folder can be made");
-    for (name, input) in all(&levels) {
-        let listed = listing(&levels, &input);
+    for (name, input) in all() {
+        let listed = listing(&input);
         fs::write(folder.join(format!("{name}.in")), &input).expect("it can be written");
         fs::write(folder.join(format!("{name}.out")), &listed).expect("it can be written");
     }

@@ -1,4 +1,6 @@
-//! 01, "Orders and passes", and the questions that starting, passing and showing put.
+//! 01, "Orders and passes", and the questions that starting, passing and showing put. 02, No. 1:
+//! "Orders and the plain schedule are from now on those of the loaded speeds", which after the start
+//! are the state's own.
 
 use crate::clock::{clock_after, LARGEST_CLOCK};
 use crate::job::{left_after, time_needed, Left};
@@ -14,7 +16,7 @@ pub enum Order {
     Idle { hold: u32 },
 }
 
-/// Starting: reads the block (1 to 8), then asks for the state's 200 bytes (9). Of a longer buffer
+/// Starting: reads the block (1 to 8), then asks for the state's 217 bytes (9). Of a longer buffer
 /// the bytes past them stay as they were.
 pub fn start(levels: &Levels, block: &[u8], state: &mut [u8]) -> Result<Order, u32> {
     let (tasks, judged) = read_plan(levels, block)?;
@@ -25,21 +27,22 @@ pub fn start(levels: &Levels, block: &[u8], state: &mut [u8]) -> Result<Order, u
         clock: 0,
         running: None,
         entries: Vec::new(),
+        levels: levels.clone(),
     };
     let nominal = levels.speed(judged.nominal);
     for task in tasks {
         fresh.entries.push(new_job(task, nominal));
     }
-    fresh.running = choose(levels, &fresh);
+    fresh.running = choose(&fresh);
     state[..STATE_BYTES].copy_from_slice(&pack(&fresh));
-    Ok(order_now(levels, &fresh))
+    Ok(order_now(&fresh))
 }
 
 /// Passing: asks whether the state is sound (10), then 11 to 15, and only then changes it.
-pub fn pass(levels: &Levels, state: &mut [u8], d: u32, finished: bool) -> Result<Order, u32> {
-    let (mut now, judged) = sound(levels, state).ok_or(10u32)?;
+pub fn pass(state: &mut [u8], d: u32, finished: bool) -> Result<Order, u32> {
+    let (mut now, judged) = sound(state).ok_or(10u32)?;
     let d = u64::from(d);
-    ask_about_pass(levels, &now, d, finished)?;
+    ask_about_pass(&now, d, finished)?;
 
     // "In this order": the queue, the running job, the clock, the arrivals, the order.
     take_from_queue(&mut now, d);
@@ -48,20 +51,20 @@ pub fn pass(levels: &Levels, state: &mut [u8], d: u32, finished: bool) -> Result
         entry.left = if finished {
             Left::NOTHING
         } else {
-            left_after(entry.left, d, levels.speed(running.level))
+            left_after(entry.left, d, now.levels.speed(running.level))
         };
     }
     now.clock = clock_after(now.clock, d);
-    let arrived = let_jobs_arrive(&mut now, levels.speed(judged.nominal));
+    let arrived = let_jobs_arrive(&mut now, judged.nominal);
     if finished || arrived {
-        now.running = choose(levels, &now);
+        now.running = choose(&now);
     }
     state.copy_from_slice(&pack(&now));
-    Ok(order_now(levels, &now))
+    Ok(order_now(&now))
 }
 
 /// Questions 11 to 15, put to a sound state.
-fn ask_about_pass(levels: &Levels, now: &State, d: u64, finished: bool) -> Result<(), u32> {
+fn ask_about_pass(now: &State, d: u64, finished: bool) -> Result<(), u32> {
     if d < 1 {
         return Err(11);
     }
@@ -72,7 +75,7 @@ fn ask_about_pass(levels: &Levels, now: &State, d: u64, finished: bool) -> Resul
         return Err(13);
     }
     if let Some(running) = now.running {
-        let needed = time_of_order(levels, now, running);
+        let needed = time_of_order(now, running);
         if d > needed || (!finished && d == needed) {
             return Err(14);
         }
@@ -85,8 +88,8 @@ fn ask_about_pass(levels: &Levels, now: &State, d: u64, finished: bool) -> Resul
 
 /// Showing the queue: asks whether the state is sound (10), then for room (9). "3 bytes an entry,
 /// task then plain ticks left, most urgent first, entries with plain ticks left only".
-pub fn show(levels: &Levels, state: &[u8], buffer: &mut [u8]) -> Result<usize, u32> {
-    let (now, _) = sound(levels, state).ok_or(10u32)?;
+pub fn show(state: &[u8], buffer: &mut [u8]) -> Result<usize, u32> {
+    let (now, _) = sound(state).ok_or(10u32)?;
     let mut shown = Vec::new();
     for task in by_urgency(&now) {
         let left = now.entries[task].plain_left;
@@ -103,17 +106,18 @@ pub fn show(levels: &Levels, state: &[u8], buffer: &mut [u8]) -> Result<usize, u
     Ok(shown.len())
 }
 
-/// The state and what its plan is judged to be, or nothing if 01's "Sound means ..." fails.
-pub fn sound(levels: &Levels, block: &[u8]) -> Option<(State, Judged)> {
-    // "exactly 200 bytes, laid out as above"
+/// The state and what its plan is judged to be, or nothing if 01's "Sound means ..." fails. It is
+/// put with the state's own speeds; that these can be loaded is part of it.
+pub fn sound(block: &[u8]) -> Option<(State, Judged)> {
+    // "exactly 200 bytes, laid out as above", which now are 217.
     let state = unpack(block)?;
     // "a plan that passes 3, 6, 7, 8"
-    let judged = judge_list(levels, &state.tasks()).ok()?;
+    let judged = judge_list(&state.levels, &state.tasks()).ok()?;
     // "a clock in range"
     if state.clock > LARGEST_CLOCK {
         return None;
     }
-    let nominal = levels.speed(judged.nominal);
+    let nominal = state.levels.speed(judged.nominal);
     if !state
         .entries
         .iter()
@@ -121,7 +125,7 @@ pub fn sound(levels: &Levels, block: &[u8]) -> Option<(State, Judged)> {
     {
         return None;
     }
-    if !order_is_sound(levels, &state, judged.nominal) {
+    if !order_is_sound(&state, judged.nominal) {
         return None;
     }
     Some((state, judged))
@@ -136,14 +140,14 @@ fn entry_is_sound(entry: &Entry, nominal: u64) -> bool {
 }
 
 /// "an idle order exactly if no job is open, else the most urgent open job at a level no higher
-/// than nominal that meets its allowance"
-fn order_is_sound(levels: &Levels, state: &State, nominal: usize) -> bool {
+/// than nominal that meets its allowance". So the level is one of the state's table.
+fn order_is_sound(state: &State, nominal: usize) -> bool {
     match (most_urgent_open(state), state.running) {
         (None, None) => true,
         (Some(urgent), Some(running)) => {
             running.task == urgent
                 && running.level <= nominal
-                && time_of_order(levels, state, running) <= allowance(state, urgent)
+                && time_of_order(state, running) <= allowance(state, urgent)
         }
         _ => false,
     }
@@ -159,11 +163,9 @@ fn new_job(task: Task, nominal: u64) -> Entry {
 }
 
 /// What the job of a run order needs at the order's level.
-fn time_of_order(levels: &Levels, state: &State, running: Running) -> u64 {
-    time_needed(
-        state.entries[running.task].left,
-        levels.speed(running.level),
-    )
+fn time_of_order(state: &State, running: Running) -> u64 {
+    let left = state.entries[running.task].left;
+    time_needed(left, state.levels.speed(running.level))
 }
 
 /// An entry stands for the task's latest job, because each arrival replaces what stood there. So
@@ -218,21 +220,23 @@ fn allowance(state: &State, task: usize) -> u64 {
 }
 
 /// "The level is the lowest at which the work left needs no more than the allowance."
-fn lowest_level(levels: &Levels, state: &State, task: usize) -> usize {
+fn lowest_level(state: &State, task: usize) -> usize {
     let allowance = allowance(state, task);
     let left = state.entries[task].left;
-    let level = levels.lowest(|speed| time_needed(left, speed) <= allowance);
+    let level = state
+        .levels
+        .lowest(|speed| time_needed(left, speed) <= allowance);
     // Every entry keeps the time needed at the nominal level within its own plain ticks, and
     // those are part of the allowance.
     level.expect("the nominal level always meets the allowance")
 }
 
 /// The task and level of a new order: the most urgent open job, or idle if there is none.
-pub fn choose(levels: &Levels, state: &State) -> Option<Running> {
+pub fn choose(state: &State) -> Option<Running> {
     let task = most_urgent_open(state)?;
     Some(Running {
         task,
-        level: lowest_level(levels, state, task),
+        level: lowest_level(state, task),
     })
 }
 
@@ -248,7 +252,7 @@ pub fn choose(levels: &Levels, state: &State) -> Option<Running> {
 ///
 /// If both fall by d, so does the smaller of them. Pass by pass, the hold of an order that stays
 /// is therefore always what this rule gives for the state as it stands.
-fn order_now(levels: &Levels, state: &State) -> Order {
+fn order_now(state: &State) -> Order {
     let arrival = ticks_to_next_arrival(state);
     match state.running {
         None => Order::Idle {
@@ -257,7 +261,7 @@ fn order_now(levels: &Levels, state: &State) -> Order {
         Some(running) => Order::Run {
             task: running.task as u8,
             level: running.level as u8,
-            hold: time_of_order(levels, state, running).min(arrival) as u32,
+            hold: time_of_order(state, running).min(arrival) as u32,
         },
     }
 }
@@ -279,7 +283,8 @@ fn take_from_queue(state: &mut State, d: u64) {
 
 /// "tasks whose period divides the clock get a new job with full worst case and allotment,
 /// replacing what stood there". Says whether there was one.
-fn let_jobs_arrive(state: &mut State, nominal: u64) -> bool {
+fn let_jobs_arrive(state: &mut State, nominal: usize) -> bool {
+    let nominal = state.levels.speed(nominal);
     let mut arrived = false;
     for entry in &mut state.entries {
         if state.clock % entry.task.period == 0 {

@@ -1,10 +1,9 @@
-//! 01, Blocks: where each number of the state block stands. Nothing else in the simulator knows a
-//! place or a length of it.
+//! 01, Blocks, and 02, No. 1: where each number of the state block stands. Nothing else in the
+//! simulator knows a place or a length of it.
 
 use std::ops::Range;
 
-/// So many bytes from a place on. In the head the places are the block's, in an entry the entry's
-/// own.
+/// So many bytes from a place on. In an entry the places are the entry's own, else the block's.
 #[derive(Clone, Copy, PartialEq, Eq, Debug)]
 pub struct Field {
     pub at: usize,
@@ -35,8 +34,17 @@ pub const ENTRY_BYTES: usize = 12;
 
 /// "a block of 200 bytes ... sixteen entries of 12 bytes".
 pub const ENTRIES: usize = 16;
-pub const STATE_BYTES: usize = 200;
-const _: () = assert!(STATE_BYTES == HEAD_BYTES + ENTRIES * ENTRY_BYTES);
+pub const ENTRIES_END: usize = 200;
+const _: () = assert!(ENTRIES_END == HEAD_BYTES + ENTRIES * ENTRY_BYTES);
+
+/// 02, No. 1: "The state block grows to 217 bytes: at its end the count and eight speeds of two
+/// bytes".
+pub const LEVEL_COUNT: Field = field(200, 1);
+pub const SPEEDS: usize = 8;
+pub const SPEED_BYTES: usize = 2;
+pub const STATE_BYTES: usize = 217;
+const _: () = assert!(LEVEL_COUNT.at == ENTRIES_END);
+const _: () = assert!(STATE_BYTES == speed_of(SPEEDS).at);
 
 /// What stands for the task in an idle order.
 pub const IDLE: u64 = 255;
@@ -44,6 +52,12 @@ pub const IDLE: u64 = 255;
 /// Where the entry of a task begins; for the count of tasks, where the entries in use end.
 pub const fn entry_at(task: usize) -> usize {
     HEAD_BYTES + ENTRY_BYTES * task
+}
+
+/// The speed of a level; for the number of speeds, the place where they end.
+pub const fn speed_of(level: usize) -> Field {
+    let first = LEVEL_COUNT.at + LEVEL_COUNT.bytes;
+    field(first + SPEED_BYTES * level, SPEED_BYTES)
 }
 
 /// A field of an entry as one of the block.

@@ -1,7 +1,15 @@
-//! 01: "A level is a speed in units per tick." The speeds are a value that is handed on, so that
-//! each rule is written once for every table of them.
+//! 01: "A level is a speed in units per tick." 02, No. 1: the speeds are loaded. Here they are a
+//! value that is handed on, so that each rule is written once for every table of them.
 
-/// Speeds in units of work per tick. Level n has the speed at place n.
+/// 02, No. 1: a table has "1 to 8" speeds, each "1 to 1,000".
+pub const MOST_LEVELS: u64 = 8;
+pub const FASTEST: u64 = 1_000;
+
+pub fn count_in_range(count: u64) -> bool {
+    (1..=MOST_LEVELS).contains(&count)
+}
+
+/// A table that can be loaded: speeds in units of work per tick. Level n has the speed at place n.
 #[derive(Clone, PartialEq, Eq, Debug)]
 pub struct Levels {
     speeds: Vec<u64>,
@@ -13,14 +21,22 @@ impl Levels {
         Levels::new(&[10, 20, 30, 40, 50, 60, 80, 100])
     }
 
-    /// A table of these speeds. "The lowest level" has to mean the slowest one too, so each speed
-    /// is above the one before it; and at speed 0 no work would ever end.
+    /// A table of these speeds, which must be ones that can be loaded.
     pub fn new(speeds: &[u64]) -> Levels {
-        let rises = speeds.windows(2).all(|pair| pair[0] < pair[1]);
-        assert!(!speeds.is_empty() && speeds[0] > 0 && rises, "{speeds:?}");
-        Levels {
-            speeds: speeds.to_vec(),
+        Levels::of(speeds).unwrap_or_else(|| panic!("{speeds:?} can't be loaded"))
+    }
+
+    /// A table of these speeds, or nothing if they can't be loaded: "1 to 8" of them, each "1 to
+    /// 1,000 and strictly rising".
+    pub fn of(speeds: &[u64]) -> Option<Levels> {
+        let in_range = speeds.iter().all(|speed| (1..=FASTEST).contains(speed));
+        let rising = speeds.windows(2).all(|pair| pair[0] < pair[1]);
+        if !count_in_range(speeds.len() as u64) || !in_range || !rising {
+            return None;
         }
+        Some(Levels {
+            speeds: speeds.to_vec(),
+        })
     }
 
     pub fn count(&self) -> usize {

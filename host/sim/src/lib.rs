@@ -1,18 +1,22 @@
-//! Reference simulator of the knee's dispatcher, written from document 01 alone.
+//! Reference simulator of the knee's dispatcher, written from document 01 and the first request of
+//! document 02 alone.
 //!
-//! It is meant to be read beside that document: every step is done the long way, tick by tick and
-//! level by level, so that a reader can see that it says what the document says. Nothing here is
-//! meant to be fast.
+//! It is meant to be read beside those documents: every step is done the long way, tick by tick and
+//! level by level, so that a reader can see that it says what they say. Nothing here is meant to be
+//! fast.
 //!
-//! The speeds of the levels are a value that each call is handed; 01's own are `Levels::base()`.
+//! A host's calls are in `calls`; they take a level block. What is below them is handed the table
+//! that was read from it; 01's own is `Levels::base()`.
 
 pub mod bits;
 pub mod block;
 pub mod books;
+pub mod calls;
 pub mod clock;
 pub mod dispatch;
 pub mod job;
 pub mod layout;
+pub mod level_block;
 pub mod levels;
 pub mod listing;
 pub mod numbers;
@@ -22,8 +26,10 @@ pub mod schedule;
 pub mod state;
 
 pub use books::{demand3_holds, ActualBook, PlainBook};
-pub use dispatch::{pass, show, start, Order};
+pub use calls::{copy_plan, judge, judge_list, read_plan, start, write_plan};
+pub use dispatch::{pass, show, Order};
+pub use level_block::{read_levels, write_levels};
 pub use levels::Levels;
 pub use listing::listing;
-pub use plan::{judge, judge_list, read_plan, write_plan, Judged, Task};
+pub use plan::{Judged, Task};
 pub use schedule::Schedule;

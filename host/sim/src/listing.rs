@@ -1,30 +1,43 @@
-//! 01, "The bench program": its whole output for a given standard input.
+//! 01, "The bench program", and 02, No. 1: its whole output for a given standard input, which is a
+//! level block, a plan block and passes, without gaps.
 
 use crate::bits::Bits;
 use crate::block::{block_bytes, head};
 use crate::clock::clock_after;
 use crate::dispatch::{pass, start, Order};
 use crate::layout::STATE_BYTES;
+use crate::level_block::{bytes_for_levels, read_levels};
 use crate::levels::Levels;
 use crate::plan::{count_in_range, read_plan};
 
 const LARGEST_INPUT: usize = 65_536;
 
 /// Every line ends with a newline, the last one too.
-pub fn listing(levels: &Levels, input: &[u8]) -> Vec<u8> {
-    lines(levels, input)
+pub fn listing(input: &[u8]) -> Vec<u8> {
+    lines(input)
         .into_iter()
         .map(|line| line + "\n")
         .collect::<String>()
         .into_bytes()
 }
 
-fn lines(levels: &Levels, input: &[u8]) -> Vec<String> {
+fn lines(input: &[u8]) -> Vec<String> {
     // "The bench program asks before all: is the input at most 65,536 bytes? 17."
     if input.len() > LARGEST_INPUT {
         return vec![refused(17)];
     }
-    let (block, passes) = input.split_at(bytes_for_the_reader(input));
+    // "In the bench input it precedes the plan, is cut by its count too, and ends the run if
+    // refused."
+    let (level_block, rest) = input.split_at(bytes_for_levels(input));
+    match read_levels(level_block) {
+        Ok(levels) => lines_with(&levels, rest),
+        Err(number) => vec![refused(number)],
+    }
+}
+
+/// The lines of what follows the level block.
+fn lines_with(levels: &Levels, rest: &[u8]) -> Vec<String> {
+    let (block, passes) = rest.split_at(bytes_for_the_reader(rest));
     // "If the reading is refused, the bench program prints that line and ends."
     let (tasks, judged) = match read_plan(levels, block) {
         Ok(read) => read,
@@ -38,18 +51,18 @@ fn lines(levels: &Levels, input: &[u8]) -> Vec<String> {
     let (nominal, hyperperiod) = (judged.nominal, judged.hyperperiod);
     let plan = format!("plan {} {nominal} {hyperperiod}", tasks.len());
     let mut lines = vec![plan, first];
-    add_passes(levels, passes, &mut state, &mut lines);
+    add_passes(passes, &mut state, &mut lines);
     lines
 }
 
 /// The lines of the passes, from the state of a start on.
-fn add_passes(levels: &Levels, passes: &[u8], state: &mut [u8], lines: &mut Vec<String>) {
+fn add_passes(passes: &[u8], state: &mut [u8], lines: &mut Vec<String>) {
     let mut clock = 0;
     let mut pairs = passes.chunks_exact(2);
     for pair in &mut pairs {
         let (finished, d) = unpack_pass(pair);
         // "A refused pass prints its line and the next is read."
-        match pass(levels, state, d, finished) {
+        match pass(state, d, finished) {
             Ok(order) => {
                 clock = clock_after(clock, u64::from(d));
                 lines.push(order_line(clock, order));
@@ -65,12 +78,12 @@ fn add_passes(levels: &Levels, passes: &[u8], state: &mut [u8], lines: &mut Vec<
 
 /// "The reader is given as many bytes as the count needs, or all there are if fewer, or if the
 /// count is bad." Below two bytes there is no count to see, and the reader gets all there are.
-fn bytes_for_the_reader(input: &[u8]) -> usize {
-    match head(input) {
+fn bytes_for_the_reader(rest: &[u8]) -> usize {
+    match head(rest) {
         Some((edition, count)) if count_in_range(count) => {
-            block_bytes(edition, count).min(input.len())
+            block_bytes(edition, count).min(rest.len())
         }
-        _ => input.len(),
+        _ => rest.len(),
     }
 }
 

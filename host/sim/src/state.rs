@@ -1,8 +1,9 @@
-//! 01, Blocks: the state, packed into its block and unpacked. This file knows nothing of what the
-//! numbers have to do with each other.
+//! 01, Blocks, and 02, No. 1: the state, packed into its block and unpacked. This file knows nothing
+//! of what the plan, the jobs and the order have to do with each other.
 
 use crate::job::Left;
-use crate::layout::{self, Field, ENTRIES, IDLE, STATE_BYTES};
+use crate::layout::{self, Field, ENTRIES, ENTRIES_END, IDLE, SPEEDS, STATE_BYTES};
+use crate::levels::Levels;
 use crate::plan::Task;
 
 /// What the state has of one task: the task, and how far its latest job has come.
@@ -26,6 +27,8 @@ pub struct State {
     pub clock: u64,
     pub running: Option<Running>,
     pub entries: Vec<Entry>,
+    /// The speeds that it was started with.
+    pub levels: Levels,
 }
 
 impl State {
@@ -39,8 +42,9 @@ fn all_zero(bytes: &[u8]) -> bool {
     bytes.iter().all(|byte| *byte == 0)
 }
 
-/// Unpacks a block, or nothing if it hasn't the state's length or isn't laid out as 01 has it: 1 to
-/// 16 entries, zeros where 01 has zeros, and level 0 for idle.
+/// Unpacks a block, or nothing if it hasn't the state's length or isn't laid out as the documents
+/// have it: 1 to 16 entries, zeros where there are to be zeros, level 0 for idle, and at the end a
+/// table that can be loaded.
 pub fn unpack(block: &[u8]) -> Option<State> {
     if block.len() != STATE_BYTES {
         return None;
@@ -55,14 +59,32 @@ pub fn unpack(block: &[u8]) -> Option<State> {
         entries.push(unpack_entry(block, task)?);
     }
     // "Entries past the count are zero."
-    if !all_zero(&block[layout::entry_at(count)..]) {
+    if !all_zero(&block[layout::entry_at(count)..ENTRIES_END]) {
         return None;
     }
     Some(State {
         clock: layout::CLOCK.get(block),
         running,
         entries,
+        levels: unpack_levels(block)?,
     })
+}
+
+/// "at its end the count and eight speeds of two bytes, unused ones zero".
+fn unpack_levels(block: &[u8]) -> Option<Levels> {
+    let count = layout::LEVEL_COUNT.get(block) as usize;
+    if count > SPEEDS {
+        return None;
+    }
+    let mut speeds = Vec::new();
+    for level in 0..SPEEDS {
+        speeds.push(layout::speed_of(level).get(block));
+    }
+    let (used, unused) = speeds.split_at(count);
+    if unused.iter().any(|speed| *speed != 0) {
+        return None;
+    }
+    Levels::of(used)
 }
 
 /// "task of the order (1; 255 for idle), level (1; 0 for idle)".
@@ -111,7 +133,15 @@ pub fn pack(state: &State) -> [u8; STATE_BYTES] {
     for (task, entry) in state.entries.iter().enumerate() {
         pack_entry(&mut block, task, entry);
     }
+    pack_levels(&mut block, &state.levels);
     block
+}
+
+fn pack_levels(block: &mut [u8], levels: &Levels) {
+    layout::LEVEL_COUNT.put(block, levels.count() as u64);
+    for (level, speed) in levels.speeds().iter().enumerate() {
+        layout::speed_of(level).put(block, *speed);
+    }
 }
 
 fn pack_entry(block: &mut [u8], task: usize, entry: &Entry) {

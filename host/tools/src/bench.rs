@@ -1,10 +1,10 @@
-//! The bench input: a plan block, then two bytes a pass.
+//! The bench input: a level block, a plan block, then two bytes a pass.
 
 use crate::script::{largest, Pass, Script, D_BITS};
 use sim::bits::Bits;
 use sim::block::{block_bytes, head, pack_block, take_head, Edition};
 use sim::block::{COUNT_BITS, PERIOD_BITS, WORST_BITS};
-use sim::levels::Levels;
+use sim::level_block::{self, level_block_bytes, level_count, pack_levels, read_levels};
 use sim::plan::{judge_list, Task};
 use std::fmt;
 
@@ -16,6 +16,9 @@ const FINISHED: u16 = 1 << D_BITS;
 /// Why a bench input can't be said in text.
 #[derive(Clone, Copy, PartialEq, Eq, Debug)]
 pub enum Why {
+    Empty,
+    CutLevels { count: u64, needed: usize },
+    LevelClosingBits,
     TooShort { length: usize },
     Edition(u64),
     CutBlock { count: u64, needed: usize },
@@ -33,9 +36,18 @@ pub struct BytesError {
 impl fmt::Display for Why {
     fn fmt(&self, out: &mut fmt::Formatter) -> fmt::Result {
         match self {
+            Why::Empty => write!(out, "the input is empty; it begins with a level block"),
+            Why::CutLevels { count, needed } => write!(
+                out,
+                "the input ends here, within the level block: its count is {count}, so it needs \
+                 {needed} bytes"
+            ),
+            Why::LevelClosingBits => {
+                write!(out, "the closing bits of the level block are not zero")
+            }
             Why::TooShort { length } => write!(
                 out,
-                "the input ends here, before the count: length {length}, at least 2 needed"
+                "the input ends here, before the plan's count: length {length}, at least 2 needed"
             ),
             Why::Edition(edition) => {
                 write!(out, "the edition is {edition}, not {}", accepted_editions())
@@ -60,8 +72,13 @@ impl fmt::Display for BytesError {
 /// The bench input that says this. Every number must fit its field.
 pub fn to_bytes(script: &Script) -> Vec<u8> {
     debug_assert!(fits(script));
+    let mut bytes = level_block_of(script);
     let edition = Edition::of_tasks(&script.tasks);
-    let mut bytes = pack_block(edition, script.tasks.len() as u64, &script.tasks);
+    bytes.extend(pack_block(
+        edition,
+        script.tasks.len() as u64,
+        &script.tasks,
+    ));
     for pass in &script.passes {
         bytes.extend(pack_pass(*pass));
     }
@@ -70,9 +87,13 @@ pub fn to_bytes(script: &Script) -> Vec<u8> {
 
 /// Reads a bench input, whether or not the dispatcher would take it.
 pub fn from_bytes(input: &[u8]) -> Result<Script, BytesError> {
-    let (block, rest) = split(input);
-    let tasks = unpack_block(block)?;
-    let pairs = rest.chunks_exact(2);
+    let parts = split(input);
+    let speeds = unpack_levels(parts.levels)?;
+    let tasks = unpack_block(parts.plan).map_err(|error| BytesError {
+        byte: parts.levels.len() + error.byte,
+        ..error
+    })?;
+    let pairs = parts.passes.chunks_exact(2);
     if !pairs.remainder().is_empty() {
         return Err(BytesError {
             byte: input.len() - 1,
@@ -80,24 +101,51 @@ pub fn from_bytes(input: &[u8]) -> Result<Script, BytesError> {
         });
     }
     let passes = pairs.map(unpack_pass).collect();
-    Ok(Script { tasks, passes })
+    Ok(Script {
+        speeds,
+        tasks,
+        passes,
+    })
 }
 
 /// The number that the bench program refuses the whole input with, if it does.
-pub fn refusal(levels: &Levels, script: &Script) -> Option<u32> {
+pub fn refusal(script: &Script) -> Option<u32> {
     if to_bytes(script).len() > LARGEST_INPUT {
         return Some(17);
     }
-    judge_list(levels, &script.tasks).err()
+    match read_levels(&level_block_of(script)) {
+        Ok(levels) => judge_list(&levels, &script.tasks).err(),
+        Err(number) => Some(number),
+    }
 }
 
-/// The plan block, as far as it is there, and what follows it.
-pub fn split(input: &[u8]) -> (&[u8], &[u8]) {
-    let length = match head(input) {
+fn level_block_of(script: &Script) -> Vec<u8> {
+    pack_levels(script.speeds.len() as u64, &script.speeds)
+}
+
+/// The two blocks, each as far as it is there, and what follows them.
+#[derive(Clone, Copy, PartialEq, Eq, Debug)]
+pub struct Parts<'a> {
+    pub levels: &'a [u8],
+    pub plan: &'a [u8],
+    pub passes: &'a [u8],
+}
+
+/// Each block is cut by its own count, a bad one too; what the bench program would be given more of
+/// then, it refuses for that count.
+pub fn split(input: &[u8]) -> Parts<'_> {
+    let length = level_count(input).map_or(0, level_block_bytes);
+    let (levels, rest) = input.split_at(length.min(input.len()));
+    let length = match head(rest) {
         Some((edition, count)) => block_bytes(edition, count),
-        None => input.len(),
+        None => rest.len(),
     };
-    input.split_at(length.min(input.len()))
+    let (plan, passes) = rest.split_at(length.min(rest.len()));
+    Parts {
+        levels,
+        plan,
+        passes,
+    }
 }
 
 /// The first bit says finished, the other 15 are d.
@@ -117,7 +165,10 @@ fn pack_pass(pass: Pass) -> [u8; 2] {
 fn fits(script: &Script) -> bool {
     let task_fits =
         |task: &Task| task.period <= largest(PERIOD_BITS) && task.worst <= largest(WORST_BITS);
-    script.tasks.len() as u64 <= largest(COUNT_BITS)
+    let speed_fits = |speed: &u64| *speed <= largest(level_block::SPEED_BITS);
+    script.speeds.len() as u64 <= largest(level_block::COUNT_BITS)
+        && script.speeds.iter().all(speed_fits)
+        && script.tasks.len() as u64 <= largest(COUNT_BITS)
         && script.tasks.iter().all(task_fits)
         && script
             .passes
@@ -132,6 +183,30 @@ fn accepted_editions() -> String {
         .map(|edition| edition.0.to_string())
         .collect();
     numbers.join(" or ")
+}
+
+/// Takes a level block apart, in the order of document 02's questions.
+fn unpack_levels(block: &[u8]) -> Result<Vec<u64>, BytesError> {
+    let at = |byte, why| Err(BytesError { byte, why });
+    let length = block.len();
+    let count = match level_count(block) {
+        Some(count) => count,
+        None => return at(0, Why::Empty),
+    };
+    let needed = level_block_bytes(count);
+    if length < needed {
+        return at(length, Why::CutLevels { count, needed });
+    }
+    let mut bits = Bits::unpack(block);
+    bits.take(level_block::COUNT_BITS);
+    let mut speeds = Vec::new();
+    for _ in 0..count {
+        speeds.push(bits.take(level_block::SPEED_BITS));
+    }
+    if !bits.all_zero() {
+        return at(length - 1, Why::LevelClosingBits);
+    }
+    Ok(speeds)
 }
 
 /// Takes a plan block apart, in the order of document 01's questions.

@@ -1,4 +1,4 @@
-//! Document 01's refusal numbers in words, for warnings and for the picture.
+//! The documents' refusal numbers in words, for warnings and for the picture.
 
 pub fn meaning(number: u32) -> &'static str {
     match number {
@@ -19,6 +19,9 @@ pub fn meaning(number: u32) -> &'static str {
         15 => "the clock would go past its largest",
         16 => "an odd byte is left",
         17 => "the input is longer than 65,536 bytes",
-        _ => "not a refusal of document 01",
+        18 => "the level block is empty, or its count is not 1 to 8",
+        19 => "the level block's length is not the count's, or its closing bits are not zero",
+        20 => "a speed is not 1 to 1,000, or not above the one before it",
+        _ => "not a refusal of the documents",
     }
 }

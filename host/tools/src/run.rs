@@ -6,6 +6,7 @@ use crate::script::Pass;
 use sim::dispatch::{pass, start, Order};
 use sim::job::time_needed;
 use sim::layout::STATE_BYTES;
+use sim::level_block::read_levels;
 use sim::levels::Levels;
 use sim::plan::{read_plan, Judged, Task};
 use sim::state::unpack;
@@ -65,15 +66,17 @@ pub struct Run {
 }
 
 /// The run of a bench input, or the number that the whole input is refused with.
-pub fn follow(levels: &Levels, input: &[u8]) -> Result<Run, u32> {
+pub fn follow(input: &[u8]) -> Result<Run, u32> {
     if input.len() > LARGEST_INPUT {
         return Err(17);
     }
-    let (block, rest) = split(input);
-    let (tasks, judged) = read_plan(levels, block)?;
+    let parts = split(input);
+    let levels = read_levels(parts.levels)?;
+    let (tasks, judged) = read_plan(&levels, parts.plan)?;
     let mut state = [0; STATE_BYTES];
+    let order = start(&levels, parts.plan, &mut state)?;
     let mut run = Run {
-        levels: levels.clone(),
+        levels,
         tasks,
         judged,
         stretches: Vec::new(),
@@ -81,9 +84,9 @@ pub fn follow(levels: &Levels, input: &[u8]) -> Result<Run, u32> {
         refusals: Vec::new(),
         accepted: 0,
         clock: 0,
-        order: start(levels, block, &mut state)?,
+        order,
     };
-    let mut pairs = rest.chunks_exact(2);
+    let mut pairs = parts.passes.chunks_exact(2);
     for pair in &mut pairs {
         run.put(unpack_pass(pair), &mut state);
     }
@@ -116,7 +119,7 @@ impl Run {
     /// Puts a pass to the simulator and enters what came of it.
     fn put(&mut self, told: Pass, state: &mut [u8]) {
         let needed = self.ticks_needed(state);
-        let next = match pass(&self.levels, state, told.d, told.finished) {
+        let next = match pass(state, told.d, told.finished) {
             Ok(next) => next,
             Err(number) => return self.refuse(number),
         };

@@ -1,6 +1,7 @@
-//! A plan and passes, as both the text form and the bench input say them.
+//! Speeds, a plan and passes, as both the text form and the bench input say them.
 
 use sim::plan::Task;
+use sim::Levels;
 
 /// How many bits a pass has for its ticks.
 pub const D_BITS: usize = 15;
@@ -18,8 +19,20 @@ pub struct Pass {
 }
 
 /// Every number in it fits its field. Nothing else is asked: the dispatcher may refuse it all.
-#[derive(Clone, PartialEq, Eq, Debug, Default)]
+#[derive(Clone, PartialEq, Eq, Debug)]
 pub struct Script {
+    pub speeds: Vec<u64>,
     pub tasks: Vec<Task>,
     pub passes: Vec<Pass>,
+}
+
+impl Default for Script {
+    /// 01's speeds, no task and no pass: what a text that says nothing says.
+    fn default() -> Script {
+        Script {
+            speeds: Levels::base().speeds().to_vec(),
+            tasks: Vec::new(),
+            passes: Vec::new(),
+        }
+    }
 }

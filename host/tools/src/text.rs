@@ -1,8 +1,9 @@
-//! The text form: `task PERIOD WORST` lines, then `pass D` and `finish D` lines. `#` starts a
-//! comment, and blank lines say nothing.
+//! The text form: a `speeds S1 S2 ..` line if the speeds are not 01's, `task PERIOD WORST` lines, then
+//! `pass D` and `finish D` lines. `#` starts a comment, and blank lines say nothing.
 
 use crate::script::{largest, Pass, Script, D_BITS};
 use sim::block::{COUNT_BITS, PERIOD_BITS, WORST_BITS};
+use sim::level_block::{self, SPEED_BITS};
 use sim::plan::Task;
 use std::fmt;
 
@@ -14,6 +15,8 @@ pub enum Mistake {
     NotANumber(&'static str, String),
     OutOfRange(&'static str, String, usize),
     LeftOver(String),
+    TooManySpeeds,
+    SpeedsNotFirst,
     TooManyTasks,
     TaskAfterPass,
 }
@@ -30,7 +33,7 @@ impl fmt::Display for Mistake {
         match self {
             Mistake::UnknownWord(word) => write!(
                 out,
-                "unknown word {word:?}; a line begins with task, pass or finish"
+                "unknown word {word:?}; a line begins with speeds, task, pass or finish"
             ),
             Mistake::Missing(field) => write!(out, "the {field} is missing"),
             Mistake::NotANumber(field, word) => {
@@ -42,14 +45,20 @@ impl fmt::Display for Mistake {
                 largest(*bits)
             ),
             Mistake::LeftOver(word) => write!(out, "{word:?} is one word too many"),
-            Mistake::TooManyTasks => write!(
-                out,
-                "one task too many: the {COUNT_BITS} bits of the count hold 0 to {}",
-                largest(COUNT_BITS)
-            ),
+            Mistake::TooManySpeeds => too_many(out, "speed", level_block::COUNT_BITS),
+            Mistake::SpeedsNotFirst => write!(out, "the speeds come once, and before all else"),
+            Mistake::TooManyTasks => too_many(out, "task", COUNT_BITS),
             Mistake::TaskAfterPass => write!(out, "a task after a pass; all tasks come first"),
         }
     }
+}
+
+fn too_many(out: &mut fmt::Formatter, what: &str, bits: usize) -> fmt::Result {
+    let most = largest(bits);
+    write!(
+        out,
+        "one {what} too many: the {bits} bits of the count hold 0 to {most}"
+    )
 }
 
 impl fmt::Display for TextError {
@@ -61,18 +70,28 @@ impl fmt::Display for TextError {
 /// Reads the text form. The first mistake ends it.
 pub fn parse(text: &str) -> Result<Script, TextError> {
     let mut script = Script::default();
+    let mut first = true;
     for (place, line) in text.lines().enumerate() {
-        enter_line(&mut script, line).map_err(|mistake| TextError {
+        let words: Vec<&str> = before_comment(line).split_whitespace().collect();
+        enter_line(&mut script, &words, first).map_err(|mistake| TextError {
             line: place + 1,
             mistake,
         })?;
+        first = first && words.is_empty();
     }
     Ok(script)
 }
 
-/// Writes the text form: the tasks, a blank line, the passes.
+/// Writes the text form: the speeds if they are not 01's, the tasks, a blank line, the passes.
 pub fn write(script: &Script) -> String {
     let mut text = String::new();
+    if script.speeds != Script::default().speeds {
+        text += "speeds";
+        for speed in &script.speeds {
+            text += &format!(" {speed}");
+        }
+        text += "\n";
+    }
     for task in &script.tasks {
         text += &format!("task {} {}\n", task.period, task.worst);
     }
@@ -86,10 +105,13 @@ pub fn write(script: &Script) -> String {
     text
 }
 
-fn enter_line(script: &mut Script, line: &str) -> Result<(), Mistake> {
-    let mut words = before_comment(line).split_whitespace();
+/// Enters what the words of a line say. No line before the first has said anything.
+fn enter_line(script: &mut Script, words: &[&str], first: bool) -> Result<(), Mistake> {
+    let mut words = words.iter().copied();
     match words.next() {
         None => return Ok(()),
+        Some("speeds") if !first => return Err(Mistake::SpeedsNotFirst),
+        Some("speeds") => enter_speeds(script, &mut words)?,
         Some("task") => enter_task(script, &mut words)?,
         Some("pass") => enter_pass(script, &mut words, false)?,
         Some("finish") => enter_pass(script, &mut words, true)?,
@@ -103,6 +125,22 @@ fn enter_line(script: &mut Script, line: &str) -> Result<(), Mistake> {
 
 fn before_comment(line: &str) -> &str {
     line.split('#').next().unwrap_or("")
+}
+
+/// As many as there are words; none at all is a count of 0.
+fn enter_speeds<'a>(
+    script: &mut Script,
+    words: &mut impl Iterator<Item = &'a str>,
+) -> Result<(), Mistake> {
+    script.speeds.clear();
+    for word in words {
+        if script.speeds.len() as u64 == largest(level_block::COUNT_BITS) {
+            return Err(Mistake::TooManySpeeds);
+        }
+        let speed = number(&mut [word].into_iter(), "speed", SPEED_BITS)?;
+        script.speeds.push(speed);
+    }
+    Ok(())
 }
 
 fn enter_task<'a>(

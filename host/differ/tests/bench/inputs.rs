@@ -9,15 +9,41 @@ use sim::random::plans::{
     edge_list, full_plan, plan_above_largest_hyperperiod, plan_at_largest_hyperperiod,
     plan_at_level, plan_at_level_within, plan_one_over, SMALL_BASES,
 };
+use sim::random::tables::{
+    bad_level_block, damaged_level_block, levels_of_count, some_or_base_levels,
+};
 use sim::random::Random;
+use sim::write_levels;
 
-/// 01's example: the bench plan and six passes.
-const EXAMPLE: [u8; 27] = [
-    0x11, 0x80, 0x05, 0x00, 0x0c, 0x80, 0x00, 0x50, 0x00, 0xc8, 0x00, 0x0f, 0x00, 0x12, 0xc0, 0x80,
-    0x01, 0x80, 0x07, 0x80, 0x02, 0x80, 0x04, 0x80, 0x04, 0x00, 0x02,
+/// 01's example: its eight speeds, the bench plan and six passes.
+const EXAMPLE: [u8; 38] = [
+    0x80, 0x28, 0x14, 0x07, 0x82, 0x80, 0xc8, 0x3c, 0x14, 0x06, 0x40, 0x11, 0x80, 0x05, 0x00, 0x0c,
+    0x80, 0x00, 0x50, 0x00, 0xc8, 0x00, 0x0f, 0x00, 0x12, 0xc0, 0x80, 0x01, 0x80, 0x07, 0x80, 0x02,
+    0x80, 0x04, 0x80, 0x04, 0x00, 0x02,
 ];
 
+/// Where its level block and its plan block end.
+const LEVELS_END: usize = 11;
+const PLAN_END: usize = 26;
+
 const LARGEST_INPUT: usize = 65_536;
+
+fn bench_plan() -> Vec<Task> {
+    let (levels, plan) = EXAMPLE[..PLAN_END].split_at(LEVELS_END);
+    sim::read_plan(levels, plan).unwrap().0
+}
+
+/// Any plan of a level that the simulator accepts.
+fn some_plan(random: &mut Random, levels: &Levels, level: usize, round: usize) -> Vec<Task> {
+    match round % 3 {
+        0 => plan_at_level(random, levels, level),
+        1 => full_plan(random, levels, level),
+        _ => {
+            let base = random.pick(&SMALL_BASES);
+            plan_at_level_within(random, levels, level, base)
+        }
+    }
+}
 
 fn one_task(period: u64, worst: u64) -> Vec<Task> {
     vec![Task { period, worst }]
@@ -35,39 +61,56 @@ fn input_of_length(random: &mut Random, levels: &Levels, tasks: &[Task], length:
 #[test]
 fn runs_at_every_level() {
     let levels = Levels::base();
-    let mut both = Both::new(&levels);
+    let mut both = Both::new();
     let mut random = Random::new(2_101);
-    for round in 0..1_200 {
-        let level = round % levels.count();
-        let plan = match round % 3 {
-            0 => plan_at_level(&mut random, &levels, level),
-            1 => full_plan(&mut random, &levels, level),
-            _ => {
-                let base = random.pick(&SMALL_BASES);
-                plan_at_level_within(&mut random, &levels, level, base)
-            }
-        };
+    for round in 0..800 {
+        let plan = some_plan(&mut random, &levels, round % levels.count(), round);
         let passes = random.between(0, 120) as usize;
         let listed = both.list(&bench_input(&mut random, &levels, &plan, passes));
         assert!(listed.lines().count() >= 2 + passes);
     }
-    both.saw("runs at every level", 1_200);
-    both.wants("plan", 1_200);
-    both.wants("run", 30_000);
-    both.wants("idle", 3_000);
+    both.saw("runs at every level", 800);
+    both.wants("plan", 800);
+    both.wants("run", 20_000);
+    both.wants("idle", 2_000);
     for number in [11, 12, 14] {
         both.wants(&format!("refused {number}"), 500);
     }
     both.wants("refused 13", 50);
-    both.wants("refused 16", 100);
+    both.wants("refused 16", 60);
 }
 
-/// Would catch an input read past its end or short of it, a plan block that is given the passes too,
-/// and an odd byte that is let go.
+/// The same with the speeds of other boards: would catch a program that has 01's for all, or cuts the
+/// level block at another place than its count says.
+#[test]
+fn runs_with_any_table() {
+    let mut both = Both::new();
+    let mut random = Random::new(2_107);
+    for round in 0..800 {
+        let levels = levels_of_count(&mut random, 1 + round % 8);
+        let level = random.place(levels.count());
+        let plan = some_plan(&mut random, &levels, level, round);
+        let passes = random.between(0, 120) as usize;
+        let listed = both.list(&bench_input(&mut random, &levels, &plan, passes));
+        assert!(listed.lines().count() >= 2 + passes);
+    }
+    both.saw("runs with any table", 800);
+    both.wants("plan", 800);
+    both.wants("run", 20_000);
+    both.wants("idle", 2_000);
+    for number in [11, 12, 14] {
+        both.wants(&format!("refused {number}"), 500);
+    }
+    both.wants("refused 13", 50);
+    both.wants("refused 16", 60);
+}
+
+/// Would catch an input read past its end or short of it, a level block that is given the plan too, a
+/// plan block that is given the passes too, and an odd byte that is let go.
 #[test]
 fn every_cut() {
     let levels = Levels::base();
-    let mut both = Both::new(&levels);
+    let mut both = Both::new();
     let mut random = Random::new(2_102);
     for length in 0..=EXAMPLE.len() {
         both.list(&EXAMPLE[..length]);
@@ -76,13 +119,23 @@ fn every_cut() {
     while longest.len() < 16 {
         longest = plan_at_level(&mut random, &levels, 3);
     }
-    for count in [1, 2, 9, 16] {
-        let input = bench_input(&mut random, &levels, &longest[..count], 6);
+    for (count, fastest) in [(1, 100), (2, 1_000), (9, 500), (16, 999)] {
+        // With 1, 2, 3 and 8 speeds, the fastest of which can do it.
+        let below = match count {
+            1 => &[][..],
+            2 => &[1],
+            9 => &[3, 77],
+            _ => &[5, 7, 9, 20, 44, 90, 313],
+        };
+        let board = Levels::new(&[below, &[fastest]].concat());
+        let input = bench_input(&mut random, &board, &longest[..count], 6);
         for length in 0..=input.len() {
             both.list(&input[..length]);
         }
     }
-    both.saw("cuts", 200);
+    both.saw("cuts", 230);
+    both.wants("refused 18", 5);
+    both.wants("refused 19", 20);
     both.wants("refused 1", 10);
     both.wants("refused 4", 100);
     both.wants("refused 16", 20);
@@ -92,31 +145,32 @@ fn every_cut() {
 /// Would catch a bit of the input that is not looked at or is taken for another.
 #[test]
 fn every_flipped_bit() {
-    let levels = Levels::base();
-    let mut both = Both::new(&levels);
+    let mut both = Both::new();
     let mut input = EXAMPLE;
     for place in 0..8 * input.len() {
         input[place / 8] ^= 0x80 >> (place % 8);
         both.list(&input);
         input[place / 8] ^= 0x80 >> (place % 8);
     }
-    both.saw("flipped bits", 216);
+    both.saw("flipped bits", 304);
     for said in ["plan", "run", "idle"] {
         both.wants(said, 100);
     }
-    for number in [2, 8, 12, 13, 14] {
+    for number in [2, 8, 12, 13, 14, 19, 20] {
         both.wants(&format!("refused {number}"), 4);
     }
+    // A count of 0 or of 9 and more: with one flipped bit of 8 each.
+    both.wants("refused 18", 4);
 }
 
 /// Would catch a refused plan that doesn't end the listing, or that is refused with another number.
 #[test]
 fn damaged_plans() {
-    let levels = Levels::base();
-    let mut both = Both::new(&levels);
+    let mut both = Both::new();
     let mut random = Random::new(2_103);
     for round in 0..900 {
-        let level = round % levels.count();
+        let levels = some_or_base_levels(&mut random);
+        let level = random.place(levels.count());
         let plan = match round % 5 {
             0 => plan_one_over(&mut random, &levels, level),
             1 => plan_at_largest_hyperperiod(&mut random, &levels),
@@ -124,10 +178,11 @@ fn damaged_plans() {
             3 => edge_list(&mut random, &levels),
             _ => plan_at_level(&mut random, &levels, level),
         };
-        let mut input = block_of(&plan);
+        let mut block = block_of(&plan);
         if round % 2 == 0 {
-            input = damaged_block(&mut random, &input);
+            block = damaged_block(&mut random, &block);
         }
+        let mut input = [write_levels(&levels), block].concat();
         for _ in 0..random.below(24) {
             let any = random.number() as u8;
             input.push(random.pick(&[0x00, 0x80, 0x01, 0x02, any]));
@@ -141,16 +196,53 @@ fn damaged_plans() {
     both.wants("plan", 200);
 }
 
+/// Would catch a refused level block that doesn't end the listing, is refused with another number, or
+/// is cut at another place than its count says.
+#[test]
+fn damaged_levels() {
+    let mut both = Both::new();
+    let mut random = Random::new(2_108);
+    for round in 0..900 {
+        let levels = some_or_base_levels(&mut random);
+        let level = random.place(levels.count());
+        let plan = some_plan(&mut random, &levels, level, round);
+        let whole = bench_input(&mut random, &levels, &plan, 8);
+        let (own, rest) = whole.split_at(write_levels(&levels).len());
+        let block = match round % 4 {
+            0 => damaged_level_block(&mut random, own),
+            kind => bad_level_block(&mut random, 17 + kind as u32),
+        };
+        let listed = both.list(&[&block[..], rest].concat());
+        // Whatever follows, a bad count or a bad speed ends it.
+        if round % 4 == 1 && !block.is_empty() {
+            assert_eq!(listed, "refused 18\n");
+        }
+        if round % 4 == 3 {
+            assert_eq!(listed, "refused 20\n");
+        }
+        // Without anything to follow, the block has all there is.
+        let alone = both.list(&block);
+        if round % 4 == 1 {
+            assert_eq!(alone, "refused 18\n");
+        }
+    }
+    both.saw("damaged levels", 1_800);
+    for number in [18, 19, 20] {
+        both.wants(&format!("refused {number}"), 200);
+    }
+    both.wants("refused 1", 50);
+    both.wants("plan", 10);
+}
+
 /// Would catch an end on some bytes, and a count or an edition let through.
 #[test]
 fn rubbish() {
-    let levels = Levels::base();
-    let mut both = Both::new(&levels);
+    let mut both = Both::new();
     let mut random = Random::new(2_104);
     for first in 0..=255 {
         both.list(&[first]);
     }
-    for _ in 0..400 {
+    for round in 0..600 {
         let length = random.below(200) as usize;
         let mut input = vec![0; length];
         input.fill_with(|| random.number() as u8);
@@ -158,10 +250,14 @@ fn rubbish() {
             // Most others are refused at once.
             *first = 0x10 | *first & 0x0f;
         }
+        if round % 3 > 0 {
+            input = [&EXAMPLE[..LEVELS_END], &input].concat();
+        }
         both.list(&input);
     }
-    both.saw("rubbish", 650);
-    both.wants("refused 1", 256);
+    both.saw("rubbish", 850);
+    both.wants("refused 18", 128);
+    both.wants("refused 19", 128);
     both.wants("refused 3", 100);
 }
 
@@ -170,14 +266,14 @@ fn rubbish() {
 #[test]
 fn the_largest_inputs() {
     let levels = Levels::base();
-    let mut both = Both::new(&levels);
+    let mut both = Both::new();
     let mut random = Random::new(2_105);
-    let plan_of_15 = &EXAMPLE[..15];
-    let bench: Vec<Task> = sim::read_plan(&levels, plan_of_15).unwrap().0;
-    // The bench plan's block leaves an odd byte, a single task's doesn't.
-    for plan in [bench, one_task(40, 300), one_task(12, 600)] {
+    // The blocks of the bench plan leave an odd byte at one length, those of a single task at the
+    // other.
+    for plan in [bench_plan(), one_task(40, 300), one_task(12, 600)] {
         for length in [LARGEST_INPUT - 1, LARGEST_INPUT] {
-            let odd = (length - block_bytes(Edition::FIRST, plan.len() as u64)) % 2 == 1;
+            let blocks = LEVELS_END + block_bytes(Edition::FIRST, plan.len() as u64);
+            let odd = (length - blocks) % 2 == 1;
             let listed = both.list(&input_of_length(&mut random, &levels, &plan, length));
             assert_eq!(listed.ends_with("refused 16\n"), odd);
             assert!(listed.lines().count() > 32_000);
@@ -201,10 +297,10 @@ fn the_largest_inputs() {
 /// Would catch a clock or a hold that is printed wrong from some count of digits on.
 #[test]
 fn long_clocks() {
-    let levels = Levels::base();
-    let mut both = Both::new(&levels);
+    let mut both = Both::new();
     // A tick of work, then idle until the next arrival: 65,535 ticks with three passes.
-    let mut input = block_of(&one_task(65_535, 10));
+    let plan = block_of(&one_task(65_535, 10));
+    let mut input = [&EXAMPLE[..LEVELS_END], &plan].concat();
     let period: [u16; 3] = [0x8001, 0x7fff, 0x7fff];
     while input.len() + 6 <= LARGEST_INPUT {
         for pass in period {
@@ -213,7 +309,7 @@ fn long_clocks() {
     }
     let listed = both.list(&input);
     assert!(
-        listed.ends_with("\n715707735 run 0 0 1\n"),
+        listed.ends_with("\n715576665 run 0 0 1\n"),
         "{}",
         &listed[listed.len() - 40..]
     );
@@ -226,19 +322,19 @@ fn long_clocks() {
 #[test]
 fn inputs_in_pieces() {
     let levels = Levels::base();
-    let mut both = Both::new(&levels);
+    let mut both = Both::new();
     let mut random = Random::new(2_106);
     for size in 1..=EXAMPLE.len() {
         both.list_in_pieces(&EXAMPLE, size);
     }
-    let bench: Vec<Task> = sim::read_plan(&levels, &EXAMPLE[..15]).unwrap().0;
+    let bench = bench_plan();
     for size in [4_095, 4_096, 10_000, 65_535, 65_536] {
         for length in [LARGEST_INPUT, LARGEST_INPUT + 1] {
             let input = input_of_length(&mut random, &levels, &bench, length);
             both.list_in_pieces(&input, size);
         }
     }
-    both.saw("inputs in pieces", 37);
+    both.saw("inputs in pieces", 48);
     both.wants("refused 17", 5);
-    both.wants("plan", 32);
+    both.wants("plan", 43);
 }

@@ -1,6 +1,6 @@
 //! Runs the bench program, and holds what it writes to the simulator's listing.
 
-use sim::{listing, Levels};
+use sim::listing;
 use std::collections::BTreeMap;
 use std::fs::File;
 use std::io::{ErrorKind, Write};
@@ -78,20 +78,15 @@ pub fn text(bytes: &[u8]) -> String {
 }
 
 /// Counts the inputs put to both sides, and the lines on which they agreed, by what they say.
+#[derive(Default)]
 pub struct Both {
-    /// The speeds that the simulator is handed.
-    levels: Levels,
     inputs: u64,
     lines: BTreeMap<String, u64>,
 }
 
 impl Both {
-    pub fn new(levels: &Levels) -> Both {
-        Both {
-            levels: levels.clone(),
-            inputs: 0,
-            lines: BTreeMap::new(),
-        }
+    pub fn new() -> Both {
+        Both::default()
     }
 
     /// The program's listing of the input, which must be the simulator's byte by byte.
@@ -102,7 +97,7 @@ impl Both {
 
     #[track_caller]
     pub fn list_in_pieces(&mut self, input: &[u8], size: usize) -> String {
-        let wanted = text(&listing(&self.levels, input));
+        let wanted = text(&listing(input));
         let got = text(&from_pipe(input, size));
         if got != wanted {
             panic!("{}", first_difference(input, &got, &wanted));

@@ -43,7 +43,7 @@ fn every_cut_and_every_tail() {
             }
         }
     }
-    both.saw("cuts and tails", 6_000);
+    both.saw("cuts and tails", 12_000);
     both.wants(Call::Read, ACCEPTED, 128);
     both.wants(Call::Read, 4, 5_000);
     both.wants(Call::Copy, 4, 5_000);
@@ -72,7 +72,7 @@ fn every_single_flipped_bit() {
             }
         }
     }
-    both.saw("flipped bits", 40_000);
+    both.saw("flipped bits", 81_000);
     for number in [ACCEPTED, 2, 3, 4, 5, 6, 7, 8] {
         both.wants(Call::Read, number, 30);
         both.wants(Call::Copy, number, 30);
@@ -104,7 +104,7 @@ fn every_pattern_of_closing_bits() {
     }
     // 3 of them for each odd count, 7 for each even one.
     assert_eq!(singles, 8 * 3 + 8 * 7);
-    both.saw("closing bits", 2_000);
+    both.saw("closing bits", 4_300);
     both.wants(Call::Read, ACCEPTED, 16);
     both.wants(Call::Read, 6, 16);
     both.wants(Call::Read, 5, 2_000);
@@ -132,7 +132,7 @@ fn every_edition_count_and_length() {
             assert_eq!(read.is_ok(), right);
         }
     }
-    both.saw("editions, counts and lengths", 39_000);
+    both.saw("editions, counts and lengths", 79_000);
     both.wants(Call::Read, ACCEPTED, 16);
     both.wants(Call::Read, 1, 1_000);
     both.wants(Call::Read, 2, 30_000);
@@ -163,7 +163,7 @@ fn every_pair_of_first_bytes() {
         }
         let _ = both.read(&block);
     }
-    both.saw("first bytes", 65_536);
+    both.saw("first bytes", 65_000);
     both.wants(Call::Read, ACCEPTED, 100);
     both.wants(Call::Read, 2, 15 * 4_096);
     both.wants(Call::Read, 3, 16 * 128);
@@ -174,11 +174,12 @@ fn every_pair_of_first_bytes() {
 /// number.
 #[test]
 fn damaged_blocks() {
-    let levels = Levels::base();
-    let mut both = Both::new(&levels);
+    let mut both = Both::new(&Levels::base());
     let mut random = Random::new(205);
-    for round in 0..4_000 {
-        let tasks = plan_at_level(&mut random, &levels, round % levels.count());
+    for _ in 0..4_000 {
+        let levels = both.load_some(&mut random);
+        let level = random.place(levels.count());
+        let tasks = plan_at_level(&mut random, &levels, level);
         let block = block_of(&tasks);
         for _ in 0..8 {
             let damaged = damaged_block(&mut random, &block);
@@ -187,7 +188,7 @@ fn damaged_blocks() {
             let _ = put_block(&mut both, &mut random, &twice);
         }
     }
-    both.saw("damaged blocks", 64_000);
+    both.saw("damaged blocks", 120_000);
     for number in [ACCEPTED, 1, 2, 3, 4, 5, 6, 7, 8] {
         both.wants(Call::Read, number, 100);
         both.wants(Call::Copy, number, 100);

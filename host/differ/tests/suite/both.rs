@@ -1,11 +1,13 @@
 //! One call put to both sides: the proved library and the simulator must answer the same and leave
 //! the same bytes.
 
+use crate::lent::{Lent, MARGIN, MARKS};
 use differ::proved::{self, Judged};
 use sim::levels::Levels;
 use sim::plan::{self, Task};
+use sim::random::tables::some_or_base_levels;
+use sim::random::Random;
 use std::collections::BTreeMap;
-use std::fmt::Arguments;
 
 /// A plan has so many places.
 pub const PLACES: usize = 16;
@@ -13,14 +15,9 @@ pub const PLACES: usize = 16;
 /// Stands for "accepted" where else a refusal's number stands.
 pub const ACCEPTED: u32 = 0;
 
-/// Bytes on each side of a lent buffer that no call may reach.
-pub const MARGIN: usize = 16;
-
-/// Every bit of a buffer is marked once as set and once as clear, so no store can pass unseen.
-pub const MARKS: [u8; 2] = [0xa5, 0x5a];
-
 #[derive(Clone, Copy, PartialEq, Eq, PartialOrd, Ord, Debug)]
 pub enum Call {
+    Levels,
     Judge,
     Read,
     Write,
@@ -30,27 +27,74 @@ pub enum Call {
     Show,
 }
 
+/// The calls that take a level block.
+pub const WITH_LEVELS: [Call; 6] = [
+    Call::Levels,
+    Call::Judge,
+    Call::Read,
+    Call::Write,
+    Call::Copy,
+    Call::Start,
+];
+
 /// Puts calls to both sides, and counts the answers on which they agreed.
 pub struct Both {
-    /// The speeds that the simulator is handed.
-    pub levels: Levels,
+    /// The level block that both sides are handed.
+    pub level_block: Vec<u8>,
     seen: BTreeMap<(Call, u32), u64>,
 }
 
 impl Both {
     pub fn new(levels: &Levels) -> Both {
         Both {
-            levels: levels.clone(),
+            level_block: sim::write_levels(levels),
             seen: BTreeMap::new(),
         }
+    }
+
+    /// From now on the calls get the block of these speeds.
+    pub fn load(&mut self, levels: &Levels) {
+        self.level_block = sim::write_levels(levels);
+    }
+
+    /// The same with any speeds, now and then 01's.
+    pub fn load_some(&mut self, random: &mut Random) -> Levels {
+        let levels = some_or_base_levels(random);
+        self.load(&levels);
+        levels
+    }
+
+    /// The level block as a call is lent it. The places change with the calls made so far.
+    pub fn lent_levels(&self, nth: u64) -> Lent<u8> {
+        Lent::new(nth + 5, &self.level_block)
+    }
+
+    /// Reads the level block, and returns how many levels it has.
+    #[track_caller]
+    pub fn read_levels(&mut self) -> Result<u64, u32> {
+        let block = &self.level_block;
+        let wanted = sim::read_levels(block).map(|levels| levels.count() as u64);
+        let mut lent = self.lent_levels(self.times(Call::Levels));
+        let answer = proved::read_levels(lent.slice());
+        assert_eq!(answer, wanted, "levels {block:02x?}");
+        lent.wants(block, || format!("levels {block:02x?}"));
+        self.count(Call::Levels, &answer);
+        answer
     }
 
     /// Judges the plan of this count and these numbers.
     #[track_caller]
     pub fn judge(&mut self, count: usize, numbers: &[u32]) -> Result<Judged, u32> {
-        let wanted = plan::judge(&self.levels, count as u64, &tasks_in(numbers)).map(as_judged);
-        let answer = proved::judge(count, numbers);
-        assert_eq!(answer, wanted, "judging {count} tasks, {numbers:?}");
+        let block = &self.level_block;
+        let what = || format!("judging {count} tasks, {numbers:?}, levels {block:02x?}");
+        let wanted = sim::judge(block, count as u64, &tasks_in(numbers)).map(as_judged);
+        let nth = self.times(Call::Judge);
+        let mut lent_levels = self.lent_levels(nth);
+        let mut lent_numbers = Lent::new(nth, numbers);
+        let answer = proved::judge(lent_levels.slice(), count, lent_numbers.slice());
+        assert_eq!(answer, wanted, "{}", what());
+        lent_levels.wants(block, what);
+        lent_numbers.wants(numbers, what);
         self.count(Call::Judge, &answer);
         answer
     }
@@ -58,9 +102,16 @@ impl Both {
     /// Reads the block.
     #[track_caller]
     pub fn read(&mut self, block: &[u8]) -> Result<Judged, u32> {
-        let wanted = plan::read_plan(&self.levels, block).map(|(_, judged)| as_judged(judged));
-        let answer = proved::read(block);
-        assert_eq!(answer, wanted, "reading {block:02x?}");
+        let levels = &self.level_block;
+        let what = || format!("reading {block:02x?}, levels {levels:02x?}");
+        let wanted = sim::read_plan(levels, block).map(|(_, judged)| as_judged(judged));
+        let nth = self.times(Call::Read);
+        let mut lent_levels = self.lent_levels(nth);
+        let mut lent_block = Lent::new(nth, block);
+        let answer = proved::read(lent_levels.slice(), lent_block.slice());
+        assert_eq!(answer, wanted, "{}", what());
+        lent_levels.wants(levels, what);
+        lent_block.wants(block, what);
         self.count(Call::Read, &answer);
         answer
     }
@@ -68,13 +119,20 @@ impl Both {
     /// Writes the plan into a buffer of this length, and returns the bytes written.
     #[track_caller]
     pub fn write(&mut self, count: usize, numbers: &[u32], room: usize) -> Result<Vec<u8>, u32> {
+        let block = &self.level_block;
+        let what = || format!("writing {count} tasks, {numbers:?}, levels {block:02x?}");
+        let nth = self.times(Call::Write);
         let tasks = tasks_in(numbers);
-        let answer = same_bytes(
-            room,
-            |buffer| proved::write(count, numbers, buffer),
-            |buffer| plan::write_plan(&self.levels, count as u64, &tasks, buffer),
-            &format_args!("writing {count} tasks, {numbers:?}"),
-        );
+        let library = |buffer: &mut [u8]| {
+            let mut lent_levels = self.lent_levels(nth);
+            let mut lent_numbers = Lent::new(nth, numbers);
+            let answer = proved::write(lent_levels.slice(), count, lent_numbers.slice(), buffer);
+            lent_levels.wants(block, what);
+            lent_numbers.wants(numbers, what);
+            answer
+        };
+        let simulator = |buffer: &mut [u8]| sim::write_plan(block, count as u64, &tasks, buffer);
+        let answer = same_bytes(room, library, simulator, &what);
         self.count(Call::Write, &answer);
         answer
     }
@@ -83,15 +141,19 @@ impl Both {
     /// the block's.
     #[track_caller]
     pub fn copy(&mut self, block: &[u8], room: usize) -> Result<Vec<u8>, u32> {
-        let answer = same_bytes(
-            room,
-            |buffer| proved::copy(block, buffer),
-            |buffer| {
-                let (tasks, _) = plan::read_plan(&self.levels, block)?;
-                plan::write_plan(&self.levels, tasks.len() as u64, &tasks, buffer)
-            },
-            &format_args!("copying {block:02x?}"),
-        );
+        let levels = &self.level_block;
+        let what = || format!("copying {block:02x?}, levels {levels:02x?}");
+        let nth = self.times(Call::Copy);
+        let library = |buffer: &mut [u8]| {
+            let mut lent_levels = self.lent_levels(nth);
+            let mut lent_block = Lent::new(nth, block);
+            let answer = proved::copy(lent_levels.slice(), lent_block.slice(), buffer);
+            lent_levels.wants(levels, what);
+            lent_block.wants(block, what);
+            answer
+        };
+        let simulator = |buffer: &mut [u8]| sim::copy_plan(levels, block, buffer);
+        let answer = same_bytes(room, library, simulator, &what);
         if let Ok(bytes) = &answer {
             assert_eq!(bytes, block, "a copy is the block again");
         }
@@ -111,27 +173,14 @@ impl Both {
         assert!(times >= least, "{call:?} gave {number} only {times} times");
     }
 
-    /// Wants that this many plans and blocks were put to both sides, and prints what came of them.
+    /// Wants that this many calls were put to both sides, and prints what came of them.
     #[track_caller]
     pub fn saw(&self, what: &str, least: u64) {
-        let (plans, blocks) = (self.times(Call::Judge), self.times(Call::Read));
-        println!("{what}: {plans} plans, {blocks} blocks");
-        self.print_answers();
-        assert!(
-            plans + blocks >= least,
-            "only {plans} plans, {blocks} blocks"
-        );
-    }
-
-    /// Wants that this many calls of the dispatcher were put to both sides, and prints what came of
-    /// them.
-    #[track_caller]
-    pub fn dispatched(&self, what: &str, least: u64) {
-        let calls = [Call::Start, Call::Pass, Call::Show].map(|call| self.times(call));
-        let [starts, passes, shows] = calls;
-        println!("{what}: {starts} starts, {passes} passes, {shows} queues");
-        self.print_answers();
-        let all: u64 = calls.iter().sum();
+        let all: u64 = self.seen.values().sum();
+        println!("{what}: {all} calls");
+        for ((call, number), times) in &self.seen {
+            println!("    {call:?} {number}: {times}");
+        }
         assert!(all >= least, "only {all} calls");
     }
 
@@ -139,12 +188,6 @@ impl Both {
     pub fn times(&self, call: Call) -> u64 {
         let answers = self.seen.iter().filter(|((made, _), _)| *made == call);
         answers.map(|(_, times)| times).sum()
-    }
-
-    fn print_answers(&self) {
-        for ((call, number), times) in &self.seen {
-            println!("    {call:?} {number}: {times}");
-        }
     }
 }
 
@@ -172,11 +215,11 @@ fn same_bytes(
     room: usize,
     library: impl Fn(&mut [u8]) -> Result<u64, u32>,
     simulator: impl Fn(&mut [u8]) -> Result<usize, u32>,
-    what: &Arguments,
+    what: &impl Fn() -> String,
 ) -> Result<Vec<u8>, u32> {
     let first = same_bytes_over(MARKS[0], room, &library, &simulator, what);
     let second = same_bytes_over(MARKS[1], room, &library, &simulator, what);
-    assert_eq!(first, second, "{what}, into {room} bytes");
+    assert_eq!(first, second, "{}, into {room} bytes", what());
     first
 }
 
@@ -188,20 +231,21 @@ fn same_bytes_over(
     room: usize,
     library: &impl Fn(&mut [u8]) -> Result<u64, u32>,
     simulator: &impl Fn(&mut [u8]) -> Result<usize, u32>,
-    what: &Arguments,
+    what: &impl Fn() -> String,
 ) -> Result<Vec<u8>, u32> {
     let lent = MARGIN..MARGIN + room;
     let mut left = vec![mark; MARGIN + room + MARGIN];
     let mut wanted = left.clone();
     let answer = library(&mut left[lent.clone()]);
     let simulated = simulator(&mut wanted[lent]).map(|length| length as u64);
-    assert_eq!(answer, simulated, "{what}, into {room} bytes");
-    assert_eq!(left, wanted, "{what}, into {room} bytes");
+    assert_eq!(answer, simulated, "{}, into {room} bytes", what());
+    assert_eq!(left, wanted, "{}, into {room} bytes", what());
     let end = MARGIN + answer.unwrap_or(0) as usize;
     let marked = |bytes: &[u8]| bytes.iter().all(|byte| *byte == mark);
     assert!(
         marked(&left[..MARGIN]) && marked(&left[end..]),
-        "{what}, into {room} bytes: one that was not written has changed"
+        "{}, into {room} bytes: one that was not written has changed",
+        what()
     );
     answer.map(|_| left[MARGIN..end].to_vec())
 }

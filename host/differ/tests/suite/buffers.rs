@@ -29,7 +29,7 @@ fn buffers_of_every_length() {
             }
         }
     }
-    both.saw("buffers of every length", 256);
+    both.saw("buffers of every length", 20_000);
     for call in [Call::Write, Call::Copy] {
         both.wants(call, ACCEPTED, 5_000);
         both.wants(call, 9, 5_000);
@@ -63,7 +63,7 @@ fn refused_plans_with_buffers_of_every_length() {
             assert_eq!(both.copy(&closed, room), Err(5));
         }
     }
-    both.saw("refused with buffers of every length", 8);
+    both.saw("refused with buffers of every length", 1_600);
     for number in [3, 6, 7, 8] {
         both.wants(Call::Write, number, 40);
         both.wants(Call::Copy, number, 40);

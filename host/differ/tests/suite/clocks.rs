@@ -7,7 +7,7 @@ use crate::view::{told, View};
 use sim::clock::LARGEST_CLOCK;
 use sim::layout;
 use sim::levels::Levels;
-use sim::plan::{judge_list, Task};
+use sim::plan::Task;
 use sim::random::blocks::block_of;
 use sim::random::plans::{plan_at_level_within, SMALL_BASES};
 use sim::random::Random;
@@ -21,7 +21,9 @@ fn clock_in(state: &[u8]) -> u64 {
 fn started_late(both: &mut Both, plan: &[Task], before: u64) -> [u8; STATE_BYTES] {
     let mut state = [0; STATE_BYTES];
     both.start(&block_of(plan), &mut state).unwrap();
-    let hyperperiod = judge_list(&both.levels, plan).unwrap().hyperperiod;
+    let hyperperiod = sim::judge_list(&both.level_block, plan)
+        .unwrap()
+        .hyperperiod;
     let clock = (LARGEST_CLOCK - before) / hyperperiod * hyperperiod;
     layout::CLOCK.put(&mut state, clock);
     state
@@ -31,17 +33,17 @@ fn started_late(both: &mut Both, plan: &[Task], before: u64) -> [u8; STATE_BYTES
 /// there: each run goes on until only 15 is left, which is at the largest clock or a hold before it.
 #[test]
 fn runs_up_to_the_largest_clock() {
-    let levels = Levels::base();
-    let mut both = Both::new(&levels);
+    let mut both = Both::new(&Levels::base());
     let mut random = Random::new(701);
     let mut at_the_end = 0;
-    for round in 0..120 {
-        let base = random.pick(&SMALL_BASES);
-        let plan = plan_at_level_within(&mut random, &levels, round % levels.count(), base);
+    for _ in 0..200 {
+        let levels = both.load_some(&mut random);
+        let (level, base) = (random.place(levels.count()), random.pick(&SMALL_BASES));
+        let plan = plan_at_level_within(&mut random, &levels, level, base);
         let before = random.below(40);
         let mut state = started_late(&mut both, &plan, before);
         loop {
-            let (d, finished) = View::of(&levels, &state).some_pass(&mut random);
+            let (d, finished) = View::of(&state).some_pass(&mut random);
             let reply = both.pass(&mut state, d, told(&mut random, finished));
             assert!(both.show(&state, 48).is_ok());
             if reply == Err(15) {
@@ -51,20 +53,20 @@ fn runs_up_to_the_largest_clock() {
         }
         // From here one tick at a time.
         while clock_in(&state) < LARGEST_CLOCK {
-            let (d, finished) = View::of(&levels, &state).one_tick(&mut random);
+            let (d, finished) = View::of(&state).one_tick(&mut random);
             both.pass(&mut state, d, told(&mut random, finished))
                 .unwrap();
         }
-        let (d, finished) = View::of(&levels, &state).whole_hold();
+        let (d, finished) = View::of(&state).whole_hold();
         let reply = both.pass(&mut state, d, told(&mut random, finished));
         assert_eq!(reply, Err(15));
         assert!(both.show(&state, 48).is_ok());
         at_the_end += 1;
     }
-    both.dispatched("runs up to the largest clock", 3_000);
+    both.saw("runs up to the largest clock", 11_000);
     both.wants(Call::Pass, ACCEPTED, 1_000);
     both.wants(Call::Pass, 15, 200);
-    assert_eq!(at_the_end, 120);
+    assert_eq!(at_the_end, 200);
 }
 
 /// Would catch a clock past the largest that is let through, or one cut to fewer bits.
@@ -88,7 +90,7 @@ fn clocks_around_the_largest() {
         };
         assert_eq!(both.pass(&mut at, 1, 1).map(|_| ()), wanted, "{clock}");
     }
-    both.dispatched("clocks around the largest", 1_200);
+    both.saw("clocks around the largest", 1_800);
     both.wants(Call::Pass, 15, 1);
     both.wants(Call::Pass, 10, 600);
     both.wants(Call::Show, 10, 600);
@@ -114,7 +116,7 @@ fn fifteen_is_asked_last() {
     assert_eq!(both.pass(&mut state, 4, 1), Err(15));
     assert_eq!(both.pass(&mut state, 3, 0), Err(15));
     assert_eq!(both.pass(&mut state, 1, 0), Err(15));
-    both.dispatched("fifteen last", 11);
+    both.saw("fifteen last", 12);
     // 13 before 15: idle two ticks before the end.
     let mut idle = started_late(&mut both, &tasks(&[(12, 10)]), 4);
     assert!(both.pass(&mut idle, 1, 1).is_ok());

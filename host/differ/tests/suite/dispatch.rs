@@ -1,72 +1,27 @@
 //! Starting, passing and showing put to both sides. Whatever a call is lent, to write or only to
 //! read, stands between marked bytes, and after the call every byte must be the simulator's.
 
-use crate::both::{Both, Call, MARGIN, MARKS};
+use crate::both::{Both, Call};
+use crate::lent::{Element, Lent};
 use differ::dispatcher::{self, Order};
 
 pub use sim::layout::STATE_BYTES;
 
-/// Bytes to lend, with marked ones around them.
-struct Lent {
-    bytes: Vec<u8>,
-    mark: u8,
-    from: usize,
-    end: usize,
-}
-
-impl Lent {
-    /// Both marks come in turn, and all places that a buffer can have in a word of memory.
-    fn new(nth: u64, content: &[u8]) -> Lent {
-        let mark = MARKS[(nth % 2) as usize];
-        let from = MARGIN + (nth / 2 % 8) as usize;
-        let end = from + content.len();
-        let mut bytes = vec![mark; end + MARGIN];
-        bytes[from..end].copy_from_slice(content);
-        Lent {
-            bytes,
-            mark,
-            from,
-            end,
-        }
-    }
-
-    fn slice(&mut self) -> &mut [u8] {
-        &mut self.bytes[self.from..self.end]
-    }
-
-    /// Wants these bytes, and the marks around them as they were.
-    #[track_caller]
-    fn wants(&self, content: &[u8], what: impl Fn() -> String) {
-        let lent = &self.bytes[self.from..self.end];
-        assert!(
-            lent == content,
-            "{}: {lent:02x?} left, {content:02x?} wanted",
-            what()
-        );
-        let mut around = self.bytes[..self.from]
-            .iter()
-            .chain(&self.bytes[self.end..]);
-        assert!(
-            around.all(|byte| *byte == self.mark),
-            "{}: a byte around what was lent has changed",
-            what()
-        );
-    }
-}
-
 impl Both {
-    /// Starts with the block in a buffer, which then holds what both sides left there.
+    /// Starts with the loaded levels and the block in a buffer, which then holds what both sides left there.
     #[track_caller]
     pub fn start(&mut self, block: &[u8], state: &mut [u8]) -> Result<Order, u32> {
         let nth = self.times(Call::Start);
-        let room = state.len();
-        let what = || format!("starting {block:02x?} in {room} bytes");
+        let (levels, room) = (&self.level_block, state.len());
+        let what = || format!("starting {block:02x?} in {room} bytes, levels {levels:02x?}");
         let mut wanted = state.to_vec();
-        let simulated = sim::start(&self.levels, block, &mut wanted).map(as_order);
+        let simulated = sim::start(levels, block, &mut wanted).map(as_order);
+        let mut lent_levels = self.lent_levels(nth);
         let mut lent_block = Lent::new(nth + 3, block);
         let mut lent_state = Lent::new(nth, state);
-        let answer = dispatcher::start(lent_block.slice(), lent_state.slice());
+        let answer = dispatcher::start(lent_levels.slice(), lent_block.slice(), lent_state.slice());
         assert_eq!(answer, simulated, "{}", what());
+        lent_levels.wants(levels, what);
         lent_block.wants(block, what);
         lent_state.wants(&wanted, what);
         if answer.is_err() {
@@ -84,7 +39,7 @@ impl Both {
         let before = state.to_vec();
         let what = || format!("passing {d}, finished {finished}, in {before:02x?}");
         let mut lent = Lent::new(self.times(Call::Pass), state);
-        let simulated = sim::pass(&self.levels, state, d, finished != 0).map(as_order);
+        let simulated = sim::pass(state, d, finished != 0).map(as_order);
         let answer = dispatcher::pass(lent.slice(), d, finished);
         assert_eq!(answer, simulated, "{}", what());
         lent.wants(state, what);
@@ -100,9 +55,9 @@ impl Both {
     pub fn show(&mut self, state: &[u8], room: usize) -> Result<Vec<u8>, u32> {
         let nth = self.times(Call::Show);
         let what = || format!("showing {state:02x?} in {room} bytes");
-        let before = vec![MARKS[(nth % 2) as usize]; room];
+        let before = vec![u8::mark(nth); room];
         let mut wanted = before.clone();
-        let simulated = sim::show(&self.levels, state, &mut wanted).map(|length| length as u64);
+        let simulated = sim::show(state, &mut wanted).map(|length| length as u64);
         let mut lent_state = Lent::new(nth + 3, state);
         let mut lent_buffer = Lent::new(nth, &before);
         let answer = dispatcher::show(lent_state.slice(), lent_buffer.slice());

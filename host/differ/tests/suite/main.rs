@@ -1,6 +1,6 @@
-//! The proved library held to document 01's cases and, call by call, to the simulator. Over 200,000
-//! plans and blocks, and over 600,000 calls of the dispatcher, are put to both. What each test has
-//! seen is printed with `--nocapture`.
+//! The proved library held to the cases of documents 01 and 02 and, call by call, to the simulator.
+//! Over 1,000,000 calls are put to both, with 01's speeds and with those of random boards. What each
+//! test has seen is printed with `--nocapture`.
 
 mod blocks;
 mod both;
@@ -8,6 +8,8 @@ mod buffers;
 mod clocks;
 mod dispatch;
 mod document;
+mod lent;
+mod levels;
 mod made;
 mod orders;
 mod passes;

@@ -61,6 +61,8 @@ fn the_state_byte_by_byte() {
     wanted[8..20].copy_from_slice(&[0, 10, 0, 1, 0x90, 0, 0, 0, 0, 3, 0, 0]);
     wanted[20..32].copy_from_slice(&[0, 10, 0, 1, 0x90, 0, 1, 0x90, 0, 4, 0, 0]);
     wanted[32..44].copy_from_slice(&[0, 30, 0, 2, 0x58, 0, 2, 0x58, 0, 6, 0, 0]);
+    // Eight levels, and their speeds in two bytes each.
+    wanted[200..].copy_from_slice(&[8, 0, 10, 0, 20, 0, 30, 0, 40, 0, 50, 0, 60, 0, 80, 0, 100]);
     assert_eq!(state, wanted);
     // Two ticks at 60 a tick: 280 left, hex 118.
     assert_eq!(both.pass(&mut state, 2, 0), Ok(run(1, 5, 5)));
@@ -138,4 +140,52 @@ fn period_1() {
         both.start(&block_of(&tasks(&[(1, 101)])), &mut state),
         Err(8)
     );
+}
+
+/// Would catch a table that is stored at another place, with its bytes in another order, with more
+/// speeds than were loaded, or not at all.
+#[test]
+fn the_table_in_the_state_byte_by_byte() {
+    let mut both = Both::new(&Levels::new(&[1, 258, 1_000]));
+    let mut state = [0xa5; STATE_BYTES + 3];
+    let first = both.start(&block_of(&tasks(&[(40, 300)])), &mut state);
+    // 300 units are 2 ticks at 258, and too many at 1.
+    assert_eq!(first, Ok(run(0, 1, 2)));
+    let wanted = [3, 0, 1, 1, 2, 3, 232, 0, 0, 0, 0, 0, 0, 0, 0, 0, 0];
+    assert_eq!(state[200..STATE_BYTES], wanted);
+    assert_eq!(state[STATE_BYTES..], [0xa5; 3]);
+    let mut state: [u8; STATE_BYTES] = state[..STATE_BYTES].try_into().unwrap();
+    assert_eq!(both.pass(&mut state, 1, 0), Ok(run(0, 1, 1)));
+    assert_eq!(both.pass(&mut state, 1, 1), Ok(idle(38)));
+    assert_eq!(state[200..], wanted);
+    // One level alone: 300 units are a tick at 1,000.
+    both.load(&Levels::new(&[1_000]));
+    let mut state = [0xa5; STATE_BYTES];
+    let first = both.start(&block_of(&tasks(&[(40, 300)])), &mut state);
+    assert_eq!(first, Ok(run(0, 0, 1)));
+    let wanted = [1, 3, 232, 0, 0, 0, 0, 0, 0, 0, 0, 0, 0, 0, 0, 0, 0];
+    assert_eq!(state[200..], wanted);
+}
+
+/// Would catch speeds that are 01's whatever was loaded: 7, 13 and 29 units a tick, with the answers
+/// worked out by hand.
+#[test]
+fn a_run_at_odd_speeds() {
+    let mut both = Both::new(&Levels::new(&[7, 13, 29]));
+    let plan = tasks(&[(10, 40), (15, 56)]);
+    let mut state = [0; STATE_BYTES];
+    // 4 and 5 ticks at 13 are 22 of 30; 6 and 8 at 7 are 34.
+    assert_eq!(both.start(&block_of(&plan), &mut state), Ok(run(0, 1, 4)));
+    // 3 and 5 ticks for 56 units, which are 8 exactly at 7.
+    assert_eq!(both.pass(&mut state, 1, 1), Ok(run(1, 0, 8)));
+    assert_eq!(both.pass(&mut state, 3, 0), Ok(run(1, 0, 5)));
+    assert_eq!(both.pass(&mut state, 5, 0), Err(14));
+    assert_eq!(both.pass(&mut state, 5, 1), Ok(idle(1)));
+    assert_eq!(both.pass(&mut state, 1, 0), Ok(run(0, 1, 4)));
+    assert_eq!(both.show(&state, 48), Ok(queue_bytes(&[(0, 4)])));
+    // The same plan with 01's speeds, and with ones too slow for it.
+    both.load(&Levels::base());
+    assert_eq!(both.start(&block_of(&plan), &mut state), Ok(run(0, 0, 4)));
+    both.load(&Levels::new(&[1, 6]));
+    assert_eq!(both.start(&block_of(&plan), &mut state), Err(8));
 }

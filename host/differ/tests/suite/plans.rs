@@ -3,11 +3,12 @@
 use crate::both::{Both, Call, ACCEPTED};
 use crate::made::{loose_plan, nearby, numbers_of, put_tasks, some_room};
 use sim::block::{block_bytes, Edition};
-use sim::levels::Levels;
+use sim::levels::{Levels, MOST_LEVELS};
 use sim::random::plans::{
     edge_count_and_entries, full_plan, plan_above_largest_hyperperiod, plan_at_largest_hyperperiod,
     plan_at_level, plan_one_over, plan_one_unit_over,
 };
+use sim::random::tables::levels_of_count;
 use sim::random::Random;
 
 /// Would catch a level or a hyperperiod that is wrong for some plan, a task or a field that is
@@ -19,7 +20,7 @@ fn accepted_plans_at_every_level_and_their_neighbours() {
     let mut both = Both::new(&levels);
     let mut random = Random::new(101);
     for level in 0..levels.count() {
-        for _ in 0..1_000 {
+        for _ in 0..500 {
             let tasks = plan_at_level(&mut random, &levels, level);
             let judged = put_tasks(&mut both, &mut random, &tasks);
             assert_eq!(judged.map(|judged| judged.level), Ok(level as u64));
@@ -31,14 +32,45 @@ fn accepted_plans_at_every_level_and_their_neighbours() {
     }
     both.saw("accepted plans and neighbours", 79_000);
     for call in [Call::Judge, Call::Read] {
-        both.wants(call, ACCEPTED, 20_000);
-        both.wants(call, 3, 500);
-        both.wants(call, 6, 300);
-        both.wants(call, 7, 1_000);
-        both.wants(call, 8, 500);
+        both.wants(call, ACCEPTED, 10_000);
+        both.wants(call, 3, 200);
+        both.wants(call, 6, 150);
+        both.wants(call, 7, 500);
+        both.wants(call, 8, 250);
     }
-    both.wants(Call::Write, 9, 5_000);
-    both.wants(Call::Copy, 9, 5_000);
+    both.wants(Call::Write, 9, 2_500);
+    both.wants(Call::Copy, 9, 2_500);
+}
+
+/// The same with the speeds of other boards: would catch a speed that is still 01's, one taken from
+/// another place of the block, and a level that the table doesn't have.
+#[test]
+fn accepted_plans_of_any_table_and_their_neighbours() {
+    let mut both = Both::new(&Levels::base());
+    let mut random = Random::new(107);
+    let mut at_level = [0; MOST_LEVELS as usize];
+    for round in 0..4_000 {
+        let levels = levels_of_count(&mut random, 1 + round % MOST_LEVELS as usize);
+        both.load(&levels);
+        assert_eq!(both.read_levels(), Ok(levels.count() as u64));
+        let level = random.place(levels.count());
+        let tasks = plan_at_level(&mut random, &levels, level);
+        let judged = put_tasks(&mut both, &mut random, &tasks);
+        assert_eq!(judged.map(|judged| judged.level), Ok(level as u64));
+        at_level[level] += 1;
+        for _ in 0..4 {
+            let near = nearby(&mut random, &tasks);
+            let _ = put_tasks(&mut both, &mut random, &near);
+        }
+    }
+    both.saw("accepted plans of any table and neighbours", 83_000);
+    for call in [Call::Judge, Call::Read] {
+        both.wants(call, ACCEPTED, 9_000);
+        for number in [6, 7, 8] {
+            both.wants(call, number, 200);
+        }
+    }
+    assert!(at_level.iter().all(|times| *times > 30), "{at_level:?}");
 }
 
 /// Would catch a limit on the hyperperiod that is off by a little, a multiple that is not the
@@ -55,7 +87,7 @@ fn plans_around_the_largest_hyperperiod() {
         let above = plan_above_largest_hyperperiod(&mut random);
         assert_eq!(put_tasks(&mut both, &mut random, &above), Err(7));
     }
-    both.saw("largest hyperperiod", 6_000);
+    both.saw("largest hyperperiod", 12_000);
     both.wants(Call::Judge, ACCEPTED, 1_500);
     both.wants(Call::Judge, 7, 1_500);
 }
@@ -84,9 +116,63 @@ fn plans_around_the_full_sum() {
             }
         }
     }
-    both.saw("full sum", 19_000);
+    both.saw("full sum", 38_000);
     both.wants(Call::Judge, ACCEPTED, 5_000);
     both.wants(Call::Judge, 8, 800);
+}
+
+/// The same with the speeds of other boards: the slowest and the fastest, and ones next to each other.
+#[test]
+fn plans_around_the_full_sum_of_any_table() {
+    let mut both = Both::new(&Levels::base());
+    let mut random = Random::new(108);
+    for round in 0..1_600 {
+        let levels = levels_of_count(&mut random, 1 + round % MOST_LEVELS as usize);
+        both.load(&levels);
+        let level = random.place(levels.count());
+        let full = full_plan(&mut random, &levels, level);
+        let judged = put_tasks(&mut both, &mut random, &full);
+        assert!(judged.map_or(false, |judged| judged.level <= level as u64));
+        let over = plan_one_over(&mut random, &levels, level);
+        let judged = put_tasks(&mut both, &mut random, &over);
+        assert_ne!(judged.map(|judged| judged.level), Ok(level as u64));
+        let unit = plan_one_unit_over(&mut random, &levels, level);
+        let judged = put_tasks(&mut both, &mut random, &unit);
+        if level == levels.top() {
+            assert_eq!(judged, Err(8));
+        } else {
+            assert_eq!(judged.map(|judged| judged.level), Ok(level as u64 + 1));
+        }
+        // The same plan where every speed is a unit faster.
+        let near: Vec<u64> = levels.speeds().iter().map(|speed| speed + 1).collect();
+        if let Some(near) = Levels::of(&near) {
+            both.load(&near);
+            let _ = put_tasks(&mut both, &mut random, &unit);
+        }
+    }
+    both.saw("full sum of any table", 23_000);
+    both.wants(Call::Judge, ACCEPTED, 3_000);
+    both.wants(Call::Judge, 8, 800);
+}
+
+/// Would catch a plan judged with some of the speeds alone: the verdict goes with the fastest speed,
+/// the level with all of them.
+#[test]
+fn one_plan_with_many_tables() {
+    let mut both = Both::new(&Levels::base());
+    let mut random = Random::new(109);
+    for _ in 0..300 {
+        let own = both.load_some(&mut random);
+        let level = random.place(own.count());
+        let tasks = plan_at_level(&mut random, &own, level);
+        for _ in 0..20 {
+            both.load_some(&mut random);
+            let _ = put_tasks(&mut both, &mut random, &tasks);
+        }
+    }
+    both.saw("one plan with many tables", 24_000);
+    both.wants(Call::Judge, ACCEPTED, 1_000);
+    both.wants(Call::Judge, 8, 1_000);
 }
 
 /// Would catch a range off by one, a field or a count cut to fewer bits, and entries past the count
@@ -108,7 +194,7 @@ fn fields_and_counts_at_their_edges() {
         let _ = both.judge(count, &numbers);
         let _ = both.write(count, &numbers, some_room(&mut random, needed));
     }
-    both.saw("edges of fields and counts", 30_000);
+    both.saw("edges of fields and counts", 60_000);
     for call in [Call::Judge, Call::Write] {
         both.wants(call, ACCEPTED, 3_000);
         both.wants(call, 3, 500);
@@ -140,7 +226,7 @@ fn every_count_with_a_list_of_every_length() {
             }
         }
     }
-    both.saw("counts and lengths of lists", 5_000);
+    both.saw("counts and lengths of lists", 7_800);
     both.wants(Call::Judge, ACCEPTED, 700);
     both.wants(Call::Judge, 3, 1_000);
     both.wants(Call::Judge, 6, 1_000);
@@ -156,7 +242,7 @@ fn loose_plans() {
         let tasks = loose_plan(&mut random);
         let _ = put_tasks(&mut both, &mut random, &tasks);
     }
-    both.saw("loose plans", 40_000);
+    both.saw("loose plans", 80_000);
     for number in [ACCEPTED, 7, 8] {
         both.wants(Call::Judge, number, 2_000);
         both.wants(Call::Read, number, 2_000);

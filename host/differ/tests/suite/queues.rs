@@ -5,6 +5,7 @@ use crate::made::plan_of_count;
 use sim::levels::Levels;
 use sim::random::plans::plan_at_level;
 use sim::random::states::{invented_state, reached_state};
+use sim::random::tables::some_or_base_levels;
 use sim::random::Random;
 
 /// Would catch a queue in another order, one with ended entries or without those of finished jobs, a
@@ -12,11 +13,11 @@ use sim::random::Random;
 /// or past the buffer, and a buffer half filled before 9 is said.
 #[test]
 fn queues_into_buffers_of_every_length() {
-    let levels = Levels::base();
-    let mut both = Both::new(&levels);
+    let mut both = Both::new(&Levels::base());
     let mut random = Random::new(801);
     let mut of_count = [0; 17];
-    for round in 0..1_200 {
+    for round in 0..1_500 {
+        let levels = some_or_base_levels(&mut random);
         let plan = match round % 3 {
             0 => plan_of_count(&mut random, &levels, 1 + round / 3 % 16),
             _ => plan_at_level(&mut random, &levels, round % levels.count()),
@@ -36,7 +37,7 @@ fn queues_into_buffers_of_every_length() {
             assert_eq!(both.show(&state, room).as_ref(), Ok(&queue));
         }
     }
-    both.dispatched("queues into buffers of every length", 25_000);
+    both.saw("queues into buffers of every length", 36_000);
     both.wants(Call::Show, ACCEPTED, 12_000);
     both.wants(Call::Show, 9, 10_000);
     println!("{of_count:?}");
@@ -56,6 +57,6 @@ fn queues_into_large_buffers() {
     for room in [255, 256, 257, 65_535, 65_536, 65_537, 1 << 20] {
         assert_eq!(both.show(&state, room).as_ref(), Ok(&queue));
     }
-    both.dispatched("queues into large buffers", 8);
+    both.saw("queues into large buffers", 8);
     both.wants(Call::Show, ACCEPTED, 8);
 }

@@ -117,7 +117,7 @@ fn every_number_from_every_call_that_gives_it() {
             both.wants(call, *number, 2);
         }
     }
-    both.saw("every number", 150);
+    both.saw("every number", 1_100);
 }
 
 /// Would catch a count cut to fewer bits before it is asked about, and a plan of so many tasks read
@@ -140,7 +140,7 @@ fn counts_far_out_of_range() {
     }
     assert!(both.judge(16, &numbers).is_ok());
     assert!(both.write(16, &numbers, 90).is_ok());
-    both.saw("counts far out of range", 90);
+    both.saw("counts far out of range", 180);
     both.wants(Call::Judge, 3, 89);
     both.wants(Call::Write, 3, 89);
 }

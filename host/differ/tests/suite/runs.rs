@@ -8,11 +8,12 @@ use crate::made::bench_plan;
 use crate::view::{queue_bytes, told, View};
 use differ::dispatcher::Order;
 use sim::books::{demand3_holds, ActualBook, PlainBook};
-use sim::levels::Levels;
+use sim::levels::{Levels, MOST_LEVELS};
 use sim::plan::{judge_list, Task};
 use sim::random::blocks::block_of;
 use sim::random::passes::any_pass;
 use sim::random::plans::{full_plan, plan_at_level, plan_at_level_within, SMALL_BASES};
+use sim::random::tables::some_levels;
 use sim::random::Random;
 
 /// How the passes of a run are chosen.
@@ -42,9 +43,9 @@ struct Tally {
 }
 
 impl Tally {
-    fn new(levels: &Levels) -> Tally {
+    fn new() -> Tally {
         Tally {
-            levels: vec![0; levels.count()],
+            levels: vec![0; MOST_LEVELS as usize],
             ..Tally::default()
         }
     }
@@ -60,15 +61,16 @@ struct Run {
 }
 
 impl Run {
-    fn new(both: &mut Both, plan: Vec<Task>) -> Run {
+    fn new(both: &mut Both, levels: &Levels, plan: Vec<Task>) -> Run {
+        both.load(levels);
         let mut state = [0xa5; STATE_BYTES];
         let order = both
             .start(&block_of(&plan), &mut state)
             .expect("the plan is an accepted one");
         let run = Run {
-            nominal: judge_list(&both.levels, &plan).unwrap().nominal as u8,
+            nominal: judge_list(levels, &plan).unwrap().nominal as u8,
             actual: ActualBook::new(&plan, as_simulated(order)),
-            plain: PlainBook::new(&both.levels, &plan),
+            plain: PlainBook::new(levels, &plan),
             plan,
             state,
             order,
@@ -88,7 +90,7 @@ impl Run {
 
     /// One pass, with everything checked after it.
     fn step(&mut self, both: &mut Both, random: &mut Random, style: Style, tally: &mut Tally) {
-        let view = View::of(&both.levels, &self.state);
+        let view = View::of(&self.state);
         let (d, finished) = self.choose(view, random, style);
         let reply = both.pass(&mut self.state, d, told(random, finished));
         assert_eq!(reply.err().unwrap_or(0), view.refusal(d, finished));
@@ -138,12 +140,12 @@ impl Run {
 fn run(
     both: &mut Both,
     random: &mut Random,
-    plan: &[Task],
+    (levels, plan): (&Levels, &[Task]),
     style: Style,
     passes: u32,
     tally: &mut Tally,
 ) {
-    let mut run = Run::new(both, plan.to_vec());
+    let mut run = Run::new(both, levels, plan.to_vec());
     for _ in 0..passes {
         run.step(both, random, style, tally);
     }
@@ -157,17 +159,24 @@ fn long_runs_at_every_level() {
     let levels = Levels::base();
     let mut both = Both::new(&levels);
     let mut random = Random::new(401);
-    let mut tally = Tally::new(&levels);
+    let mut tally = Tally::new();
     for level in 0..levels.count() {
         for round in 0..48 {
             let base = random.pick(&SMALL_BASES);
             let plan = plan_at_level_within(&mut random, &levels, level, base);
             let style = STYLES[round % STYLES.len()];
-            run(&mut both, &mut random, &plan, style, 160, &mut tally);
+            run(
+                &mut both,
+                &mut random,
+                (&levels, &plan),
+                style,
+                160,
+                &mut tally,
+            );
         }
     }
     println!("{tally:?}");
-    both.dispatched("runs at every level", 120_000);
+    both.saw("runs at every level", 120_000);
     both.wants(Call::Pass, ACCEPTED, 50_000);
     for number in [11, 12, 13, 14] {
         both.wants(Call::Pass, number, 100);
@@ -188,7 +197,7 @@ fn long_runs_of_full_plans() {
     let levels = Levels::base();
     let mut both = Both::new(&levels);
     let mut random = Random::new(402);
-    let mut tally = Tally::new(&levels);
+    let mut tally = Tally::new();
     let mut runs = 0;
     while runs < 128 {
         let plan = full_plan(&mut random, &levels, runs % levels.count());
@@ -197,14 +206,93 @@ fn long_runs_of_full_plans() {
             continue;
         }
         let style = STYLES[runs / levels.count() % STYLES.len()];
-        run(&mut both, &mut random, &plan, style, 120, &mut tally);
+        run(
+            &mut both,
+            &mut random,
+            (&levels, &plan),
+            style,
+            120,
+            &mut tally,
+        );
         runs += 1;
     }
     println!("{tally:?}");
-    both.dispatched("runs of full plans", 30_000);
+    both.saw("runs of full plans", 30_000);
     both.wants(Call::Pass, ACCEPTED, 13_000);
     assert!(tally.early > 1_000 && tally.interrupted > 100, "{tally:?}");
     assert!(tally.below_nominal > 1_000, "{tally:?}");
+}
+
+/// The same with the speeds of other boards: would catch a speed taken from another table, from
+/// another level of it, or left out of an allotment, an allowance or the work done.
+#[test]
+fn runs_with_any_table() {
+    let mut both = Both::new(&Levels::base());
+    let mut random = Random::new(405);
+    let mut tally = Tally::new();
+    let mut runs = 0;
+    while runs < 900 {
+        let levels = some_levels(&mut random);
+        let level = random.place(levels.count());
+        let plan = match runs % 3 {
+            0 => full_plan(&mut random, &levels, level),
+            _ => {
+                let base = random.pick(&SMALL_BASES);
+                plan_at_level_within(&mut random, &levels, level, base)
+            }
+        };
+        // The books go tick by tick.
+        if plan.iter().any(|task| task.period > 10_000) {
+            continue;
+        }
+        let style = STYLES[runs % STYLES.len()];
+        run(
+            &mut both,
+            &mut random,
+            (&levels, &plan),
+            style,
+            80,
+            &mut tally,
+        );
+        runs += 1;
+    }
+    println!("{tally:?}");
+    both.saw("runs with any table", 140_000);
+    both.wants(Call::Pass, ACCEPTED, 60_000);
+    for number in [11, 12, 13, 14] {
+        both.wants(Call::Pass, number, 100);
+    }
+    assert!(
+        tally.early > 5_000 && tally.interrupted > 1_000,
+        "{tally:?}"
+    );
+    assert!(tally.below_nominal > 3_000, "{tally:?}");
+    assert!(tally.levels.iter().all(|times| *times > 500), "{tally:?}");
+}
+
+/// Would catch a table that is mixed up with another one: a state goes on with its own, whatever is
+/// loaded for others in between.
+#[test]
+fn runs_of_two_boards_side_by_side() {
+    let mut both = Both::new(&Levels::base());
+    let mut random = Random::new(406);
+    let mut tally = Tally::new();
+    for _ in 0..60 {
+        let boards = [Levels::base(), some_levels(&mut random)];
+        let mut runs = boards.map(|levels| {
+            let (level, base) = (random.place(levels.count()), random.pick(&SMALL_BASES));
+            let plan = plan_at_level_within(&mut random, &levels, level, base);
+            Run::new(&mut both, &levels, plan)
+        });
+        for _ in 0..40 {
+            for run in &mut runs {
+                run.step(&mut both, &mut random, Style::Any, &mut tally);
+            }
+        }
+    }
+    both.saw("runs of two boards", 9_800);
+    both.wants(Call::Pass, ACCEPTED, 3_000);
+    assert!(tally.early > 300 && tally.below_nominal > 100, "{tally:?}");
 }
 
 /// Would catch a number of ticks, of work or of plain ticks that is cut to fewer bits.
@@ -213,17 +301,24 @@ fn runs_with_long_periods() {
     let levels = Levels::base();
     let mut both = Both::new(&levels);
     let mut random = Random::new(403);
-    let mut tally = Tally::new(&levels);
+    let mut tally = Tally::new();
     for level in 0..levels.count() {
         for round in 0..6 {
             let plan = plan_at_level(&mut random, &levels, level);
             // A pass for every tick would not come far.
             let style = [Style::Worst, Style::Early, Style::Any][round % 3];
-            run(&mut both, &mut random, &plan, style, 50, &mut tally);
+            run(
+                &mut both,
+                &mut random,
+                (&levels, &plan),
+                style,
+                50,
+                &mut tally,
+            );
         }
     }
     println!("{tally:?}");
-    both.dispatched("runs with long periods", 4_500);
+    both.saw("runs with long periods", 4_800);
     both.wants(Call::Pass, ACCEPTED, 2_000);
     assert!(tally.early > 300, "{tally:?}");
 }
@@ -234,13 +329,20 @@ fn the_bench_plan_for_thousands_of_passes() {
     let levels = Levels::base();
     let mut both = Both::new(&levels);
     let mut random = Random::new(404);
-    let mut tally = Tally::new(&levels);
+    let mut tally = Tally::new();
     for style in STYLES {
         let plan = bench_plan();
-        run(&mut both, &mut random, &plan, style, 4_000, &mut tally);
+        run(
+            &mut both,
+            &mut random,
+            (&levels, &plan),
+            style,
+            4_000,
+            &mut tally,
+        );
     }
     println!("{tally:?}");
-    both.dispatched("the bench plan", 32_000);
+    both.saw("the bench plan", 32_000);
     both.wants(Call::Pass, ACCEPTED, 14_000);
     assert!(tally.early > 3_000 && tally.interrupted > 500, "{tally:?}");
     assert!(tally.below_nominal > 3_000, "{tally:?}");

@@ -35,21 +35,21 @@ fn some_room(random: &mut Random) -> usize {
     let exact = STATE_BYTES;
     let longer = [exact + 1, exact + 12, 2 * exact];
     match random.below(9) {
-        0 => 0,
+        0 => random.pick(&[0, 200, 216]),
         1 => exact - 1,
         2..=5 => exact,
         other => longer[other as usize - 6],
     }
 }
 
-/// Would catch a buffer that must have exactly 200 bytes, a byte written past the 200 or past the
+/// Would catch a buffer that must have exactly 217 bytes, a byte written past the 217 or past the
 /// buffer, a buffer half filled before 9 is said, and an old byte that shines through.
 #[test]
 fn starts_in_buffers_of_every_length() {
-    let levels = Levels::base();
-    let mut both = Both::new(&levels);
+    let mut both = Both::new(&Levels::base());
     let mut random = Random::new(901);
     for count in 1..=16 {
+        let levels = both.load_some(&mut random);
         let block = block_of(&plan_of_count(&mut random, &levels, count));
         for room in 0..=STATE_BYTES + 60 {
             let reply = put_start(&mut both, &mut random, &block, room);
@@ -61,7 +61,7 @@ fn starts_in_buffers_of_every_length() {
             assert!(put_start(&mut both, &mut random, &block, room).is_ok());
         }
     }
-    both.dispatched("starts in buffers of every length", 4_000);
+    both.saw("starts in buffers of every length", 4_500);
     both.wants(Call::Start, ACCEPTED, 1_000);
     both.wants(Call::Start, 9, 3_000);
 }
@@ -94,7 +94,7 @@ fn refused_blocks_in_buffers_of_every_length() {
             assert_eq!(reply, Err(number));
         }
     }
-    both.dispatched("refused blocks in buffers of every length", 2_600);
+    both.saw("refused blocks in buffers of every length", 2_800);
     for number in 1..=8 {
         both.wants(Call::Start, number, 240);
     }
@@ -103,11 +103,11 @@ fn refused_blocks_in_buffers_of_every_length() {
 /// Would catch a first order or a fresh state that is wrong for some plan.
 #[test]
 fn starts_of_plans_of_every_kind() {
-    let levels = Levels::base();
-    let mut both = Both::new(&levels);
+    let mut both = Both::new(&Levels::base());
     let mut random = Random::new(903);
-    for round in 0..1_500 {
-        let level = round % levels.count();
+    for _ in 0..2_000 {
+        let levels = both.load_some(&mut random);
+        let level = random.place(levels.count());
         let lists = [
             plan_at_level(&mut random, &levels, level),
             full_plan(&mut random, &levels, level),
@@ -121,7 +121,7 @@ fn starts_of_plans_of_every_kind() {
             let _ = put_start(&mut both, &mut random, &block_of(&list), room);
         }
     }
-    both.dispatched("starts of plans of every kind", 9_000);
+    both.saw("starts of plans of every kind", 12_000);
     both.wants(Call::Start, ACCEPTED, 3_000);
     for number in [6, 7, 8, 9] {
         both.wants(Call::Start, number, 100);
@@ -131,11 +131,12 @@ fn starts_of_plans_of_every_kind() {
 /// Would catch damage that starting lets through though reading doesn't, or the other way round.
 #[test]
 fn starts_of_damaged_blocks() {
-    let levels = Levels::base();
-    let mut both = Both::new(&levels);
+    let mut both = Both::new(&Levels::base());
     let mut random = Random::new(904);
-    for round in 0..1_500 {
-        let block = block_of(&plan_at_level(&mut random, &levels, round % levels.count()));
+    for _ in 0..1_500 {
+        let levels = both.load_some(&mut random);
+        let level = random.place(levels.count());
+        let block = block_of(&plan_at_level(&mut random, &levels, level));
         for _ in 0..6 {
             let damaged = damaged_block(&mut random, &block);
             let room = some_room(&mut random);
@@ -147,7 +148,7 @@ fn starts_of_damaged_blocks() {
             }
         }
     }
-    both.dispatched("starts of damaged blocks", 9_000);
+    both.saw("starts of damaged blocks", 18_000);
     for number in [ACCEPTED, 1, 2, 3, 4, 5, 6, 7, 8, 9] {
         both.wants(Call::Start, number, 15);
     }

@@ -7,17 +7,21 @@ use crate::made::bench_plan;
 use crate::view::{told, View};
 use sim::dispatch::sound;
 use sim::layout::{entry_at, of_task};
-use sim::layout::{CLOCK, COUNT, ENTRIES, ENTRY_ZERO, HEAD_ZERO, LEVEL, TASK};
-use sim::levels::Levels;
+use sim::layout::{speed_of, LEVEL_COUNT, SPEEDS};
+use sim::layout::{CLOCK, COUNT, ENTRIES, ENTRIES_END, ENTRY_ZERO, HEAD_ZERO, LEVEL, TASK};
+use sim::levels::{Levels, FASTEST, MOST_LEVELS};
 use sim::random::plans::{plan_at_level, plan_at_level_within, SMALL_BASES};
-use sim::random::states::{forged_state, invented_state, late_state, reached_state};
+use sim::random::states::{
+    forged_state, invented_state, late_state, put_table, reached_state, with_a_table_changed,
+};
+use sim::random::tables::some_or_base_levels;
 use sim::random::Random;
 
 /// Puts a state to passing and showing. Says whether it was taken for a sound one.
 fn put_state(both: &mut Both, random: &mut Random, state: &[u8]) -> bool {
-    let (d, finished) = match sound(&both.levels, state) {
-        Some(_) if random.one_in(2) => View::of(&both.levels, state).whole_hold(),
-        Some(_) => View::of(&both.levels, state).one_tick(random),
+    let (d, finished) = match sound(state) {
+        Some(_) if random.one_in(2) => View::of(state).whole_hold(),
+        Some(_) => View::of(state).one_tick(random),
         None => (random.pick(&[0, 1, 2, 100]), random.one_in(2)),
     };
     let mut after = state.to_vec();
@@ -27,23 +31,24 @@ fn put_state(both: &mut Both, random: &mut Random, state: &[u8]) -> bool {
     shown != Err(10)
 }
 
-/// Sound states of each kind, from plans of each kind.
-fn some_sound_state(random: &mut Random, levels: &Levels, round: usize) -> [u8; STATE_BYTES] {
-    let level = round % levels.count();
+/// Sound states of each kind, from plans of each kind, with any speeds.
+fn some_sound_state(random: &mut Random) -> [u8; STATE_BYTES] {
+    let levels = some_or_base_levels(random);
+    let level = random.place(levels.count());
     let plan = if random.one_in(2) {
-        plan_at_level(random, levels, level)
+        plan_at_level(random, &levels, level)
     } else {
         let base = random.pick(&SMALL_BASES);
-        plan_at_level_within(random, levels, level, base)
+        plan_at_level_within(random, &levels, level, base)
     };
     let passes = random.pick(&[0, 1, 3, 10, 30]);
     match random.below(3) {
-        0 => reached_state(random, levels, &plan, passes).0,
+        0 => reached_state(random, &levels, &plan, passes).0,
         1 => {
-            let (reached, _) = reached_state(random, levels, &plan, passes);
-            late_state(random, levels, &reached)
+            let (reached, _) = reached_state(random, &levels, &plan, passes);
+            late_state(random, &reached)
         }
-        _ => invented_state(random, levels, &plan),
+        _ => invented_state(random, &levels, &plan),
     }
 }
 
@@ -51,11 +56,10 @@ fn some_sound_state(random: &mut Random, levels: &Levels, round: usize) -> [u8; 
 /// tail is not looked at.
 #[test]
 fn states_of_every_length() {
-    let levels = Levels::base();
-    let mut both = Both::new(&levels);
+    let mut both = Both::new(&Levels::base());
     let mut random = Random::new(601);
-    for round in 0..16 {
-        let state = some_sound_state(&mut random, &levels, round);
+    for _ in 0..16 {
+        let state = some_sound_state(&mut random);
         for length in 0..=2 * STATE_BYTES + 20 {
             let filler = random.pick(&[0x00, 0xff]);
             let mut other = state.to_vec();
@@ -66,7 +70,7 @@ fn states_of_every_length() {
         let twice = [&state[..], &state[..]].concat();
         assert!(!put_state(&mut both, &mut random, &twice));
     }
-    both.dispatched("states of every length", 13_000);
+    both.saw("states of every length", 14_000);
     both.wants(Call::Pass, 10, 6_000);
     both.wants(Call::Show, 10, 6_000);
     both.wants(Call::Pass, ACCEPTED, 10);
@@ -76,19 +80,18 @@ fn states_of_every_length() {
 /// at though it may be either.
 #[test]
 fn every_flipped_bit_of_sound_states() {
-    let levels = Levels::base();
-    let mut both = Both::new(&levels);
+    let mut both = Both::new(&Levels::base());
     let mut random = Random::new(602);
     let mut sound_still = 0;
-    for round in 0..16 {
-        let mut state = some_sound_state(&mut random, &levels, round);
+    for _ in 0..16 {
+        let mut state = some_sound_state(&mut random);
         for place in 0..8 * STATE_BYTES {
             state[place / 8] ^= 0x80 >> (place % 8);
             sound_still += u32::from(put_state(&mut both, &mut random, &state));
             state[place / 8] ^= 0x80 >> (place % 8);
         }
     }
-    both.dispatched("flipped bits of states", 51_000);
+    both.saw("flipped bits of states", 55_000);
     both.wants(Call::Pass, 10, 15_000);
     both.wants(Call::Show, 10, 15_000);
     assert!(sound_still > 200, "{sound_still}");
@@ -97,12 +100,11 @@ fn every_flipped_bit_of_sound_states() {
 /// Would catch an order or a count that is let through though no sound state has it.
 #[test]
 fn every_value_of_the_head() {
-    let levels = Levels::base();
-    let mut both = Both::new(&levels);
+    let mut both = Both::new(&Levels::base());
     let mut random = Random::new(603);
     let mut sound_still = 0;
-    for round in 0..24 {
-        let state = some_sound_state(&mut random, &levels, round);
+    for _ in 0..24 {
+        let state = some_sound_state(&mut random);
         for field in [TASK, LEVEL, COUNT, HEAD_ZERO] {
             for value in 0..=255 {
                 let mut other = state;
@@ -112,7 +114,7 @@ fn every_value_of_the_head() {
         }
         // The task and the level together, as far as they can mean something.
         for task in (0..=16).chain([254, 255]) {
-            for level in 0..=levels.count() {
+            for level in 0..=MOST_LEVELS as usize {
                 let mut other = state;
                 TASK.put(&mut other, task);
                 LEVEL.put(&mut other, level as u64);
@@ -120,7 +122,7 @@ fn every_value_of_the_head() {
             }
         }
     }
-    both.dispatched("heads of states", 55_000);
+    both.saw("heads of states", 57_000);
     both.wants(Call::Pass, 10, 25_000);
     assert!(sound_still > 120, "{sound_still}");
 }
@@ -129,30 +131,111 @@ fn every_value_of_the_head() {
 /// edges of what is sound, and some are sound still.
 #[test]
 fn forged_states() {
-    let levels = Levels::base();
-    let mut both = Both::new(&levels);
+    let mut both = Both::new(&Levels::base());
     let mut random = Random::new(604);
     let mut sound_still = 0;
-    for round in 0..2_500 {
-        let state = some_sound_state(&mut random, &levels, round);
+    for _ in 0..2_500 {
+        let state = some_sound_state(&mut random);
         for _ in 0..8 {
-            let forged = forged_state(&mut random, &levels, &state);
+            let forged = forged_state(&mut random, &state);
             sound_still += u32::from(put_state(&mut both, &mut random, &forged));
         }
     }
-    both.dispatched("forged states", 40_000);
+    both.saw("forged states", 40_000);
     both.wants(Call::Pass, 10, 8_000);
     both.wants(Call::Show, 10, 8_000);
     both.wants(Call::Pass, ACCEPTED, 1_000);
     assert!(sound_still > 2_000, "{sound_still}");
 }
 
+/// Would catch a count of levels that is let through though no table has it, or though speeds beyond
+/// it are not zero.
+#[test]
+fn every_count_of_levels() {
+    let mut both = Both::new(&Levels::base());
+    let mut random = Random::new(607);
+    let mut sound_still = 0;
+    for _ in 0..40 {
+        let state = some_sound_state(&mut random);
+        let own = LEVEL_COUNT.get(&state);
+        for count in 0..=255 {
+            let mut other = state;
+            LEVEL_COUNT.put(&mut other, count);
+            let taken = put_state(&mut both, &mut random, &other);
+            assert_eq!(taken, count == own);
+            sound_still += u32::from(taken);
+        }
+    }
+    both.saw("counts of levels", 20_000);
+    both.wants(Call::Pass, 10, 10_000);
+    assert_eq!(sound_still, 40);
+}
+
+/// Values of a speed at and beside the ends of its range, at and beside its neighbours, and ones that
+/// would be fine with some bits left out.
+fn speeds_to_try(state: &[u8; STATE_BYTES], level: usize) -> Vec<u64> {
+    let mut values = vec![0, 1, 2, FASTEST - 1, FASTEST, FASTEST + 1];
+    for near in [level.saturating_sub(1), level, (level + 1).min(SPEEDS - 1)] {
+        let speed = speed_of(near).get(state);
+        values.extend([speed.saturating_sub(1), speed, speed + 1]);
+        values.extend([10, 11, 15].map(|bit| speed | 1 << bit));
+        // With its bytes in the other order.
+        values.push(speed % 256 * 256 + speed / 256);
+    }
+    values
+}
+
+/// Would catch a speed in the state that isn't asked about its range or its neighbours, an unused one
+/// that may be anything, and one that is read with fewer bits or from another place.
+#[test]
+fn every_speed_at_its_edges() {
+    let mut both = Both::new(&Levels::base());
+    let mut random = Random::new(608);
+    let mut sound_still = 0;
+    for _ in 0..150 {
+        let state = some_sound_state(&mut random);
+        let used = LEVEL_COUNT.get(&state) as usize;
+        for level in 0..SPEEDS {
+            for speed in speeds_to_try(&state, level) {
+                let mut other = state;
+                speed_of(level).put(&mut other, speed);
+                let taken = put_state(&mut both, &mut random, &other);
+                assert!(level < used || taken == (speed == 0));
+                sound_still += u32::from(taken && other != state);
+            }
+        }
+    }
+    both.saw("speeds at their edges", 64_000);
+    both.wants(Call::Pass, 10, 20_000);
+    assert!(sound_still > 1_000, "{sound_still}");
+}
+
+/// Would catch damage to a table that slips through, and a state judged with another table than its
+/// own: some of these have another one that could be loaded, and it decides whether they are sound.
+#[test]
+fn states_with_damaged_tables() {
+    let mut both = Both::new(&Levels::base());
+    let mut random = Random::new(609);
+    let mut sound_still = 0;
+    for _ in 0..2_500 {
+        let state = some_sound_state(&mut random);
+        for _ in 0..8 {
+            let once = with_a_table_changed(&mut random, &state);
+            let taken = put_state(&mut both, &mut random, &once);
+            sound_still += u32::from(taken && once != state);
+        }
+    }
+    both.saw("damaged tables", 40_000);
+    both.wants(Call::Pass, 10, 12_000);
+    both.wants(Call::Show, 10, 12_000);
+    assert!(sound_still > 1_000, "{sound_still}");
+}
+
 /// Would catch a state taken for sound, or read past the entries that it has, for no reason in its
 /// first bytes.
 #[test]
 fn rubbish() {
-    let levels = Levels::base();
-    let mut both = Both::new(&levels);
+    let mut both = Both::new(&Levels::base());
     let mut random = Random::new(605);
     for round in 0..4_000 {
         let mut state = [0; STATE_BYTES];
@@ -162,9 +245,10 @@ fn rubbish() {
             let clock = CLOCK.get(&state);
             CLOCK.put(&mut state, clock & 0x7fff_ffff);
             TASK.put(&mut state, random.below(ENTRIES as u64));
-            LEVEL.put(&mut state, random.place(levels.count()) as u64);
+            LEVEL.put(&mut state, random.below(MOST_LEVELS));
             COUNT.put(&mut state, ENTRIES as u64);
             HEAD_ZERO.put(&mut state, 0);
+            put_table(&mut state, some_or_base_levels(&mut random).speeds());
         }
         if round % 4 == 0 {
             for task in 0..ENTRIES {
@@ -176,7 +260,7 @@ fn rubbish() {
     for filler in 0..=255 {
         assert!(!put_state(&mut both, &mut random, &[filler; STATE_BYTES]));
     }
-    both.dispatched("rubbish", 8_000);
+    both.saw("rubbish", 8_500);
     both.wants(Call::Pass, 10, 4_000);
     both.wants(Call::Show, 10, 4_000);
 }
@@ -185,20 +269,22 @@ fn rubbish() {
 /// would be refused as well.
 #[test]
 fn soundness_is_asked_first() {
-    let levels = Levels::base();
-    let mut both = Both::new(&levels);
+    let mut both = Both::new(&Levels::base());
     let mut random = Random::new(606);
-    let (good, _) = reached_state(&mut random, &levels, &bench_plan(), 0);
-    // Places that hold zeros: in the head, in the first entry, past the third, and at the end.
+    let (good, _) = reached_state(&mut random, &Levels::base(), &bench_plan(), 0);
+    // Places where a 1 is wrong: in the head, in the first entry, past the third, in the count of
+    // levels, and in the last speed.
     let zeros = of_task(0, ENTRY_ZERO).range();
-    let empty = [
+    let bad_places = [
         HEAD_ZERO.at,
         zeros.start,
         zeros.end - 1,
         entry_at(3),
+        ENTRIES_END - 1,
+        LEVEL_COUNT.at,
         STATE_BYTES - 1,
     ];
-    for place in empty {
+    for place in bad_places {
         let mut bad = good;
         bad[place] = 1;
         for d in [0, 1, 4, 5, 11, u32::MAX] {
@@ -210,7 +296,7 @@ fn soundness_is_asked_first() {
             assert_eq!(both.show(&bad, room), Err(10));
         }
     }
-    both.dispatched("soundness first", 100);
+    both.saw("soundness first", 150);
     both.wants(Call::Pass, 10, 60);
     both.wants(Call::Show, 10, 50);
 }

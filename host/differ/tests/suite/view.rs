@@ -3,7 +3,6 @@
 
 use sim::clock::LARGEST_CLOCK;
 use sim::job::time_needed;
-use sim::levels::Levels;
 use sim::random::Random;
 use sim::state::unpack;
 
@@ -18,7 +17,7 @@ pub struct View {
 }
 
 impl View {
-    pub fn of(levels: &Levels, state: &[u8]) -> View {
+    pub fn of(state: &[u8]) -> View {
         let state = unpack(state).expect("the state is a sound one");
         let clock = state.clock;
         let to_arrival = state
@@ -27,9 +26,12 @@ impl View {
             .map(|entry| entry.task.period - clock % entry.task.period)
             .min()
             .expect("a plan has a task");
-        let needed = state
-            .running
-            .map(|order| time_needed(state.entries[order.task].left, levels.speed(order.level)));
+        let needed = state.running.map(|order| {
+            time_needed(
+                state.entries[order.task].left,
+                state.levels.speed(order.level),
+            )
+        });
         View {
             clock,
             to_arrival,

@@ -6,6 +6,7 @@ use crate::block::{head, pack_block, Edition};
 use crate::block::{COUNT_BITS, EDITION_BITS, HEAD_BITS, PERIOD_BITS, WORST_BITS};
 use crate::dispatch::{pass, start};
 use crate::layout::STATE_BYTES;
+use crate::level_block::write_levels;
 use crate::levels::Levels;
 use crate::plan::Task;
 
@@ -19,7 +20,19 @@ pub fn block_of(tasks: &[Task]) -> Vec<u8> {
 pub fn damaged_block(random: &mut Random, block: &[u8]) -> Vec<u8> {
     let mut damaged = block.to_vec();
     match random.below(8) {
-        0 => damaged.truncate(random.place(block.len() + 1)),
+        0..=3 => damage_bytes(random, &mut damaged),
+        4 => set_closing_bit(random, &mut damaged),
+        5 => put_bits(&mut damaged, 0, EDITION_BITS, random.number()),
+        6 => put_bits(&mut damaged, EDITION_BITS, COUNT_BITS, random.number()),
+        _ => clear_field(random, &mut damaged),
+    }
+    damaged
+}
+
+/// A block of any kind cut, made longer, or with one or some bits flipped.
+pub(super) fn damage_bytes(random: &mut Random, block: &mut Vec<u8>) {
+    match random.below(4) {
+        0 => block.truncate(random.place(block.len() + 1)),
         1 => {
             for _ in 0..random.between(1, 4) {
                 let byte = if random.one_in(2) {
@@ -27,17 +40,12 @@ pub fn damaged_block(random: &mut Random, block: &[u8]) -> Vec<u8> {
                 } else {
                     random.number() as u8
                 };
-                damaged.push(byte);
+                block.push(byte);
             }
         }
-        2 => flip_bits(random, &mut damaged, 1),
-        3 => flip_bits(random, &mut damaged, 3),
-        4 => set_closing_bit(random, &mut damaged),
-        5 => put_bits(&mut damaged, 0, EDITION_BITS, random.number()),
-        6 => put_bits(&mut damaged, EDITION_BITS, COUNT_BITS, random.number()),
-        _ => clear_field(random, &mut damaged),
+        2 => flip_bits(random, block, 1),
+        _ => flip_bits(random, block, 3),
     }
-    damaged
 }
 
 fn flip_bits(random: &mut Random, block: &mut [u8], most: u64) {
@@ -51,7 +59,7 @@ fn flip_bits(random: &mut Random, block: &mut [u8], most: u64) {
 }
 
 /// Overwrites `width` bits from a bit's place on, as far as the block goes.
-fn put_bits(block: &mut [u8], from: usize, width: usize, number: u64) {
+pub(super) fn put_bits(block: &mut [u8], from: usize, width: usize, number: u64) {
     for step in 0..width {
         let place = from + step;
         if place / 8 < block.len() {
@@ -97,19 +105,20 @@ fn clear_field(random: &mut Random, block: &mut [u8]) {
     }
 }
 
-/// An input for the bench program: the plan, then passes that follow a run of the simulator, so
-/// that many are accepted and some refused; now and then an odd byte at the end.
+/// An input for the bench program: the levels, the plan, then passes that follow a run of the
+/// simulator, so that many are accepted and some refused; now and then an odd byte at the end.
 pub fn bench_input(random: &mut Random, levels: &Levels, tasks: &[Task], passes: usize) -> Vec<u8> {
-    let mut input = block_of(tasks);
+    let block = block_of(tasks);
+    let mut input = [write_levels(levels), block.clone()].concat();
     let mut state = [0; STATE_BYTES];
-    if let Ok(first) = start(levels, &input, &mut state) {
+    if let Ok(first) = start(levels, &block, &mut state) {
         let mut order = first;
         for _ in 0..passes {
             let (d, finished) = any_pass(random, order);
             let d = d & 0x7fff;
             let packed = (d as u16) | if finished { 0x8000 } else { 0 };
             input.extend(packed.to_be_bytes());
-            if let Ok(next) = pass(levels, &mut state, d, finished) {
+            if let Ok(next) = pass(&mut state, d, finished) {
                 order = next;
             }
         }

@@ -2,12 +2,13 @@
 
 use super::blocks::block_of;
 use super::passes::likely_pass;
+use super::tables::{bad_speeds, some_levels};
 use super::Random;
 use crate::clock::LARGEST_CLOCK;
 use crate::dispatch::{choose, pass, start, Order};
 use crate::job::{time_needed, Left};
-use crate::layout::{self, ENTRIES, ENTRY_BYTES, HEAD_BYTES, STATE_BYTES};
-use crate::levels::Levels;
+use crate::layout::{self, ENTRIES, ENTRIES_END, ENTRY_BYTES, HEAD_BYTES, SPEEDS, STATE_BYTES};
+use crate::levels::{Levels, FASTEST};
 use crate::plan::{judge_list, Judged, Task, LARGEST_COUNT, LARGEST_PERIOD, LARGEST_WORST};
 use crate::schedule::allotment;
 use crate::state::{pack, unpack, Entry, State};
@@ -25,7 +26,7 @@ pub fn reached_state(
     let mut order = started.expect("the plan is an accepted one");
     for _ in 0..passes {
         let (d, finished) = likely_pass(random, order);
-        if let Ok(next) = pass(levels, &mut state, d, finished) {
+        if let Ok(next) = pass(&mut state, d, finished) {
             order = next;
         }
     }
@@ -33,20 +34,16 @@ pub fn reached_state(
 }
 
 /// A sound state, and what its plan is judged to be.
-fn unpack_sound(levels: &Levels, block: &[u8; STATE_BYTES]) -> (State, Judged) {
+fn unpack_sound(block: &[u8; STATE_BYTES]) -> (State, Judged) {
     let state = unpack(block).expect("the state is a sound one");
-    let judged = judge_list(levels, &state.tasks()).expect("the state is a sound one");
+    let judged = judge_list(&state.levels, &state.tasks()).expect("the state is a sound one");
     (state, judged)
 }
 
 /// A sound state moved to the last hyperperiod or so before the largest clock. All arrivals and
 /// deadlines move by the same ticks, so it is sound still.
-pub fn late_state(
-    random: &mut Random,
-    levels: &Levels,
-    block: &[u8; STATE_BYTES],
-) -> [u8; STATE_BYTES] {
-    let (mut state, judged) = unpack_sound(levels, block);
+pub fn late_state(random: &mut Random, block: &[u8; STATE_BYTES]) -> [u8; STATE_BYTES] {
+    let (mut state, judged) = unpack_sound(block);
     let most = (LARGEST_CLOCK - state.clock) / judged.hyperperiod;
     let fewer = random.below(2).min(most);
     state.clock += (most - fewer) * judged.hyperperiod;
@@ -69,13 +66,14 @@ pub fn invented_state(random: &mut Random, levels: &Levels, tasks: &[Task]) -> [
         clock,
         running: None,
         entries: Vec::new(),
+        levels: levels.clone(),
     };
     let ended = random.between(1, 4);
     for task in tasks {
         let entry = invented_entry(random, task, levels.speed(nominal), ended);
         state.entries.push(entry);
     }
-    if let Some(mut running) = choose(levels, &state) {
+    if let Some(mut running) = choose(&state) {
         // An order is chosen at the lowest level; a sound one may have a higher one.
         running.level = random.between(running.level as u64, nominal as u64) as usize;
         state.running = Some(running);
@@ -105,13 +103,14 @@ fn invented_entry(random: &mut Random, task: &Task, nominal: u64, ended: u64) ->
     }
 }
 
-/// A sound state with something changed: some bytes, one field moved to an edge, or its length.
-/// Some of these are sound all the same.
-pub fn forged_state(random: &mut Random, levels: &Levels, block: &[u8; STATE_BYTES]) -> Vec<u8> {
-    match random.below(8) {
+/// A sound state with something changed: some bytes, one field moved to an edge, its table of speeds,
+/// or its length. Some of these are sound all the same.
+pub fn forged_state(random: &mut Random, block: &[u8; STATE_BYTES]) -> Vec<u8> {
+    match random.below(10) {
         0 => with_another_length(random, block),
         1 | 2 => with_bytes_changed(random, block),
-        _ => with_a_field_changed(random, levels, block),
+        3 | 4 => with_a_table_changed(random, block).to_vec(),
+        _ => with_a_field_changed(random, block),
     }
 }
 
@@ -124,6 +123,9 @@ fn with_another_length(random: &mut Random, block: &[u8]) -> Vec<u8> {
         HEAD_BYTES,
         HEAD_BYTES + ENTRY_BYTES,
         STATE_BYTES / 2,
+        ENTRIES_END,
+        ENTRIES_END + 1,
+        STATE_BYTES - 2,
         STATE_BYTES - 1,
         STATE_BYTES,
         STATE_BYTES + 1,
@@ -149,12 +151,8 @@ fn with_bytes_changed(random: &mut Random, block: &[u8]) -> Vec<u8> {
 }
 
 /// One field of the head or of an entry set to a value near an edge of what is sound.
-fn with_a_field_changed(
-    random: &mut Random,
-    levels: &Levels,
-    block: &[u8; STATE_BYTES],
-) -> Vec<u8> {
-    let (mut state, judged) = unpack_sound(levels, block);
+fn with_a_field_changed(random: &mut Random, block: &[u8; STATE_BYTES]) -> Vec<u8> {
+    let (mut state, judged) = unpack_sound(block);
     let place = random.place(state.entries.len());
     let mut forged = block.to_vec();
     match random.below(9) {
@@ -162,18 +160,95 @@ fn with_a_field_changed(
         1 => layout::TASK.put(&mut forged, another_task(random, &state, place)),
         2 => {
             let level = layout::LEVEL.get(block);
-            let other = another_level(random, levels, judged.nominal, level);
+            let other = another_level(random, &state.levels, judged.nominal, level);
             layout::LEVEL.put(&mut forged, other);
         }
         3 => layout::COUNT.put(&mut forged, another_count(random, &state)),
         4 => fill_an_empty_byte(random, &mut forged, place),
         kind => {
-            let nominal = levels.speed(judged.nominal);
+            let nominal = state.levels.speed(judged.nominal);
             change_an_entry(random, &mut state.entries[place], kind, nominal);
             forged = pack(&state).to_vec();
         }
     }
     forged
+}
+
+/// The table of speeds damaged: another count, a speed out of range or not rising, a speed where none
+/// is used, or another table that can be loaded. With the last, and with a smaller or larger speed
+/// between its neighbours, the rest of the state decides.
+pub fn with_a_table_changed(random: &mut Random, block: &[u8; STATE_BYTES]) -> [u8; STATE_BYTES] {
+    let mut forged = *block;
+    let count = layout::LEVEL_COUNT.get(block) as usize;
+    let place = random.place(count);
+    match random.below(8) {
+        0 => {
+            let other = another_level_count(random, count);
+            layout::LEVEL_COUNT.put(&mut forged, other);
+        }
+        1 => {
+            let out = random.pick(&[0, FASTEST + 1, 1 << 10, 1 << 15, u64::from(u16::MAX)]);
+            layout::speed_of(place).put(&mut forged, out);
+        }
+        2 => copy_a_neighbour(random, &mut forged, count, place),
+        3 => swap_neighbours(&mut forged, count, place),
+        4 => {
+            // With all eight in use, it is the last of them.
+            let unused = (count + random.place(SPEEDS)).min(SPEEDS - 1);
+            let speed = random.pick(&[1, 256, FASTEST]);
+            layout::speed_of(unused).put(&mut forged, speed);
+        }
+        5 => put_table(&mut forged, some_levels(random).speeds()),
+        6 => put_table(&mut forged, &bad_speeds(random)),
+        _ => {
+            let speed = layout::speed_of(place).get(block);
+            let near = random.pick(&[speed + 1, speed - 1]);
+            layout::speed_of(place).put(&mut forged, near);
+        }
+    }
+    forged
+}
+
+/// A count that no table has, one more or one less; a smaller one may leave speeds unused that are
+/// not zero.
+fn another_level_count(random: &mut Random, count: usize) -> u64 {
+    let (count, most) = (count as u64, SPEEDS as u64);
+    random.pick(&[0, most, most + 1, 255, count - 1, count + 1])
+}
+
+/// The speed at this place is the one before it, or the first is the one behind it. A single speed
+/// stays alone.
+fn copy_a_neighbour(random: &mut Random, block: &mut [u8], count: usize, place: usize) {
+    let from = if place > 0 {
+        place - 1
+    } else {
+        1.min(count - 1)
+    };
+    let speed = layout::speed_of(from).get(block);
+    let equal_or_below = speed - u64::from(place > 0 && random.one_in(2));
+    layout::speed_of(place).put(block, equal_or_below);
+}
+
+/// Two neighbours in the wrong order; a single speed stays alone.
+fn swap_neighbours(block: &mut [u8], count: usize, place: usize) {
+    let other = if place > 0 {
+        place - 1
+    } else {
+        1.min(count - 1)
+    };
+    let (one, two) = (layout::speed_of(place), layout::speed_of(other));
+    let (first, second) = (one.get(block), two.get(block));
+    one.put(block, second);
+    two.put(block, first);
+}
+
+/// These speeds, with their count and zeros behind them.
+pub fn put_table(block: &mut [u8], speeds: &[u64]) {
+    layout::LEVEL_COUNT.put(block, speeds.len() as u64);
+    for level in 0..SPEEDS {
+        let speed = speeds.get(level).copied().unwrap_or(0);
+        layout::speed_of(level).put(block, speed);
+    }
 }
 
 fn another_clock(random: &mut Random, clock: u64) -> u64 {
@@ -210,7 +285,7 @@ fn another_count(random: &mut Random, state: &State) -> u64 {
 fn fill_an_empty_byte(random: &mut Random, block: &mut [u8], place: usize) {
     let zeros = layout::of_task(place, layout::ENTRY_ZERO).range();
     let last = layout::entry_at(ENTRIES - 1);
-    let (head, end) = (layout::HEAD_ZERO.at, STATE_BYTES - 1);
+    let (head, end) = (layout::HEAD_ZERO.at, ENTRIES_END - 1);
     let empty = [head, zeros.start, zeros.end - 1, last, end];
     block[random.pick(&empty)] = random.number() as u8;
 }

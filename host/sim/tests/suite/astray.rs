@@ -1,7 +1,8 @@
 //! 01, "Where a scheduler goes astray", bullet by bullet.
 
-use crate::base::{judge_list, pass, time_needed};
+use crate::base::{judge_list, time_needed};
 use crate::common::{bench_plan, led, queue, run, tasks, BENCH_PASSES};
+use sim::pass;
 
 #[test]
 fn time_to_spare_is_not_lent_to_a_more_urgent_job() {

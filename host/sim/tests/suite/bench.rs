@@ -1,6 +1,6 @@
 //! 01, "The bench program".
 
-use crate::base::listing;
+use crate::base::{listing, BASE_LEVELS};
 use crate::common::{tasks, BENCH_BLOCK};
 use sim::random::blocks::block_of;
 
@@ -8,8 +8,14 @@ fn with_passes(passes: &[u8]) -> Vec<u8> {
     [&BENCH_BLOCK[..], passes].concat()
 }
 
-fn text(input: &[u8]) -> String {
-    String::from_utf8(listing(input)).unwrap()
+/// The listing with 01's speeds in front.
+fn text(rest: &[u8]) -> String {
+    String::from_utf8(listing(rest)).unwrap()
+}
+
+/// The listing of an input as it stands.
+fn whole(input: &[u8]) -> String {
+    String::from_utf8(sim::listing(input)).unwrap()
 }
 
 #[test]
@@ -76,6 +82,7 @@ fn an_odd_byte_at_the_end() {
 
 #[test]
 fn a_refused_reading_is_the_only_line() {
+    // Nothing after the level block, and a single byte.
     assert_eq!(text(&[]), "refused 1\n");
     assert_eq!(text(&[0x10]), "refused 1\n");
     assert_eq!(text(&[0x20, 0x80]), "refused 2\n");
@@ -100,19 +107,67 @@ fn a_refused_reading_is_the_only_line() {
 
 #[test]
 fn input_of_65_536_bytes_and_of_one_more() {
-    let mut input = with_passes(&[0; 65_536 - 15]);
-    assert_eq!(input.len(), 65_536);
-    let lines = text(&input);
-    // 65,521 bytes are 32,760 passes of 0 ticks and an odd byte.
-    assert_eq!(lines.lines().count(), 2 + 32_760 + 1);
+    // The 11 bytes of the level block count too.
+    let mut rest = with_passes(&[0; 65_536 - 11 - 15]);
+    assert_eq!(rest.len(), 65_536 - 11);
+    let lines = text(&rest);
+    // 65,510 bytes are 32,755 passes of 0 ticks.
+    assert_eq!(lines.lines().count(), 2 + 32_755);
     assert_eq!(
         lines.lines().filter(|line| *line == "refused 11").count(),
-        32_760
+        32_755
     );
-    assert!(lines.ends_with("refused 11\nrefused 16\n"));
-    input.push(0);
-    assert_eq!(text(&input), "refused 17\n");
-    // Before all: also when the reading would be refused.
-    assert_eq!(text(&vec![0; 65_537]), "refused 17\n");
-    assert_eq!(text(&vec![0; 65_536]), "refused 2\n");
+    let shorter = text(&rest[..rest.len() - 1]);
+    assert!(shorter.ends_with("refused 11\nrefused 16\n"));
+    rest.push(0);
+    assert_eq!(text(&rest), "refused 17\n");
+    // Before all: also when the level block or the plan would be refused.
+    assert_eq!(text(&vec![0; 65_526]), "refused 17\n");
+    assert_eq!(text(&vec![0; 65_525]), "refused 2\n");
+    assert_eq!(whole(&vec![0; 65_537]), "refused 17\n");
+    assert_eq!(whole(&vec![0; 65_536]), "refused 18\n");
+}
+
+#[test]
+fn a_refused_level_block_is_the_only_line() {
+    let rest = with_passes(&[0x80, 0x01]);
+    let after = |block: &[u8]| whole(&[block, &rest].concat());
+    assert_eq!(
+        after(&BASE_LEVELS),
+        "plan 3 7 30\n0 run 0 7 4\n1 run 1 5 7\n"
+    );
+    assert_eq!(whole(&[]), "refused 18\n");
+    // Counts 0 and 9, each with good bytes to follow.
+    assert_eq!(after(&[0x00]), "refused 18\n");
+    assert_eq!(after(&[0x90]), "refused 18\n");
+    // Shorter than its count, so it is given all there are.
+    for length in 1..11 {
+        assert_eq!(whole(&BASE_LEVELS[..length]), "refused 19\n");
+    }
+    let mut closing = BASE_LEVELS;
+    closing[10] |= 1;
+    assert_eq!(after(&closing), "refused 19\n");
+    // 8 speeds of which the first is 0.
+    let mut zero = BASE_LEVELS;
+    zero[1] = 0x00;
+    assert_eq!(after(&zero), "refused 20\n");
+    // What the plan is doesn't matter then.
+    assert_eq!(whole(&zero), "refused 20\n");
+}
+
+#[test]
+fn each_block_is_cut_by_its_own_count() {
+    // One level of 100 units a tick: 0001 0001100100 00, so 2 bytes. The bench plan fills it.
+    let rest = with_passes(&[0x80, 0x01]);
+    let one = [&[0x11, 0x90][..], &rest].concat();
+    assert_eq!(whole(&one), "plan 3 0 30\n0 run 0 0 4\n1 run 1 0 4\n");
+    // 99 a tick: 8.
+    let slower = [&[0x11, 0x8c][..], &rest].concat();
+    assert_eq!(whole(&slower), "refused 8\n");
+    // With nothing after the level block, 1; with a plan cut short, 4.
+    assert_eq!(whole(&[0x11, 0x90]), "refused 1\n");
+    assert_eq!(whole(&one[..3]), "refused 1\n");
+    assert_eq!(whole(&one[..4]), "refused 4\n");
+    assert_eq!(whole(&one[..16]), "refused 4\n");
+    assert_eq!(whole(&one[..17]), "plan 3 0 30\n0 run 0 0 4\n");
 }

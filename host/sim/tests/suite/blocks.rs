@@ -6,6 +6,9 @@ use sim::plan::{Judged, Task};
 
 const EXAMPLE: [u8; 6] = [0x10, 0x80, 0x14, 0x00, 0x09, 0x60];
 
+/// 01's speeds at the end of the state block: their count, then two bytes each.
+const BASE_TABLE: [u8; 17] = [8, 0, 10, 0, 20, 0, 30, 0, 40, 0, 50, 0, 60, 0, 80, 0, 100];
+
 #[test]
 fn the_example_block_is_read() {
     let (plan, judged) = read_plan(&EXAMPLE).unwrap();
@@ -76,17 +79,18 @@ fn entries_past_the_count_are_not_looked_at() {
 }
 
 #[test]
-fn starting_fills_200_bytes_and_no_more() {
-    let mut state = [0xa5; 205];
+fn starting_fills_217_bytes_and_no_more() {
+    let mut state = [0xa5; 222];
     assert_eq!(start(&BENCH_BLOCK, &mut state), Ok(run(0, 7, 4)));
-    let mut expected = [0; 200];
-    // Clock 0, task 0, level 7, count 3, then the entries.
+    let mut expected = [0; 217];
+    // Clock 0, task 0, level 7, count 3, then the entries, and at the end the speeds.
     expected[..8].copy_from_slice(&[0, 0, 0, 0, 0, 7, 3, 0]);
     expected[8..20].copy_from_slice(&[0, 10, 0, 1, 144, 0, 1, 144, 0, 4, 0, 0]);
     expected[20..32].copy_from_slice(&[0, 10, 0, 1, 144, 0, 1, 144, 0, 4, 0, 0]);
     expected[32..44].copy_from_slice(&[0, 30, 0, 2, 88, 0, 2, 88, 0, 6, 0, 0]);
-    assert_eq!(state[..200], expected);
-    assert_eq!(state[200..], [0xa5; 5]);
+    expected[200..].copy_from_slice(&BASE_TABLE);
+    assert_eq!(state[..217], expected);
+    assert_eq!(state[217..], [0xa5; 5]);
 }
 
 #[test]
@@ -95,11 +99,12 @@ fn the_state_block_of_an_idle_order() {
         &bench_plan(),
         &[(1, true), (7, true), (2, true), (4, true), (4, true)],
     );
-    let mut expected = [0; 200];
+    let mut expected = [0; 217];
     // Clock 18, idle, level 0; all finished, and task 2 has 4 plain ticks left.
     expected[..8].copy_from_slice(&[0, 0, 0, 18, 255, 0, 3, 0]);
     expected[8..20].copy_from_slice(&[0, 10, 0, 1, 144, 0, 0, 0, 0, 0, 0, 0]);
     expected[20..32].copy_from_slice(&[0, 10, 0, 1, 144, 0, 0, 0, 0, 0, 0, 0]);
     expected[32..44].copy_from_slice(&[0, 30, 0, 2, 88, 0, 0, 0, 0, 4, 0, 0]);
+    expected[200..].copy_from_slice(&BASE_TABLE);
     assert_eq!(state, expected);
 }

@@ -1,9 +1,8 @@
 //! What several tests need.
 
-use crate::base::{pass, show, start};
-use sim::dispatch::Order;
+use crate::base::start;
+use sim::dispatch::{pass, show, Order};
 use sim::layout::STATE_BYTES;
-use sim::levels::Levels;
 use sim::plan::Task;
 use sim::random::blocks::block_of;
 
@@ -55,15 +54,10 @@ pub fn led(plan: &[Task], passes: &[(u32, bool)]) -> ([u8; STATE_BYTES], Order) 
     (state, order)
 }
 
-/// The queue shown with 01's speeds, as pairs of task and plain ticks left.
+/// The queue shown, as pairs of task and plain ticks left.
 pub fn queue(state: &[u8]) -> Vec<(usize, u64)> {
-    queue_of(&Levels::base(), state)
-}
-
-/// The same with any speeds.
-pub fn queue_of(levels: &Levels, state: &[u8]) -> Vec<(usize, u64)> {
     let mut buffer = [0; 48];
-    let length = sim::show(levels, state, &mut buffer).unwrap();
+    let length = show(state, &mut buffer).unwrap();
     let entry = |bytes: &[u8]| {
         (
             usize::from(bytes[0]),

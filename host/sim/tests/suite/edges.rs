@@ -1,8 +1,9 @@
 //! 01, "On each side of the edge", bullet by bullet.
 
-use crate::base::{admission_sum, judge, judge_list, pass, read_plan, show, write_plan};
+use crate::base::{admission_sum, judge, judge_list, read_plan, write_plan};
 use crate::common::{bench_plan, led, queue, refuses_pass, refuses_show, run, tasks, BENCH_PASSES};
 use sim::block::{pack_block, Edition};
+use sim::dispatch::{pass, show};
 use sim::plan::{Judged, Task};
 
 #[test]

@@ -1,8 +1,7 @@
 //! The random helpers give what they promise.
 
-use crate::base::{
-    admission_sum, judge, judge_list, listing, pass, read_plan, show, start, write_plan,
-};
+use crate::base::{admission_sum, judge, judge_list, read_plan, start, write_plan};
+use sim::dispatch::{pass, show};
 use sim::layout::STATE_BYTES;
 use sim::levels::Levels;
 use sim::plan::Task;
@@ -13,13 +12,19 @@ use sim::random::plans::{
     plan_at_largest_hyperperiod, plan_at_level, plan_at_level_within, plan_one_over,
     plan_one_unit_over, BASES, SMALL_BASES,
 };
-use sim::random::states::{forged_state, invented_state, late_state, reached_state};
-use sim::random::tables::some_levels;
+use sim::random::states::{
+    forged_state, invented_state, late_state, reached_state, with_a_table_changed,
+};
+use sim::random::tables::{
+    bad_level_block, bad_speeds, damaged_level_block, levels_of_count, some_levels,
+    some_or_base_levels,
+};
 use sim::random::Random;
-use std::collections::BTreeSet;
+use sim::{read_levels, write_levels};
+use std::collections::{BTreeMap, BTreeSet};
 
 fn is_sound(state: &[u8]) -> bool {
-    sim::dispatch::sound(&Levels::base(), state).is_some()
+    sim::dispatch::sound(state).is_some()
 }
 
 /// A plan with a short hyperperiod, with the levels taken in turn.
@@ -186,7 +191,7 @@ fn reached_late_and_invented_states_are_sound() {
         let tasks = small_plan(&mut random, round);
         let (reached, order) = reached_state(&mut random, &levels, &tasks, 30);
         assert!(is_sound(&reached));
-        let mut late = late_state(&mut random, &levels, &reached);
+        let mut late = late_state(&mut random, &reached);
         assert!(is_sound(&late));
         assert!(is_sound(&invented_state(&mut random, &levels, &tasks)));
         // Led on from there, the largest clock is met sooner or later.
@@ -234,7 +239,7 @@ fn sound_states_stay_sound_whatever_is_passed() {
             0 => invented_state(&mut random, &levels, &tasks),
             _ => reached_state(&mut random, &levels, &tasks, 12).0,
         };
-        let mut state = forged_state(&mut random, &levels, &start);
+        let mut state = forged_state(&mut random, &start);
         if !is_sound(&state) {
             unsound += 1;
             let before = state.clone();
@@ -261,7 +266,7 @@ fn bench_inputs_have_accepted_and_refused_passes() {
     for round in 0..60 {
         let tasks = small_plan(&mut random, round);
         let input = bench_input(&mut random, &levels, &tasks, 40);
-        let lines = String::from_utf8(listing(&input)).unwrap();
+        let lines = String::from_utf8(sim::listing(&input)).unwrap();
         assert!(lines.starts_with("plan "));
         assert!(lines.lines().count() >= 42);
         for line in lines.lines().skip(1) {
@@ -309,7 +314,8 @@ fn plans_have_the_level_chosen_in_any_table() {
     for _ in 0..60 {
         let levels = some_levels(&mut random);
         for level in 0..levels.count() {
-            let nominal = |tasks: &[Task]| sim::judge_list(&levels, tasks).map(|it| it.nominal);
+            let nominal =
+                |tasks: &[Task]| sim::plan::judge_list(&levels, tasks).map(|it| it.nominal);
             let at = plan_at_level(&mut random, &levels, level);
             assert_eq!(nominal(&at), Ok(level), "{levels:?}");
             let full = full_plan(&mut random, &levels, level);
@@ -325,4 +331,104 @@ fn plans_have_the_level_chosen_in_any_table() {
             assert_eq!(nominal(&over), wanted, "{levels:?}");
         }
     }
+}
+
+#[test]
+fn tables_of_a_count_and_01s_now_and_then() {
+    let mut random = Random::new(12);
+    for count in 1..=8 {
+        for _ in 0..20 {
+            assert_eq!(levels_of_count(&mut random, count).count(), count);
+        }
+    }
+    let base = (0..400).filter(|_| some_or_base_levels(&mut random) == Levels::base());
+    assert!((60..140).contains(&base.count()));
+}
+
+#[test]
+fn bad_level_blocks_are_refused_as_told() {
+    let mut random = Random::new(13);
+    for number in [18, 19, 20] {
+        let mut lengths = BTreeSet::new();
+        let mut counts = BTreeSet::new();
+        for _ in 0..800 {
+            let block = bad_level_block(&mut random, number);
+            assert_eq!(read_levels(&block), Err(number), "{block:02x?}");
+            lengths.insert(block.len());
+            counts.insert(block.first().map(|byte| byte >> 4));
+        }
+        // Every count there is for the number, and for 18 no count at all.
+        assert_eq!(counts.len(), 8 + usize::from(number == 18), "{counts:?}");
+        assert!(lengths.len() >= 8, "{lengths:?}");
+    }
+    for _ in 0..400 {
+        assert_eq!(Levels::of(&bad_speeds(&mut random)), None);
+    }
+}
+
+#[test]
+fn damaged_level_blocks_meet_every_answer() {
+    let mut random = Random::new(14);
+    let mut answers: BTreeMap<Option<u32>, u32> = BTreeMap::new();
+    for _ in 0..2_000 {
+        let levels = some_or_base_levels(&mut random);
+        let block = damaged_level_block(&mut random, &write_levels(&levels));
+        let read = read_levels(&block);
+        *answers.entry(read.as_ref().err().copied()).or_default() += 1;
+        if let Ok(read) = read {
+            assert_eq!(write_levels(&read), block);
+        }
+    }
+    for answer in [None, Some(18), Some(19), Some(20)] {
+        assert!(answers[&answer] > 80, "{answers:?}");
+    }
+}
+
+#[test]
+fn changed_tables_of_states_are_of_every_kind() {
+    let mut random = Random::new(15);
+    let (mut sound_still, mut bad, mut another) = (0, 0, 0);
+    for _ in 0..1_500 {
+        let levels = some_or_base_levels(&mut random);
+        let level = random.place(levels.count());
+        let tasks = plan_at_level(&mut random, &levels, level);
+        let state = invented_state(&mut random, &levels, &tasks);
+        let forged = with_a_table_changed(&mut random, &state);
+        // Nothing but the table has changed.
+        assert_eq!(forged[..200], state[..200]);
+        match sim::state::unpack(&forged) {
+            None => bad += 1,
+            Some(other) if other.levels != levels => another += 1,
+            Some(_) => {}
+        }
+        sound_still += u32::from(is_sound(&forged) && forged != state);
+    }
+    assert!(
+        bad > 600 && another > 200 && sound_still > 60,
+        "{bad} {another} {sound_still}"
+    );
+}
+
+#[test]
+fn states_with_any_table_stay_sound() {
+    let mut random = Random::new(16);
+    let mut answers = BTreeSet::new();
+    for round in 0..600 {
+        let levels = some_levels(&mut random);
+        let level = random.place(levels.count());
+        let base = random.pick(&SMALL_BASES);
+        let tasks = plan_at_level_within(&mut random, &levels, level, base);
+        let mut state = match round % 3 {
+            0 => invented_state(&mut random, &levels, &tasks),
+            1 => reached_state(&mut random, &levels, &tasks, 12).0,
+            _ => {
+                let (reached, _) = reached_state(&mut random, &levels, &tasks, 12);
+                late_state(&mut random, &reached)
+            }
+        };
+        assert!(is_sound(&state));
+        lead_on(&mut random, &mut state, &mut answers);
+        assert_eq!(sim::state::unpack(&state).unwrap().levels, levels);
+    }
+    assert_eq!(answers, BTreeSet::from([11, 12, 13, 14, 15]));
 }

@@ -1,4 +1,4 @@
-//! The simulator held to the cases and examples of document 01, and to itself in random runs.
+//! The simulator held to the cases and examples of documents 01 and 02, and to itself in random runs.
 
 mod astray;
 mod base;
@@ -8,6 +8,7 @@ mod books;
 mod common;
 mod edges;
 mod generators;
+mod level_blocks;
 mod passes;
 mod refusals;
 mod runs;

@@ -1,8 +1,8 @@
 //! Passing, beyond 01's own cases.
 
-use crate::base::{pass, show};
 use crate::common::{bench_plan, idle, led, queue, refuses_pass, run, tasks};
 use sim::clock::LARGEST_CLOCK;
+use sim::dispatch::{pass, show};
 use sim::layout::{self, STATE_BYTES};
 use sim::state::{pack, unpack};
 

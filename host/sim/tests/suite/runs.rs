@@ -1,13 +1,13 @@
 //! Random runs: plans led through passes, with demand 3, the queue and the order checked after
 //! each against what the books alone say.
 
-use crate::common::queue_of;
+use crate::common::queue;
 use sim::books::{demand3_holds, ActualBook, PlainBook};
 use sim::dispatch::{pass, show, start, Order};
 use sim::job::{time_needed, Left};
 use sim::layout::STATE_BYTES;
 use sim::levels::Levels;
-use sim::plan::Task;
+use sim::plan::{judge_list, Task};
 use sim::random::blocks::block_of;
 use sim::random::passes::any_pass;
 use sim::random::plans::{full_plan, plan_at_level, plan_at_level_within, SMALL_BASES};
@@ -61,7 +61,7 @@ impl Run {
     fn step(&mut self, random: &mut Random, tally: &mut Tally) {
         let (d, finished) = any_pass(random, self.order);
         let before = self.state;
-        let reply = pass(&self.levels, &mut self.state, d, finished);
+        let reply = pass(&mut self.state, d, finished);
         self.actual.pass(d, finished, reply);
         self.plain.pass(d, reply);
         match reply {
@@ -109,7 +109,7 @@ impl Run {
         match order {
             Order::Idle { .. } => tally.idle += 1,
             Order::Run { level, .. } => {
-                let nominal = sim::judge_list(&self.levels, &self.plan).unwrap().nominal;
+                let nominal = judge_list(&self.levels, &self.plan).unwrap().nominal;
                 if usize::from(level) < nominal {
                     tally.below_nominal += 1;
                 }
@@ -165,13 +165,12 @@ impl Run {
             .iter()
             .map(|job| (job.task, job.left))
             .collect();
-        let queue = queue_of(&self.levels, &self.state);
-        assert_eq!(queue, plain, "{:?}", self.plan);
+        assert_eq!(queue(&self.state), plain, "{:?}", self.plan);
         let shown = 3 * plain.len();
         if shown > 0 {
             let mut short = [0xa5; 48];
             let room = &mut short[..shown - 1];
-            assert_eq!(show(&self.levels, &self.state, room), Err(9));
+            assert_eq!(show(&self.state, room), Err(9));
             assert_eq!(short, [0xa5; 48]);
         }
     }

@@ -1,11 +1,13 @@
 //! "Sound means ...", clause by clause, by forging states that just fail it and states that just
 //! keep to it.
 
-use crate::base::{pass, show};
 use crate::common::{bench_plan, led, refuses_pass, refuses_show, tasks, BENCH_PASSES};
+use sim::dispatch::{pass, show};
 use sim::layout::{self, STATE_BYTES};
 use sim::plan::Task;
+use sim::random::states::put_table;
 use sim::state::{pack, unpack, State};
+use sim::Levels;
 
 #[track_caller]
 fn unsound(state: &[u8]) {
@@ -36,12 +38,20 @@ fn with_order(mut state: [u8; STATE_BYTES], task: u64, level: u64) -> [u8; STATE
     state
 }
 
+/// The bench plan at tick 1 with these speeds in its table, their count, and zeros behind them.
+fn with_table(speeds: &[u64]) -> [u8; STATE_BYTES] {
+    let mut state = changed(|_| {});
+    put_table(&mut state, speeds);
+    state
+}
+
 #[test]
 fn length_and_zero_bytes() {
     let good = changed(|_| {});
     is_sound(&good);
     unsound(&[]);
-    unsound(&good[..199]);
+    unsound(&good[..200]);
+    unsound(&good[..216]);
     unsound(&[&good[..], &[0]].concat());
     // The zero byte of the head, those of an entry, and everything past the third entry.
     for place in [7, 18, 19, 30, 31, 42, 43].into_iter().chain(44..200) {
@@ -185,4 +195,85 @@ fn which_job_an_entry_stands_for_follows_from_the_clock() {
     // At clock 20 the jobs of tasks 0 and 1 have just arrived, at 19 they are those from 10.
     is_sound(&at(19, 1));
     is_sound(&at(20, 2));
+}
+
+#[test]
+fn the_count_of_levels() {
+    let count = |state: &mut [u8; STATE_BYTES], count| layout::LEVEL_COUNT.put(state, count);
+    // With fewer, the last speeds are there and not used; with more, the next ones are 0.
+    for other in [0, 1, 7, 9, 16, 128, 255] {
+        let mut state = changed(|_| {});
+        count(&mut state, other);
+        unsound(&state);
+    }
+    // 60 and 100 units a tick are levels 0 and 1 then, so the order names another level.
+    let mut two = with_order(with_table(&[60, 100]), 1, 0);
+    is_sound(&two);
+    for other in [0, 1, 3, 8] {
+        count(&mut two, other);
+        unsound(&two);
+    }
+}
+
+#[test]
+fn the_speeds_of_the_table() {
+    let good = Levels::base().speeds().to_vec();
+    is_sound(&with_table(&good));
+    for place in 0..8 {
+        let with = |speed| {
+            let mut speeds = good.clone();
+            speeds[place] = speed;
+            with_table(&speeds)
+        };
+        // Out of range.
+        for speed in [0, 1_001, 1_024, 65_535] {
+            unsound(&with(speed));
+        }
+        // The same as a neighbour, or past it.
+        if place > 0 {
+            unsound(&with(good[place - 1]));
+            unsound(&with(good[place - 1] - 1));
+        }
+        if place < 7 {
+            unsound(&with(good[place + 1]));
+            unsound(&with(good[place + 1] + 1));
+        }
+    }
+    // At their ends. The order has 7 ticks for 400 units at level 5, and nominal is 100.
+    is_sound(&with_table(&[1, 20, 30, 40, 50, 60, 80, 100]));
+    let fastest = |speed| with_order(with_table(&[60, 100, speed]), 1, 0);
+    is_sound(&fastest(1_000));
+    unsound(&fastest(1_001));
+}
+
+#[test]
+fn speeds_that_are_not_used() {
+    for count in 1..8 {
+        let speeds: Vec<u64> = (0..count).map(|place| 100 + place).collect();
+        let good = with_order(with_table(&speeds), 1, 0);
+        is_sound(&good);
+        for unused in count as usize..8 {
+            for speed in [1, 255, 256, 200 + unused as u64] {
+                let mut forged = good;
+                layout::speed_of(unused).put(&mut forged, speed);
+                unsound(&forged);
+            }
+        }
+    }
+}
+
+#[test]
+fn the_rest_of_the_state_is_asked_with_its_own_table() {
+    // Level 5 runs at 60. At 58 a tick 400 units need 7 ticks still, at 57 they need 8.
+    is_sound(&with_table(&[10, 20, 30, 40, 50, 58, 80, 100]));
+    unsound(&with_table(&[10, 20, 30, 40, 50, 57, 80, 100]));
+    // At 99 no level admits the plan; at 101 all is as before, and 120 gives allotments of 4, 4 and
+    // 5 ticks, where task 2 has 6 plain ticks left.
+    unsound(&with_table(&[10, 20, 30, 40, 50, 60, 80, 99]));
+    is_sound(&with_table(&[10, 20, 30, 40, 50, 60, 80, 101]));
+    unsound(&with_table(&[10, 20, 30, 40, 50, 60, 80, 120]));
+    // Nominal is then level 6, and an order at level 7 is above it.
+    let higher = with_table(&[10, 20, 30, 40, 50, 60, 100, 200]);
+    is_sound(&with_order(higher, 1, 6));
+    unsound(&with_order(higher, 1, 7));
 }

@@ -1,13 +1,14 @@
 //! Other speeds than 01's, with answers worked out by hand from 01's rules: they name levels, not
 //! these eight speeds.
 
-use crate::common::{idle, queue_of, run, tasks};
-use sim::dispatch::{pass, show, sound, start, Order};
+use crate::common::{idle, queue, refuses_pass, refuses_show, run, tasks};
+use sim::dispatch::{pass, sound, start, Order};
 use sim::job::{left_after, time_needed, Left};
 use sim::layout::{self, STATE_BYTES};
 use sim::plan::{judge_list, read_plan, write_plan, Judged, Task};
 use sim::random::blocks::block_of;
-use sim::{listing, Levels, PlainBook};
+use sim::random::states::put_table;
+use sim::{listing, write_levels, Levels, PlainBook};
 
 fn odd() -> Levels {
     Levels::new(&[7, 13, 29])
@@ -24,7 +25,7 @@ fn led(levels: &Levels, plan: &[Task], passes: &[(u32, bool)]) -> ([u8; STATE_BY
     let mut state = [0; STATE_BYTES];
     let mut order = start(levels, &block_of(plan), &mut state).unwrap();
     for (d, finished) in passes {
-        order = pass(levels, &mut state, *d, *finished).unwrap();
+        order = pass(&mut state, *d, *finished).unwrap();
     }
     (state, order)
 }
@@ -101,7 +102,7 @@ fn a_listing_at_odd_speeds() {
     let passes = [
         0x80, 0x01, 0x00, 0x03, 0x00, 0x05, 0x80, 0x05, 0x00, 0x01, 0x80, 0x04, 0x00, 0x01,
     ];
-    let input = [&block_of(&odd_plan())[..], &passes].concat();
+    let input = [&write_levels(&odd())[..], &block_of(&odd_plan()), &passes].concat();
     // At 1 task 1 has 3 and 5 ticks for 56 units, which at 7 are 8 exactly. After 3 of these, 35
     // units are left, and 5 ticks that don't finish them are refused. At 10 and 15 the jobs have
     // their own 4 and 5 ticks alone.
@@ -116,7 +117,7 @@ refused 14
 14 idle 1
 15 run 1 1 5
 ";
-    assert_eq!(listing(&odd(), &input), expected.as_bytes());
+    assert_eq!(listing(&input), expected.as_bytes());
 }
 
 #[test]
@@ -137,14 +138,14 @@ fn the_work_left_falls_by_the_levels_own_speed() {
     let (state, _) = led(&odd(), &odd_plan(), &[(1, true), (3, false)]);
     let work = |task| layout::of_task(task, layout::WORK_LEFT).get(&state);
     assert_eq!((work(0), work(1)), (0, 56 - 3 * 7));
-    assert_eq!(queue_of(&odd(), &state), [(1, 5)]);
+    assert_eq!(queue(&state), [(1, 5)]);
     let (state, order) = led(&odd(), &odd_plan(), &[(3, false)]);
     assert_eq!(
         layout::of_task(0, layout::WORK_LEFT).get(&state),
         40 - 3 * 13
     );
     assert_eq!(order, run(0, 1, 1));
-    assert_eq!(queue_of(&odd(), &state), [(0, 1), (1, 5)]);
+    assert_eq!(queue(&state), [(0, 1), (1, 5)]);
 }
 
 #[test]
@@ -170,12 +171,12 @@ fn a_single_level() {
     let (mut state, order) = led(&levels, &full, &[]);
     assert_eq!(order, run(0, 0, 3));
     // However much time there is, no level is lower.
-    assert_eq!(pass(&levels, &mut state, 1, true), Ok(run(1, 0, 4)));
-    assert_eq!(queue_of(&levels, &state), [(0, 2), (1, 4)]);
-    assert_eq!(pass(&levels, &mut state, 3, false), Ok(run(1, 0, 1)));
-    assert_eq!(pass(&levels, &mut state, 1, false), Err(14));
-    assert_eq!(pass(&levels, &mut state, 1, true), Ok(run(0, 0, 3)));
-    assert_eq!(queue_of(&levels, &state), [(1, 2), (0, 3)]);
+    assert_eq!(pass(&mut state, 1, true), Ok(run(1, 0, 4)));
+    assert_eq!(queue(&state), [(0, 2), (1, 4)]);
+    assert_eq!(pass(&mut state, 3, false), Ok(run(1, 0, 1)));
+    assert_eq!(pass(&mut state, 1, false), Err(14));
+    assert_eq!(pass(&mut state, 1, true), Ok(run(0, 0, 3)));
+    assert_eq!(queue(&state), [(1, 2), (0, 3)]);
 }
 
 #[test]
@@ -187,15 +188,15 @@ fn speeds_1_and_1000() {
     // left; the tick that task 0 leaves unused makes it 2, which do at one unit a tick.
     let passes = [(2, true), (2, false), (1, true)];
     let (mut state, order) = led(&levels, &tasks(&[(4, 2_000), (100, 2_002)]), &passes);
-    assert_eq!(queue_of(&levels, &state), [(0, 1), (1, 1)]);
+    assert_eq!(queue(&state), [(0, 1), (1, 1)]);
     assert_eq!(order, run(1, 0, 2));
-    assert_eq!(pass(&levels, &mut state, 1, false), Ok(run(1, 0, 1)));
-    assert_eq!(pass(&levels, &mut state, 1, true), Ok(idle(1)));
+    assert_eq!(pass(&mut state, 1, false), Ok(run(1, 0, 1)));
+    assert_eq!(pass(&mut state, 1, true), Ok(idle(1)));
     // With 3 units left it takes the higher level, and most of its tick is lost.
     let (mut state, order) = led(&levels, &tasks(&[(4, 2_000), (100, 2_003)]), &passes);
     assert_eq!(order, run(1, 1, 1));
-    assert_eq!(pass(&levels, &mut state, 1, false), Err(14));
-    assert_eq!(pass(&levels, &mut state, 1, true), Ok(idle(2)));
+    assert_eq!(pass(&mut state, 1, false), Err(14));
+    assert_eq!(pass(&mut state, 1, true), Ok(idle(2)));
 }
 
 #[test]
@@ -203,7 +204,7 @@ fn the_slowest_speed_fills_two_bytes_of_ticks() {
     let levels = Levels::new(&[1, 1_000]);
     let (state, order) = led(&levels, &tasks(&[(65_535, 65_535)]), &[]);
     assert_eq!(order, run(0, 0, 65_535));
-    assert_eq!(queue_of(&levels, &state), [(0, 65_535)]);
+    assert_eq!(queue(&state), [(0, 65_535)]);
     // A unit more is 66 ticks at 1,000. The largest worst case is 61,681 ticks at 17 units and one
     // too many at 16.
     let over = tasks(&[(65_535, 65_536)]);
@@ -215,23 +216,27 @@ fn the_slowest_speed_fills_two_bytes_of_ticks() {
 }
 
 #[test]
-fn soundness_is_asked_with_the_table_at_hand() {
+fn soundness_is_asked_with_the_states_own_table() {
     let (state, _) = led(&odd(), &odd_plan(), &[]);
-    assert!(sound(&odd(), &state).is_some());
+    assert!(sound(&state).is_some());
     // At 10 a tick, which then is nominal, 56 units need 6 ticks, and the state has 5 left for them.
     // The next table admits the plan at no level; the last has no level 1.
-    let others = [Levels::base(), Levels::new(&[1, 6]), Levels::new(&[13])];
-    for levels in others {
-        assert_eq!(pass(&levels, &mut state.clone(), 1, false), Err(10));
-        assert_eq!(show(&levels, &state, &mut [0; 48]), Err(10));
+    for speeds in [Levels::base().speeds(), &[1, 6], &[13]] {
+        let mut forged = state;
+        put_table(&mut forged, speeds);
+        refuses_pass(&forged, 1, false, 10);
+        refuses_show(&forged, 48, 10);
     }
+    // With another highest level nothing in the state changes its meaning.
+    let mut other = state;
+    put_table(&mut other, &[7, 13, 1_000]);
+    assert_eq!(pass(&mut other, 1, false), Ok(run(0, 1, 3)));
     // A level that the table doesn't have, where the highest that it has is nominal and meets the
     // allowance.
-    let one = Levels::new(&[13]);
-    let (mut forged, _) = led(&one, &odd_plan(), &[]);
-    assert!(sound(&one, &forged).is_some());
+    let (mut forged, _) = led(&Levels::new(&[13]), &odd_plan(), &[]);
+    assert!(sound(&forged).is_some());
     layout::LEVEL.put(&mut forged, 1);
-    assert!(sound(&one, &forged).is_none());
+    assert!(sound(&forged).is_none());
 }
 
 #[test]
@@ -254,10 +259,21 @@ fn ticks_take_their_time_from_a_job_at_every_speed() {
 
 #[test]
 fn what_is_no_table() {
-    for speeds in [&[][..], &[0], &[0, 5], &[5, 5], &[10, 20, 15]] {
+    let nine = [1, 2, 3, 4, 5, 6, 7, 8, 9];
+    for speeds in [
+        &[][..],
+        &[0],
+        &[0, 5],
+        &[5, 5],
+        &[10, 20, 15],
+        &[1_001],
+        &nine,
+    ] {
+        assert_eq!(Levels::of(speeds), None, "{speeds:?}");
         let made = std::panic::catch_unwind(|| Levels::new(speeds));
         assert!(made.is_err(), "{speeds:?}");
     }
+    assert!(Levels::of(&nine[..8]).is_some());
 }
 
 #[test]

@@ -1,6 +1,5 @@
-//! `pack`: a plan and passes in plain text to a bench input, and back.
+//! `pack`: speeds, a plan and passes in plain text to a bench input, and back.
 
-use sim::Levels;
 use std::env;
 use std::ffi::{OsStr, OsString};
 use std::process::ExitCode;
@@ -11,7 +10,7 @@ use tools::{bench, refusal, text};
 const USAGE: &str = "usage: pack to-bytes [FILE] | pack to-text [FILE] | pack --help";
 
 const HELP: &str = "\
-pack: a plan and passes in plain text to a bench input, and back
+pack: speeds, a plan and passes in plain text to a bench input, and back
 
   pack to-bytes [FILE]   text form to bench input, on standard output
   pack to-text [FILE]    bench input to text form, on standard output
@@ -20,14 +19,17 @@ Without FILE, or with -, standard input is read.
 
 The text form, line by line:
 
+  speeds S1 S2 ..        the levels' speeds, before all else; without this line
+                         10 20 30 40 50 60 80 100
   task PERIOD WORST      a task; all tasks come before the passes
   pass D                 D ticks went by, the running job has not finished
   finish D               D ticks went by, the running job finished at their end
   # ...                  a comment, also after one of the above
 
-Blank lines are ignored. Numbers are decimal: PERIOD 0 to 65535, WORST 0 to
-1048575, D 0 to 32767; at most 31 tasks. What the dispatcher would refuse can
-be packed too, as long as it fits; a warning then names the refusal.
+Blank lines are ignored. Numbers are decimal: a speed 0 to 1023, PERIOD 0 to
+65535, WORST 0 to 1048575, D 0 to 32767; at most 15 speeds and 31 tasks. What
+the dispatcher would refuse can be packed too, as long as it fits; a warning
+then names the refusal.
 
 Errors name the line of the text (from 1) or the byte of the input (from 0).
 ";
@@ -80,7 +82,7 @@ fn failure(file: Option<&OsStr>, error: impl std::fmt::Display) -> Stop {
 
 /// Names the refusal if the bench program would take no pass of this.
 fn warn(script: &Script) {
-    if let Some(number) = bench::refusal(&Levels::base(), script) {
+    if let Some(number) = bench::refusal(script) {
         let meaning = refusal::meaning(number);
         eprintln!("pack: warning: the bench program refuses this with {number}: {meaning}");
     }

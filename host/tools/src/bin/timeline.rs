@@ -1,6 +1,5 @@
 //! `timeline`: a bench input as an SVG picture of its run.
 
-use sim::Levels;
 use std::env;
 use std::ffi::{OsStr, OsString};
 use std::path::Path;
@@ -20,7 +19,8 @@ to the end of the last order's hold; --from and --to cut out another part, up
 to one hyperperiod past that end. Long runs are scaled down to fit.
 
 Each task has a row: its jobs as bars where they ran, as high as the level is
-fast, and beneath them the canonical (\"plain\") schedule. Refused passes are
+fast among the loaded speeds, and beneath them the canonical (\"plain\")
+schedule. Refused passes are
 marked at their tick with their number. The legend tells the rest.
 ";
 
@@ -43,7 +43,7 @@ fn run(arguments: impl Iterator<Item = OsString>) -> Result<(), Stop> {
     }
     let file = options.file.as_deref();
     let input = read_input(file)?;
-    let run = run::follow(&Levels::base(), &input).map_err(|number| {
+    let run = run::follow(&input).map_err(|number| {
         let meaning = refusal::meaning(number);
         Stop::Failure(format!("the input is refused with {number}: {meaning}"))
     })?;

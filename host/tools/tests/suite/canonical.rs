@@ -3,23 +3,24 @@
 use crate::common::tasks;
 use sim::plan::{Judged, Task};
 use sim::random::plans::{full_plan, plan_at_level_within, SMALL_BASES};
+use sim::random::tables::some_or_base_levels;
 use sim::random::Random;
 use sim::{Levels, Order, PlainBook};
 use tools::canonical::{turns_within, Turn};
 use tools::run::Span;
 
-fn judged(plan: &[Task]) -> Judged {
-    sim::judge_list(&Levels::base(), plan).unwrap()
+fn judged(levels: &Levels, plan: &[Task]) -> Judged {
+    sim::plan::judge_list(levels, plan).unwrap()
 }
 
-fn turns(plan: &[Task], window: Span) -> Vec<Turn> {
-    turns_within(&Levels::base(), plan, judged(plan), window)
+fn turns(levels: &Levels, plan: &[Task], window: Span) -> Vec<Turn> {
+    turns_within(levels, plan, judged(levels, plan), window)
 }
 
 /// Which job gets each tick, told by the book fed one tick at a time: the one with a tick less
 /// left afterwards.
-fn by_the_book(plan: &[Task], ticks: u64) -> Vec<Option<(usize, u64)>> {
-    let mut book = PlainBook::new(&Levels::base(), plan);
+fn by_the_book(levels: &Levels, plan: &[Task], ticks: u64) -> Vec<Option<(usize, u64)>> {
+    let mut book = PlainBook::new(levels, plan);
     let mut got = Vec::new();
     for _ in 0..ticks {
         let before = book.open_jobs();
@@ -45,10 +46,10 @@ fn by_the_turns(turns: &[Turn], window: Span) -> Vec<Option<(usize, u64)>> {
 }
 
 #[track_caller]
-fn agrees(plan: &[Task], from: u64, to: u64) {
+fn agrees(levels: &Levels, plan: &[Task], from: u64, to: u64) {
     let window = Span { from, to };
-    let turns = turns(plan, window);
-    let expected = by_the_book(plan, to);
+    let turns = turns(levels, plan, window);
+    let expected = by_the_book(levels, plan, to);
     assert_eq!(by_the_turns(&turns, window), expected[from as usize..]);
     for pair in turns.windows(2) {
         let joined = pair[0].span.to == pair[1].span.from;
@@ -59,28 +60,29 @@ fn agrees(plan: &[Task], from: u64, to: u64) {
 
 #[test]
 fn windows_of_random_plans() {
-    let levels = Levels::base();
     let mut random = Random::new(21);
     for round in 0..200 {
+        let levels = some_or_base_levels(&mut random);
         let level = random.place(levels.count());
         let base = random.pick(&SMALL_BASES);
         let plan = match round % 2 {
             0 => plan_at_level_within(&mut random, &levels, level, base),
             _ => full_plan(&mut random, &levels, level),
         };
-        let hyperperiod = judged(&plan).hyperperiod;
+        let hyperperiod = judged(&levels, &plan).hyperperiod;
         // Up to three hyperperiods, within bounds; the book is slow.
         let to = random.between(1, (3 * hyperperiod).min(1_500));
         let from = random.below(to);
-        agrees(&plan, from, to);
+        agrees(&levels, &plan, from, to);
     }
 }
 
 #[test]
 fn the_example() {
     let plan = tasks(&[(10, 400), (10, 400), (30, 600)]);
-    agrees(&plan, 0, 90);
-    let turns = turns(&plan, Span { from: 0, to: 30 });
+    let levels = Levels::base();
+    agrees(&levels, &plan, 0, 90);
+    let turns = turns(&levels, &plan, Span { from: 0, to: 30 });
     let spans: Vec<(usize, u64, u64)> = turns
         .iter()
         .map(|turn| (turn.task, turn.span.from, turn.span.to))

@@ -1,6 +1,6 @@
 //! The two commands as a technician calls them.
 
-use crate::common::{EXAMPLE, EXAMPLE_TEXT};
+use crate::common::{with_levels, EXAMPLE, EXAMPLE_TEXT, LEVELS_END, PLAN_END};
 use crate::pictures::picture;
 use std::io::Write;
 use std::process::{Command, Stdio};
@@ -64,17 +64,15 @@ fn pack_there_and_back() {
 fn pack_names_the_line_or_the_byte() {
     let line = "pack: standard input: line 2: the worst case is missing";
     stops(pack(&["to-bytes"], b"\ntask 1"), 1, line);
-    let byte = "pack: standard input: byte 27: an odd byte is left; a pass has two";
+    let byte = "pack: standard input: byte 38: an odd byte is left; a pass has two";
     stops(pack(&["to-text"], &[&EXAMPLE[..], &[0]].concat()), 1, byte);
 }
 
 #[test]
 fn pack_takes_any_bytes_in_a_comment() {
     let text = b"task 40 300 # \xff\xfe\n";
-    gives(
-        pack(&["to-bytes"], text),
-        &[0x10, 0x80, 0x14, 0x00, 0x09, 0x60],
-    );
+    let block = [0x10, 0x80, 0x14, 0x00, 0x09, 0x60];
+    gives(pack(&["to-bytes"], text), &with_levels(&block));
     assert_eq!(pack(&["to-bytes"], b"t\xffsk 1 1").status, Some(1));
 }
 
@@ -84,10 +82,47 @@ fn pack_warns_of_a_plan_that_is_refused() {
                    is out of range\n";
     let ended = pack(&["to-bytes"], b"task 0 300\n");
     assert_eq!((ended.status, ended.said.as_str()), (Some(0), warning));
-    assert_eq!(ended.out, [0x10, 0x80, 0x00, 0x00, 0x09, 0x60]);
+    let block = [0x10, 0x80, 0x00, 0x00, 0x09, 0x60];
+    assert_eq!(ended.out, with_levels(&block));
     let back = pack(&["to-text"], &ended.out);
     assert_eq!((back.status, back.said.as_str()), (Some(0), warning));
     assert_eq!(back.out, b"task 0 300\n");
+}
+
+#[test]
+fn pack_warns_of_speeds_that_are_refused() {
+    let count = "18: the level block is empty, or its count is not 1 to 8";
+    let speed = "20: a speed is not 1 to 1,000, or not above the one before it";
+    let nine = "speeds 1 2 3 4 5 6 7 8 9";
+    for (line, why) in [
+        ("speeds", count),
+        (nine, count),
+        ("speeds 0 5", speed),
+        ("speeds 1001", speed),
+        ("speeds 30 20", speed),
+    ] {
+        // The plan would be refused too, with 6.
+        let text = format!("{line}\ntask 0 300\n");
+        let warning = format!("pack: warning: the bench program refuses this with {why}\n");
+        let ended = pack(&["to-bytes"], text.as_bytes());
+        assert_eq!((ended.status, &ended.said), (Some(0), &warning));
+        let back = pack(&["to-text"], &ended.out);
+        assert_eq!((back.status, &back.said), (Some(0), &warning));
+        assert_eq!(back.out, text.as_bytes());
+    }
+}
+
+#[test]
+fn pack_there_and_back_with_other_speeds() {
+    // 3 speeds are 34 bits: 0011 0000000111 0000001101 0000011101 000000.
+    let text = "speeds 7 13 29\ntask 40 300\n";
+    let bytes = [
+        0x30, 0x1c, 0x0d, 0x07, 0x40, 0x10, 0x80, 0x14, 0x00, 0x09, 0x60,
+    ];
+    gives(pack(&["to-bytes"], text.as_bytes()), &bytes);
+    gives(pack(&["to-text"], &bytes), text.as_bytes());
+    let by_hand = format!("speeds 10 20 30 40 50 60 80 100\n{EXAMPLE_TEXT}");
+    gives(pack(&["to-bytes"], by_hand.as_bytes()), &EXAMPLE);
 }
 
 #[test]
@@ -105,7 +140,10 @@ fn timeline_draws_the_picture() {
 fn timeline_stops_where_the_bench_program_does() {
     let refused =
         "timeline: the input is refused with 4: the plan block's length is not the count's";
-    stops(timeline(&[], &EXAMPLE[..14]), 1, refused);
+    stops(timeline(&[], &EXAMPLE[..PLAN_END - 1]), 1, refused);
+    let levels = "timeline: the input is refused with 19: the level block's length is not the \
+                  count's, or its closing bits are not zero";
+    stops(timeline(&[], &EXAMPLE[..LEVELS_END - 1]), 1, levels);
     let nothing = "timeline: nothing to draw from tick 25 to tick 25";
     stops(timeline(&["--from", "25"], &EXAMPLE), 1, nothing);
 }
@@ -148,6 +186,7 @@ fn help_says_the_text_form_and_the_options() {
     for part in [
         "to-bytes",
         "to-text",
+        "speeds S1 S2 ..",
         "task PERIOD WORST",
         "pass D",
         "finish D",

@@ -1,21 +1,31 @@
 //! What several tests need.
 
 use sim::block::{PERIOD_BITS, WORST_BITS};
+use sim::level_block::SPEED_BITS;
 use sim::plan::Task;
 use sim::random::blocks::bench_input;
 use sim::random::plans::{plan_at_level_within, SMALL_BASES};
+use sim::random::tables::some_or_base_levels;
 use sim::random::Random;
 use sim::Levels;
-use tools::run::Run;
 use tools::script::{largest, Pass, Script, D_BITS};
 
-/// Document 01's example: the block, then 8001 8007 8002 8004 8004 0002.
-pub const EXAMPLE: [u8; 27] = [
-    0x11, 0x80, 0x05, 0x00, 0x0c, 0x80, 0x00, 0x50, 0x00, 0xc8, 0x00, 0x0f, 0x00, 0x12, 0xc0, 0x80,
-    0x01, 0x80, 0x07, 0x80, 0x02, 0x80, 0x04, 0x80, 0x04, 0x00, 0x02,
+/// Document 01's example with its eight speeds in front: the level block, the plan block, then 8001
+/// 8007 8002 8004 8004 0002.
+pub const EXAMPLE: [u8; 38] = [
+    0x80, 0x28, 0x14, 0x07, 0x82, 0x80, 0xc8, 0x3c, 0x14, 0x06, 0x40, 0x11, 0x80, 0x05, 0x00, 0x0c,
+    0x80, 0x00, 0x50, 0x00, 0xc8, 0x00, 0x0f, 0x00, 0x12, 0xc0, 0x80, 0x01, 0x80, 0x07, 0x80, 0x02,
+    0x80, 0x04, 0x80, 0x04, 0x00, 0x02,
 ];
 
-pub const EXAMPLE_BLOCK: usize = 15;
+/// Where its level block and its plan block end.
+pub const LEVELS_END: usize = 11;
+pub const PLAN_END: usize = 26;
+
+/// 01's level block in front of something.
+pub fn with_levels(rest: &[u8]) -> Vec<u8> {
+    [&EXAMPLE[..LEVELS_END], rest].concat()
+}
 
 pub const EXAMPLE_TEXT: &str = "\
 task 10 400
@@ -29,19 +39,6 @@ finish 4
 finish 4
 pass 2
 ";
-
-/// The listing, the run and the refusal that there are with 01's speeds.
-pub fn listing(input: &[u8]) -> Vec<u8> {
-    sim::listing(&Levels::base(), input)
-}
-
-pub fn follow(input: &[u8]) -> Result<Run, u32> {
-    tools::run::follow(&Levels::base(), input)
-}
-
-pub fn refusal(script: &Script) -> Option<u32> {
-    tools::bench::refusal(&Levels::base(), script)
-}
 
 pub fn tasks(pairs: &[(u64, u64)]) -> Vec<Task> {
     let task = |(period, worst): &(u64, u64)| Task {
@@ -59,6 +56,13 @@ pub fn any_script(random: &mut Random) -> Script {
         _ => random.between(0, largest(bits)),
     };
     let mut script = Script::default();
+    if !random.one_in(3) {
+        script.speeds.clear();
+        for _ in 0..random.below(16) {
+            let speed = field(random, SPEED_BITS);
+            script.speeds.push(speed);
+        }
+    }
     for _ in 0..random.below(32) {
         script.tasks.push(Task {
             period: field(random, PERIOD_BITS),
@@ -74,12 +78,17 @@ pub fn any_script(random: &mut Random) -> Script {
     script
 }
 
-/// A bench input with an accepted plan of short periods; most of its passes are accepted, some are
-/// refused, and now and then an odd byte is left.
+/// A bench input with any speeds and an accepted plan of short periods; most of its passes are
+/// accepted, some are refused, and now and then an odd byte is left.
 pub fn any_run(random: &mut Random, passes: usize) -> Vec<u8> {
-    let levels = Levels::base();
+    let levels = some_or_base_levels(random);
+    run_at(random, &levels, passes)
+}
+
+/// The same with these speeds.
+pub fn run_at(random: &mut Random, levels: &Levels, passes: usize) -> Vec<u8> {
     let level = random.place(levels.count());
     let base = random.pick(&SMALL_BASES[4..]);
-    let plan = plan_at_level_within(random, &levels, level, base);
-    bench_input(random, &levels, &plan, passes)
+    let plan = plan_at_level_within(random, levels, level, base);
+    bench_input(random, levels, &plan, passes)
 }

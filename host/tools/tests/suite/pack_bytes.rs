@@ -1,8 +1,9 @@
 //! The bench input: each reason why it can't be said in text, with its byte; and the refusals that
 //! can.
 
-use crate::common::{listing, refusal, tasks, EXAMPLE, EXAMPLE_BLOCK};
-use tools::bench::{from_bytes, to_bytes, BytesError, Why};
+use crate::common::{tasks, with_levels, EXAMPLE, LEVELS_END, PLAN_END};
+use sim::listing;
+use tools::bench::{from_bytes, refusal, to_bytes, BytesError, Why};
 use tools::script::{Pass, Script};
 
 #[track_caller]
@@ -13,19 +14,53 @@ fn fails(input: &[u8], byte: usize, why: Why, message: &str) {
 }
 
 #[test]
+fn nothing_at_all() {
+    let message = "byte 0: the input is empty; it begins with a level block";
+    fails(&[], 0, Why::Empty, message);
+}
+
+#[test]
+fn cut_levels() {
+    for length in 1..LEVELS_END {
+        let why = Why::CutLevels {
+            count: 8,
+            needed: 11,
+        };
+        let message = format!(
+            "byte {length}: the input ends here, within the level block: its count is 8, so it \
+             needs 11 bytes"
+        );
+        fails(&EXAMPLE[..length], length, why, &message);
+    }
+}
+
+#[test]
+fn closing_bits_of_the_levels() {
+    let message = "byte 10: the closing bits of the level block are not zero";
+    for bit in 0..4 {
+        let mut input = EXAMPLE;
+        input[10] |= 1 << bit;
+        fails(&input, 10, Why::LevelClosingBits, message);
+    }
+    // A count of 0 leaves four of them in the only byte.
+    let message = "byte 0: the closing bits of the level block are not zero";
+    fails(&[0x01], 0, Why::LevelClosingBits, message);
+}
+
+#[test]
 fn too_short_for_a_count() {
     let rest = "at least 2 needed";
     fails(
-        &[],
-        0,
+        &EXAMPLE[..LEVELS_END],
+        11,
         Why::TooShort { length: 0 },
-        &format!("byte 0: the input ends here, before the count: length 0, {rest}"),
+        &format!("byte 11: the input ends here, before the plan's count: length 0, {rest}"),
     );
     fails(
-        &[0x10],
-        1,
+        &EXAMPLE[..LEVELS_END + 1],
+        12,
         Why::TooShort { length: 1 },
-        &format!("byte 1: the input ends here, before the count: length 1, {rest}"),
+        &format!("byte 12: the input ends here, before the plan's count: length 1, {rest}"),
     );
 }
 
@@ -33,15 +68,15 @@ fn too_short_for_a_count() {
 fn bad_edition() {
     for edition in (0..16).filter(|edition| *edition != 1) {
         let mut input = EXAMPLE;
-        input[0] = edition << 4 | 0x01;
-        let message = format!("byte 0: the edition is {edition}, not 1");
-        fails(&input, 0, Why::Edition(u64::from(edition)), &message);
+        input[LEVELS_END] = edition << 4 | 0x01;
+        let message = format!("byte 11: the edition is {edition}, not 1");
+        fails(&input, 11, Why::Edition(u64::from(edition)), &message);
     }
 }
 
 #[test]
 fn cut_block() {
-    for length in 2..EXAMPLE_BLOCK {
+    for length in LEVELS_END + 2..PLAN_END {
         let why = Why::CutBlock {
             count: 3,
             needed: 15,
@@ -56,24 +91,39 @@ fn cut_block() {
 
 #[test]
 fn closing_bits() {
-    let message = "byte 14: the closing bits of the plan block are not zero";
+    let message = "byte 25: the closing bits of the plan block are not zero";
     for bit in 0..3 {
         let mut input = EXAMPLE;
-        input[14] |= 1 << bit;
-        fails(&input, 14, Why::ClosingBits, message);
+        input[PLAN_END - 1] |= 1 << bit;
+        fails(&input, 25, Why::ClosingBits, message);
     }
     // A count of 0 leaves seven of them in the second byte.
-    let message = "byte 1: the closing bits of the plan block are not zero";
-    fails(&[0x10, 0x40], 1, Why::ClosingBits, message);
-    fails(&[0x10, 0x01, 0x80, 0x01], 1, Why::ClosingBits, message);
+    let message = "byte 12: the closing bits of the plan block are not zero";
+    fails(&with_levels(&[0x10, 0x40]), 12, Why::ClosingBits, message);
+    let passes = with_levels(&[0x10, 0x01, 0x80, 0x01]);
+    fails(&passes, 12, Why::ClosingBits, message);
 }
 
 #[test]
 fn odd_byte() {
-    for length in (EXAMPLE_BLOCK + 1..EXAMPLE.len()).step_by(2) {
+    for length in (PLAN_END + 1..EXAMPLE.len()).step_by(2) {
         let byte = length - 1;
         let message = format!("byte {byte}: an odd byte is left; a pass has two");
         fails(&EXAMPLE[..length], byte, Why::OddByte, &message);
+    }
+}
+
+#[test]
+fn level_blocks_of_every_count() {
+    for count in 0..=15 {
+        let script = Script {
+            speeds: vec![1_023; count],
+            tasks: tasks(&[(7, 9)]),
+            passes: Vec::new(),
+        };
+        let bytes = to_bytes(&script);
+        assert_eq!(bytes.len(), (4 + 10 * count + 7) / 8 + 6);
+        assert_eq!(from_bytes(&bytes), Ok(script));
     }
 }
 
@@ -86,9 +136,10 @@ fn blocks_of_every_count() {
                 d: 5,
                 finished: true,
             }],
+            ..Script::default()
         };
         let bytes = to_bytes(&script);
-        assert_eq!(bytes.len(), (9 + 36 * count + 7) / 8 + 2);
+        assert_eq!(bytes.len(), 11 + (9 + 36 * count + 7) / 8 + 2);
         assert_eq!(from_bytes(&bytes), Ok(script));
     }
 }
@@ -103,9 +154,15 @@ fn is_refused(plan: &[(u64, u64)], passes: usize, number: u32) {
     let script = Script {
         tasks: tasks(plan),
         passes: vec![pass; passes],
+        ..Script::default()
     };
-    assert_eq!(refusal(&script), Some(number));
-    let printed = listing(&to_bytes(&script));
+    is_refused_so(&script, number);
+}
+
+#[track_caller]
+fn is_refused_so(script: &Script, number: u32) {
+    assert_eq!(refusal(script), Some(number));
+    let printed = listing(&to_bytes(script));
     assert_eq!(printed, format!("refused {number}\n").into_bytes());
 }
 
@@ -119,16 +176,48 @@ fn refusals_that_can_be_packed() {
     is_refused(&[(10, 0)], 1, 6);
     is_refused(&[(1_000, 1), (1_001, 1)], 1, 7);
     is_refused(&[(10, 400), (10, 400), (30, 601)], 1, 8);
-    // 6 + 2 * 32,766 bytes are two too many.
-    is_refused(&[(40, 300)], 32_766, 17);
-    is_refused(&[(0, 300)], 32_766, 17);
+    // 11 + 6 + 2 * 32,760 bytes are one too many.
+    is_refused(&[(40, 300)], 32_760, 17);
+    is_refused(&[(0, 300)], 32_760, 17);
+}
+
+#[test]
+fn refused_speeds_that_can_be_packed() {
+    let nine = [1, 2, 3, 4, 5, 6, 7, 8, 9];
+    let cases = [
+        (&[][..], 18),
+        (&nine, 18),
+        (&[0; 15], 18),
+        (&[0], 20),
+        (&[1_001], 20),
+        (&[1_023, 1], 20),
+        (&[5, 5], 20),
+        (&[5, 4], 20),
+        // In order, and no level admits the plan.
+        (&[7], 8),
+    ];
+    for (speeds, number) in cases {
+        let script = Script {
+            speeds: speeds.to_vec(),
+            tasks: tasks(&[(40, 300)]),
+            passes: Vec::new(),
+        };
+        is_refused_so(&script, number);
+    }
+    // The speeds before the plan.
+    let script = Script {
+        speeds: vec![0],
+        ..Script::default()
+    };
+    is_refused_so(&script, 20);
 }
 
 #[test]
 fn accepted_inputs_have_no_refusal() {
     assert_eq!(refusal(&from_bytes(&EXAMPLE).unwrap()), None);
-    // 6 + 2 * 32,765 bytes are just enough.
+    // 2 + 6 + 2 * 32,764 bytes are just enough.
     let mut script = Script {
+        speeds: vec![8],
         tasks: tasks(&[(40, 300)]),
         passes: Vec::new(),
     };
@@ -136,7 +225,7 @@ fn accepted_inputs_have_no_refusal() {
         d: 0,
         finished: false,
     };
-    script.passes.resize(32_765, pass);
+    script.passes.resize(32_764, pass);
     assert_eq!(to_bytes(&script).len(), 65_536);
     assert_eq!(refusal(&script), None);
 }

@@ -1,6 +1,6 @@
 //! The text form: what it says, and each mistake with its line.
 
-use crate::common::{tasks, EXAMPLE, EXAMPLE_TEXT};
+use crate::common::{tasks, with_levels, EXAMPLE, EXAMPLE_TEXT};
 use tools::bench::{from_bytes, to_bytes};
 use tools::script::{Pass, Script};
 use tools::text::{parse, write};
@@ -26,7 +26,8 @@ fn the_example_file_is_the_example() {
 #[test]
 fn the_block_that_document_01_shows() {
     let script = parse("task 40 300").unwrap();
-    assert_eq!(to_bytes(&script), [0x10, 0x80, 0x14, 0x00, 0x09, 0x60]);
+    let block = [0x10, 0x80, 0x14, 0x00, 0x09, 0x60];
+    assert_eq!(to_bytes(&script), with_levels(&block));
 }
 
 #[test]
@@ -36,6 +37,7 @@ fn comments_blank_lines_and_spaces_say_nothing() {
     let expected = Script {
         tasks: tasks(&[(40, 300)]),
         passes: passes.to_vec(),
+        ..Script::default()
     };
     assert_eq!(parse(text), Ok(expected));
     assert_eq!(parse(""), Ok(Script::default()));
@@ -44,7 +46,7 @@ fn comments_blank_lines_and_spaces_say_nothing() {
 
 #[test]
 fn unknown_words() {
-    let rest = "a line begins with task, pass or finish";
+    let rest = "a line begins with speeds, task, pass or finish";
     fails("tsk 1 2", &format!("line 1: unknown word \"tsk\"; {rest}"));
     fails(
         "task 1 2\n\n# x\nTask 1 2",
@@ -145,4 +147,55 @@ fn the_first_mistake_is_the_one_named() {
         "pass x\npass",
         "line 1: the d \"x\" is not a decimal number",
     );
+}
+
+#[test]
+fn speeds_of_a_board() {
+    let speeds = |text: &str| parse(text).unwrap().speeds;
+    assert_eq!(speeds(""), [10, 20, 30, 40, 50, 60, 80, 100]);
+    assert_eq!(
+        speeds("# a board\n\nspeeds 7 13 29 # odd\ntask 1 1"),
+        [7, 13, 29]
+    );
+    assert_eq!(speeds("speeds 500"), [500]);
+    // What is refused can be said as far as it fits: none, 15, at and past the range, falling.
+    assert_eq!(speeds("speeds"), []);
+    assert_eq!(speeds(&format!("speeds{}", " 3".repeat(15))), [3; 15]);
+    assert_eq!(speeds("speeds 1023 0 007"), [1_023, 0, 7]);
+}
+
+#[test]
+fn the_line_of_speeds_is_written_unless_they_are_01s() {
+    for text in [
+        "speeds\n",
+        "speeds 7 13 29\n",
+        "speeds 10 20 30 40 50 60 80\n",
+    ] {
+        assert_eq!(write(&parse(text).unwrap()), text);
+        let whole = format!("{text}{EXAMPLE_TEXT}");
+        assert_eq!(write(&parse(&whole).unwrap()), whole);
+    }
+    let base = format!("speeds 10 20 30 40 50 60 80 100\n{EXAMPLE_TEXT}");
+    assert_eq!(parse(&base), parse(EXAMPLE_TEXT));
+    assert_eq!(write(&parse(&base).unwrap()), EXAMPLE_TEXT);
+}
+
+#[test]
+fn mistakes_in_the_speeds() {
+    let range = "is out of range: its 10 bits hold 0 to 1023";
+    fails("speeds 1 1024", &format!("line 1: the speed 1024 {range}"));
+    fails(
+        "\nspeeds 1 x",
+        "line 2: the speed \"x\" is not a decimal number",
+    );
+    let many = format!("speeds{}", " 1".repeat(16));
+    fails(
+        &many,
+        "line 1: one speed too many: the 4 bits of the count hold 0 to 15",
+    );
+    let late = "the speeds come once, and before all else";
+    fails("task 1 1\nspeeds 1", &format!("line 2: {late}"));
+    fails("pass 1\n\nspeeds 1", &format!("line 3: {late}"));
+    fails("speeds 1\nspeeds 2", &format!("line 2: {late}"));
+    fails("speeds\n# x\nspeeds", &format!("line 3: {late}"));
 }

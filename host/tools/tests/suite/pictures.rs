@@ -1,13 +1,13 @@
 //! The picture, read back from its SVG: bars, idle time, canonical strips, marks.
 
-use crate::common::{any_run, follow, tasks, EXAMPLE};
+use crate::common::{any_run, run_at, tasks, EXAMPLE};
 use crate::told::{told, Ran};
 use crate::xml::{read, Node};
 use sim::random::blocks::block_of;
 use sim::random::Random;
-use sim::{Levels, Order, PlainBook};
+use sim::{write_levels, Levels, Order, PlainBook};
 use tools::picture::{draw, window};
-use tools::run::{Run, Span};
+use tools::run::{follow, Run, Span};
 
 /// A picture read back, with the scale found from the numbers of its axis.
 pub struct Seen {
@@ -57,7 +57,7 @@ impl Seen {
         self.all(class, part).map(|node| self.span(node)).collect()
     }
 
-    /// All bars, in the order of time: task, level, from, to. No table here has more levels than 01's.
+    /// All bars, in the order of time: task, level, from, to. No table has more than eight levels.
     fn bars(&self, tasks: usize) -> Vec<(usize, usize, u64, u64)> {
         let mut bars = Vec::new();
         for task in 0..tasks {
@@ -126,23 +126,27 @@ fn the_bars_have_the_ticks_that_the_listing_says_were_run() {
 
 #[test]
 fn a_bar_is_as_high_as_its_level_is_fast() {
-    let levels = Levels::base();
     let mut random = Random::new(33);
-    let mut levels_seen = vec![false; levels.count()];
-    for _ in 0..60 {
-        let seen = Seen::new(&picture(&any_run(&mut random, 40), None, None));
-        for (level, speed) in levels.speeds().iter().enumerate() {
-            let class = format!("level-{level}");
-            for node in seen.nodes.iter().filter(|node| node.is(&class)) {
-                if !node.is_inside("legend") {
-                    let expected = 48.0 * *speed as f64 / 100.0;
-                    assert!((node.number("height") - expected).abs() < 0.01);
-                    levels_seen[level] = true;
+    let odd = Levels::new(&[3, 7, 11, 64, 65, 200, 501, 1_000]);
+    for levels in [Levels::base(), odd] {
+        let mut levels_seen = [false; 8];
+        let fastest = levels.speed(7) as f64;
+        for _ in 0..60 {
+            let input = run_at(&mut random, &levels, 40);
+            let seen = Seen::new(&picture(&input, None, None));
+            for (level, speed) in levels.speeds().iter().enumerate() {
+                let class = format!("level-{level}");
+                for node in seen.nodes.iter().filter(|node| node.is(&class)) {
+                    if !node.is_inside("legend") {
+                        let expected = 48.0 * *speed as f64 / fastest;
+                        assert!((node.number("height") - expected).abs() < 0.01);
+                        levels_seen[level] = true;
+                    }
                 }
             }
         }
+        assert_eq!(levels_seen, [true; 8]);
     }
-    assert_eq!(levels_seen, [true; 8]);
 }
 
 #[test]
@@ -150,11 +154,11 @@ fn other_speeds_have_other_bars_and_another_legend() {
     // Task 0 has 40 units, task 1 has 56: 4 and 5 ticks at 13, which is nominal. Task 0 ends after
     // one of them, so task 1 may run at 7 and ends a tick before its 8 are over.
     let input = [
-        &block_of(&tasks(&[(10, 40), (15, 56)]))[..],
+        &write_levels(&Levels::new(&[7, 13, 29]))[..],
+        &block_of(&tasks(&[(10, 40), (15, 56)])),
         &[0x80, 1, 0x80, 7],
     ];
-    let levels = Levels::new(&[7, 13, 29]);
-    let run = tools::run::follow(&levels, &input.concat()).unwrap();
+    let run = follow(&input.concat()).unwrap();
     let seen = Seen::new(&drawn(&run, None, None));
     assert_eq!(seen.bars(2), [(0, 1, 0, 1), (1, 0, 1, 8)]);
     assert_eq!(seen.spans("early", "task-0"), [(1, 4)]);
@@ -244,7 +248,7 @@ fn the_example_has_its_early_ends_and_its_last_order() {
 #[test]
 fn an_idle_order_stands_in_the_idle_row() {
     // The example without its last pass.
-    let seen = Seen::new(&picture(&EXAMPLE[..25], None, None));
+    let seen = Seen::new(&picture(&EXAMPLE[..EXAMPLE.len() - 2], None, None));
     assert_eq!(seen.spans("ordered", "idle-row"), [(18, 20)]);
     assert_eq!(seen.spans("idle", "idle-row"), []);
 }

@@ -1,6 +1,6 @@
 //! Refused passes in the picture.
 
-use crate::common::{any_run, EXAMPLE};
+use crate::common::{any_run, EXAMPLE, PLAN_END};
 use crate::pictures::{picture, Seen};
 use crate::told::told;
 use crate::xml::Node;
@@ -73,7 +73,11 @@ fn refusals_at_one_tick_are_counted() {
     let passes = [
         0x00, 0x04, 0x80, 0x05, 0x80, 0x0b, 0x00, 0x00, 0xff, 0xff, 0x80, 0x04, 0x00,
     ];
-    let seen = Seen::new(&picture(&[&EXAMPLE[..15], &passes].concat(), None, None));
+    let seen = Seen::new(&picture(
+        &[&EXAMPLE[..PLAN_END], &passes].concat(),
+        None,
+        None,
+    ));
     let expected = [(0, "14\u{d7}2 12 11 12"), (4, "16")];
     assert_eq!(
         labels(&seen),

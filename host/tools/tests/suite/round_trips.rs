@@ -1,11 +1,13 @@
 //! There and back, on random scripts, random runs and damaged inputs.
 
-use crate::common::{any_run, any_script, listing, refusal};
+use crate::common::{any_run, any_script, tasks};
 use sim::random::blocks::{bench_input, block_of, damaged_block};
 use sim::random::plans::{edge_list, plan_at_level};
+use sim::random::tables::{damaged_level_block, some_or_base_levels};
 use sim::random::Random;
-use sim::Levels;
-use tools::bench::{from_bytes, to_bytes};
+use sim::{listing, write_levels};
+use std::collections::BTreeMap;
+use tools::bench::{from_bytes, refusal, to_bytes};
 use tools::text::{parse, write};
 
 #[test]
@@ -38,8 +40,25 @@ fn runs_to_text_and_back() {
     assert!(odd > 100);
 }
 
-/// What can't be said in text, found without taking the block apart: the place of the fault.
+/// What can't be said in text, found without taking the blocks apart: the place of the fault.
 fn fault(input: &[u8]) -> Option<usize> {
+    if input.is_empty() {
+        return Some(0);
+    }
+    let used = 4 + 10 * usize::from(input[0] >> 4);
+    let needed = (used + 7) / 8;
+    if input.len() < needed {
+        return Some(input.len());
+    }
+    let closing = (1 << (8 * needed - used)) - 1;
+    if input[needed - 1] & closing != 0 {
+        return Some(needed - 1);
+    }
+    fault_past_levels(&input[needed..]).map(|byte| needed + byte)
+}
+
+/// The same of a plan block and passes.
+fn fault_past_levels(input: &[u8]) -> Option<usize> {
     if input.len() < 2 {
         return Some(input.len());
     }
@@ -60,13 +79,17 @@ fn fault(input: &[u8]) -> Option<usize> {
 
 #[test]
 fn damaged_inputs_fail_at_their_byte_or_come_back() {
-    let levels = Levels::base();
     let mut random = Random::new(3);
     let (mut failed, mut came_back) = (0, 0);
-    for _ in 0..4_000 {
+    for round in 0..4_000 {
+        let levels = some_or_base_levels(&mut random);
         let level = random.place(levels.count());
         let plan = plan_at_level(&mut random, &levels, level);
-        let mut input = damaged_block(&mut random, &block_of(&plan));
+        let mut input = write_levels(&levels);
+        if round % 3 == 0 {
+            input = damaged_level_block(&mut random, &input);
+        }
+        input.extend(damaged_block(&mut random, &block_of(&plan)));
         for _ in 0..random.below(9) {
             input.push(random.number() as u8);
         }
@@ -88,10 +111,10 @@ fn damaged_inputs_fail_at_their_byte_or_come_back() {
 
 #[test]
 fn the_refusal_is_the_one_that_the_bench_program_prints() {
-    let levels = Levels::base();
     let mut random = Random::new(4);
     let mut refused = 0;
     for _ in 0..1_500 {
+        let levels = some_or_base_levels(&mut random);
         let mut plan = edge_list(&mut random, &levels);
         for task in &mut plan {
             task.period &= 0xffff;
@@ -112,4 +135,31 @@ fn the_refusal_is_the_one_that_the_bench_program_prints() {
         }
     }
     assert!(refused > 150);
+}
+
+/// The same of level blocks: any speeds that fit their fields, with a good plan behind them.
+#[test]
+fn the_refusal_of_speeds_is_the_one_that_the_bench_program_prints() {
+    let mut random = Random::new(5);
+    let mut seen = BTreeMap::new();
+    for _ in 0..3_000 {
+        let mut script = any_script(&mut random);
+        script.tasks = tasks(&[(1, 500)]);
+        if random.one_in(2) {
+            script.speeds.truncate(2);
+        }
+        let printed = String::from_utf8(listing(&to_bytes(&script))).unwrap();
+        let refused = refusal(&script);
+        match refused {
+            Some(number) => assert_eq!(printed, format!("refused {number}\n")),
+            None => assert!(printed.starts_with("plan ")),
+        }
+        *seen.entry(refused).or_insert(0) += 1;
+    }
+    for answer in [None, Some(8), Some(18), Some(20)] {
+        assert!(
+            seen.get(&answer).map_or(false, |times| *times > 20),
+            "{seen:?}"
+        );
+    }
 }

@@ -1,11 +1,11 @@
 //! A run as the picture sees it, against what the listing tells.
 
-use crate::common::{any_run, follow, EXAMPLE};
+use crate::common::{any_run, with_levels, EXAMPLE, LEVELS_END, PLAN_END};
 use crate::told::{told, Ran};
 use sim::layout::STATE_BYTES;
 use sim::random::Random;
-use sim::{start, Levels, Order};
-use tools::run::{Refusal, Run, Span, Stretch};
+use sim::{start, Order};
+use tools::run::{follow, Refusal, Run, Span, Stretch};
 
 fn ran(stretch: &Stretch) -> Ran {
     Ran {
@@ -87,7 +87,7 @@ fn unused_time_ends_by_the_deadline() {
 #[test]
 fn passes_that_change_nothing_make_one_stretch() {
     // Three ticks of task 0, told one by one.
-    let input = [&EXAMPLE[..15], &[0, 1, 0, 1, 0, 1]].concat();
+    let input = [&EXAMPLE[..PLAN_END], &[0, 1, 0, 1, 0, 1]].concat();
     let run = follow(&input).unwrap();
     assert_eq!(run.stretches.len(), 1);
     assert_eq!(run.stretches[0].span, Span { from: 0, to: 3 });
@@ -96,20 +96,26 @@ fn passes_that_change_nothing_make_one_stretch() {
 
 #[test]
 fn whole_inputs_refused() {
-    assert_eq!(follow(&[]).unwrap_err(), 1);
-    assert_eq!(follow(&[0x20, 0x80]).unwrap_err(), 2);
-    assert_eq!(follow(&[0x18, 0x80, 0x00]).unwrap_err(), 3);
-    assert_eq!(follow(&EXAMPLE[..14]).unwrap_err(), 4);
-    assert_eq!(follow(&[0x10, 0x80, 0, 0, 0, 0x20]).unwrap_err(), 6);
-    let long = [&EXAMPLE[..15], &vec![0; 65_536 - 14]].concat();
+    assert_eq!(follow(&[]).unwrap_err(), 18);
+    assert_eq!(follow(&[0x00, 0x10, 0x80]).unwrap_err(), 18);
+    assert_eq!(follow(&EXAMPLE[..LEVELS_END - 1]).unwrap_err(), 19);
+    assert_eq!(follow(&[0x10, 0x01, 0x10, 0x80]).unwrap_err(), 19);
+    assert_eq!(follow(&[0x10, 0x00, 0x10, 0x80]).unwrap_err(), 20);
+    let refused = |rest: &[u8]| follow(&with_levels(rest)).unwrap_err();
+    assert_eq!(refused(&[]), 1);
+    assert_eq!(refused(&[0x20, 0x80]), 2);
+    assert_eq!(refused(&[0x18, 0x80, 0x00]), 3);
+    assert_eq!(follow(&EXAMPLE[..PLAN_END - 1]).unwrap_err(), 4);
+    assert_eq!(refused(&[0x10, 0x80, 0, 0, 0, 0x20]), 6);
+    let long = [&EXAMPLE[..PLAN_END], &vec![0; 65_537 - PLAN_END]].concat();
     assert_eq!(follow(&long).unwrap_err(), 17);
-    assert_eq!(follow(&long[..65_536]).unwrap().refusals.len(), 32_761);
+    assert_eq!(follow(&long[..65_536]).unwrap().refusals.len(), 32_755);
 }
 
 #[test]
 fn without_passes_there_is_the_first_order() {
-    let run = follow(&EXAMPLE[..15]).unwrap();
-    let first = start(&Levels::base(), &EXAMPLE[..15], &mut [0; STATE_BYTES]);
-    assert_eq!(Ok(run.order), first);
+    let run = follow(&EXAMPLE[..PLAN_END]).unwrap();
+    let (levels, plan) = EXAMPLE[..PLAN_END].split_at(LEVELS_END);
+    assert_eq!(Ok(run.order), start(levels, plan, &mut [0; STATE_BYTES]));
     assert_eq!((run.clock, run.end_of_order()), (0, 4));
 }

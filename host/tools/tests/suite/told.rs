@@ -1,8 +1,6 @@
 //! What the bench program's listing tells about a run, read from its lines alone.
 
-use crate::common::listing;
-use sim::plan::read_plan;
-use sim::Levels;
+use sim::{listing, read_plan};
 use tools::bench::{split, unpack_pass};
 
 /// Ticks that went to a task at a level, without a break.
@@ -28,8 +26,8 @@ pub struct Told {
 /// it said, up to the new clock.
 pub fn told(input: &[u8]) -> Told {
     let text = String::from_utf8(listing(input)).unwrap();
-    let (block, rest) = split(input);
-    let periods: Vec<u64> = read_plan(&Levels::base(), block)
+    let parts = split(input);
+    let periods: Vec<u64> = read_plan(parts.levels, parts.plan)
         .unwrap()
         .0
         .iter()
@@ -47,7 +45,7 @@ pub fn told(input: &[u8]) -> Told {
             continue;
         }
         let to = line[0].parse().unwrap();
-        let finished = unpack_pass(&rest[2 * place..]).finished;
+        let finished = unpack_pass(&parts.passes[2 * place..]).finished;
         enter(&mut told, &order, &periods, to, finished);
         told.clock = to;
         order = line;

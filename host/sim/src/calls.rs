@@ -1,0 +1,44 @@
+//! The calls as a host makes them. 02, No. 1: "Every call that takes a plan takes this block before
+//! it", so its questions, 18 to 20, come before the call's own. Passing and showing take no plan;
+//! they find the speeds in the state.
+
+use crate::dispatch::{self, Order};
+use crate::level_block::read_levels;
+use crate::plan::{self, Judged, Task};
+
+/// Judging a count and its tasks.
+pub fn judge(level_block: &[u8], count: u64, tasks: &[Task]) -> Result<Judged, u32> {
+    plan::judge(&read_levels(level_block)?, count, tasks)
+}
+
+/// Judging a list of any length.
+pub fn judge_list(level_block: &[u8], tasks: &[Task]) -> Result<Judged, u32> {
+    plan::judge_list(&read_levels(level_block)?, tasks)
+}
+
+/// Reading a plan.
+pub fn read_plan(level_block: &[u8], block: &[u8]) -> Result<(Vec<Task>, Judged), u32> {
+    plan::read_plan(&read_levels(level_block)?, block)
+}
+
+/// Writing a plan.
+pub fn write_plan(
+    level_block: &[u8],
+    count: u64,
+    tasks: &[Task],
+    buffer: &mut [u8],
+) -> Result<usize, u32> {
+    plan::write_plan(&read_levels(level_block)?, count, tasks, buffer)
+}
+
+/// Copying: reading a plan, then writing it.
+pub fn copy_plan(level_block: &[u8], block: &[u8], buffer: &mut [u8]) -> Result<usize, u32> {
+    let levels = read_levels(level_block)?;
+    let (tasks, _) = plan::read_plan(&levels, block)?;
+    plan::write_plan(&levels, tasks.len() as u64, &tasks, buffer)
+}
+
+/// Starting.
+pub fn start(level_block: &[u8], block: &[u8], state: &mut [u8]) -> Result<Order, u32> {
+    dispatch::start(&read_levels(level_block)?, block, state)
+}
