@@ -223,10 +223,13 @@ fn long_runs_of_full_plans() {
     assert!(tally.below_nominal > 1_000, "{tally:?}");
 }
 
-/// A plan at any level, a full one if told so. Its periods are not long: the books go tick by tick.
+/// A plan at any level, a full one if told so. Half of them are at the highest, which few tables would
+/// else get to. Its periods are not long: the books go tick by tick.
 fn short_plan(random: &mut Random, levels: &Levels, full: bool) -> Vec<Task> {
     loop {
-        let (level, base) = (random.place(levels.count()), random.pick(&SMALL_BASES));
+        let any = random.place(levels.count());
+        let level = random.pick(&[any, levels.top()]);
+        let base = random.pick(&SMALL_BASES);
         let plan = if full {
             full_plan(random, levels, level)
         } else {
