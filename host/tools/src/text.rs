@@ -1,5 +1,5 @@
-//! The text form: a `speeds S1 S2 ..` line if the speeds are not 01's, `task PERIOD WORST` lines, then
-//! `pass D` and `finish D` lines. `#` starts a comment, and blank lines say nothing.
+//! The text form: a `speeds S1 S2 ..` line if the speeds are not 01's, `task PERIOD WORST` lines,
+//! then `pass D` and `finish D` lines. `#` starts a comment, and blank lines say nothing.
 
 use crate::script::{largest, Pass, Script, D_BITS};
 use sim::block::{COUNT_BITS, PERIOD_BITS, WORST_BITS};

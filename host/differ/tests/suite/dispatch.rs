@@ -8,7 +8,8 @@ use differ::dispatcher::{self, Order};
 pub use sim::layout::STATE_BYTES;
 
 impl Both {
-    /// Starts with the loaded levels and the block in a buffer, which then holds what both sides left there.
+    /// Starts with the loaded levels and the block in a buffer, which then holds what both sides left
+    /// there.
     #[track_caller]
     pub fn start(&mut self, block: &[u8], state: &mut [u8]) -> Result<Order, u32> {
         let nth = self.times(Call::Start);

@@ -25,7 +25,8 @@ fn put_edges(both: &mut Both, random: &mut Random, state: &[u8; STATE_BYTES]) ->
     accepted
 }
 
-/// A state that a run reaches, with any speeds. The more passes a plan has seen, the less its jobs are in step.
+/// A state that a run reaches, with any speeds. The more passes a plan has seen, the less its jobs
+/// are in step.
 fn some_reached_state(random: &mut Random) -> [u8; STATE_BYTES] {
     let levels = some_or_base_levels(random);
     let level = random.place(levels.count());

@@ -121,7 +121,7 @@ fn plans_around_the_full_sum() {
     both.wants(Call::Judge, 8, 800);
 }
 
-/// The same with the speeds of other boards: the slowest and the fastest, and ones next to each other.
+/// The same with the speeds of other boards: the slowest, the fastest, and ones next to each other.
 #[test]
 fn plans_around_the_full_sum_of_any_table() {
     let mut both = Both::new(&Levels::base());

@@ -1,5 +1,5 @@
 //! Each refusal number from 1 to 9 is reached, from every call that can give it, and where several
-//! questions would say no the first decides.
+//! questions would say no the first decides. 18 to 20 are in `levels`.
 
 use crate::both::{Both, Call, ACCEPTED};
 use crate::made::{bench_plan, numbers_of, tasks};

@@ -223,6 +223,24 @@ fn long_runs_of_full_plans() {
     assert!(tally.below_nominal > 1_000, "{tally:?}");
 }
 
+/// A plan at any level, a full one if told so. Half of them are at the highest, which few tables would
+/// else get to. Its periods are not long: the books go tick by tick.
+fn short_plan(random: &mut Random, levels: &Levels, full: bool) -> Vec<Task> {
+    loop {
+        let any = random.place(levels.count());
+        let level = random.pick(&[any, levels.top()]);
+        let base = random.pick(&SMALL_BASES);
+        let plan = if full {
+            full_plan(random, levels, level)
+        } else {
+            plan_at_level_within(random, levels, level, base)
+        };
+        if plan.iter().all(|task| task.period <= 10_000) {
+            return plan;
+        }
+    }
+}
+
 /// The same with the speeds of other boards: would catch a speed taken from another table, from
 /// another level of it, or left out of an allotment, an allowance or the work done.
 #[test]
@@ -230,31 +248,12 @@ fn runs_with_any_table() {
     let mut both = Both::new(&Levels::base());
     let mut random = Random::new(405);
     let mut tally = Tally::new();
-    let mut runs = 0;
-    while runs < 900 {
+    for round in 0..900 {
         let levels = some_levels(&mut random);
-        let level = random.place(levels.count());
-        let plan = match runs % 3 {
-            0 => full_plan(&mut random, &levels, level),
-            _ => {
-                let base = random.pick(&SMALL_BASES);
-                plan_at_level_within(&mut random, &levels, level, base)
-            }
-        };
-        // The books go tick by tick.
-        if plan.iter().any(|task| task.period > 10_000) {
-            continue;
-        }
-        let style = STYLES[runs % STYLES.len()];
-        run(
-            &mut both,
-            &mut random,
-            (&levels, &plan),
-            style,
-            80,
-            &mut tally,
-        );
-        runs += 1;
+        let plan = short_plan(&mut random, &levels, round % 3 == 0);
+        let board = (&levels, &plan[..]);
+        let style = STYLES[round % STYLES.len()];
+        run(&mut both, &mut random, board, style, 80, &mut tally);
     }
     println!("{tally:?}");
     both.saw("runs with any table", 140_000);
@@ -280,8 +279,7 @@ fn runs_of_two_boards_side_by_side() {
     for _ in 0..60 {
         let boards = [Levels::base(), some_levels(&mut random)];
         let mut runs = boards.map(|levels| {
-            let (level, base) = (random.place(levels.count()), random.pick(&SMALL_BASES));
-            let plan = plan_at_level_within(&mut random, &levels, level, base);
+            let plan = short_plan(&mut random, &levels, false);
             Run::new(&mut both, &levels, plan)
         });
         for _ in 0..40 {

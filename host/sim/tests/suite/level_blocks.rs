@@ -10,8 +10,8 @@ use sim::random::blocks::block_of;
 use sim::{read_levels, write_levels, Levels};
 
 /// Reads the block, and puts it in front of each call that takes a plan, and wants this refusal of
-/// all, with no byte changed. What comes after the block is good for one half of the calls, and for
-/// the others refused as well, which is asked later.
+/// all, with no byte changed. Some of the plans after it would be refused as well, but that is asked
+/// later.
 #[track_caller]
 fn refuses(levels: &[u8], number: u32) {
     assert_eq!(read_levels(levels), Err(number));
