@@ -66,7 +66,7 @@ sized speeds block =
     ∷ taskQuestions speeds (tasksIn block)
 
 -- a block read over a table of speeds
-abbrev pub Reads : List ℕ → List ℕ → Judged → Type 0
+abbrev Reads : List ℕ → List ℕ → Judged → Type 0
 Reads speeds block r = r ≡ judgedBy (firstNo (reading speeds block)) speeds (tasksIn block)
 
 -- each way out of reading a block, by the first no of its questions
