@@ -1,11 +1,23 @@
 // An answer packed into one number, as C gets it.
+use plan::Load;
 use plan::Verdict;
 use plan::Written;
 use reclaiming::Reply;
 ghost use mathlib.Core.Path.{_≡_};
 ghost use Prim.Native.Nat.{_<_, _^_};
-ghost use Rattle.plan.specs.Numbers.{verdictNumber, writtenNumber};
+ghost use Rattle.plan.specs.Numbers.{loadNumber, verdictNumber, writtenNumber};
 ghost use Rattle.reclaiming.specs.Numbers.{replyNumber};
+
+// What reading a level block answers as one number.
+pub fn load_number(l: Load) -> u64
+    requires { ⌜ loadNumber l < 2 ^ 36 ⌝ }
+    ensures { λ r. ⌜ r ≡ loadNumber l ⌝ }
+{
+    match l {
+        Load::Refused(n) => n as u64,
+        Load::Levels(n) => 256 * (n as u64),
+    }
+}
 
 // A verdict as one number.
 pub fn verdict_number(v: Verdict) -> u64

@@ -11,17 +11,20 @@ use Rattle.plan.specs.declared.Task.{Task}
 use Rattle.plan.specs.declared.Plan.{Plan}
 use Rattle.plan.specs.declared.Judged.{Judged}
 use Rattle.plan.specs.declared.Written.{Written}
-use Rattle.plan.specs.Levels.{baseSpeeds, hyperperiod, nominal}
+use Rattle.plan.specs.declared.Board.{Board}
+use Rattle.plan.specs.Levels.{hyperperiod, nominal}
+use Rattle.plan.specs.LevelBlocks.{speedsIn, loading, boardBy, readLevels}
 use Rattle.plan.specs.Blocks.{noTask, tasksOf, tasksIn, editionIn, countIn, editionOf, planBlock}
-use Rattle.plan.specs.Questions.{judging, reading, roomQuestion}
+use Rattle.plan.specs.Questions.{judging, reading, writing, roomQuestion}
 use Rattle.arith.specs.Asking.{Question, firstNo}
-use Rattle.plan.specs.Answers.{answered, judgedPlan, readBlock, writeNumber, writtenBy, writePlan, copyNumber}
-use Rattle.plan.specs.Numbers.{taskAt, planFrom, verdictNumber, writtenNumber}
+use Rattle.plan.specs.Answers.{answered, judgedBy, judgedPlan, readBlock, writeNumber, writtenBy, writePlan, copyNumber}
+use Rattle.plan.specs.Numbers.{taskAt, planFrom, loadNumber, verdictNumber, writtenNumber}
+use Rattle.plan.proofs.LevelBlockLaws.{loaded-table}
 use Rattle.plan.proofs.NumberLaws.{written-most}
 use Rattle.plan.proofs.Facts.{FineTasks, FineList, FineBlock, fine-list, fine-block}
 use Rattle.plan.proofs.BlockBits.{length-planBlock, blockLength-most}
 use Rattle.arith.proofs.ArrayLaws.{values-more}
-use Rattle.arith.proofs.QuestionLaws.{firstNo-most, yes-of}
+use Rattle.arith.proofs.QuestionLaws.{firstNo-most, yes-of, yes-after}
 
 -- the loop that fills a plan with the tasks of a list of numbers
 pub record Put (numbers : List ℕ) (count : ℕ) (q : Plan) (i : ℕ) : Type 0 where
@@ -49,60 +52,92 @@ module _ {numbers : List ℕ} {count : ℕ} {q : Plan} {i : ℕ} (at : Put numbe
       let tasks : q .tasks ≡ listTo 16 (taskAt numbers) = at .tasks ∙ ap (λ (k : ℕ). padded 16 noTask (listTo k (taskAt numbers))) e in
       λ j. record { count = at .counted j; tasks = tasks j }
 
--- refusals have small numbers, and so do verdicts
+-- what reading a level block answers fits: a refusal's number is small, and so is a count of levels
+board-most : (n : ℕ) (speeds : List ℕ) → n ≤ 255 → (n ≡ 0 → length speeds ≤ 8) → loadNumber (boardBy n speeds .answer) < 2 ^ 36
+board-most zero speeds h f = omega (arith, f refl)
+board-most (suc n) speeds h f = omega arith
+
+pub load-most : (levels : List ℕ) {b : Board} → b ≡ readLevels levels → loadNumber (b .answer) < 2 ^ 36
+load-most levels e =
+    subst (λ (x : Board). loadNumber (x .answer) < 2 ^ 36) (sym e)
+    (board-most (firstNo (loading levels)) (speedsIn levels) (firstNo-most 255 (loading levels) refl) (λ z. loaded-table levels z .few))
+
+-- and so does a verdict, over accepted levels: there are at most eight
 packed-most : (level span : ℕ) → level < 8 → span ≤ 1000000 → 256 * level + 65536 * span < 2 ^ 36
 packed-most level span a b = omega arith
 
 verdict-most :
-    (n : ℕ) (ts : List Task) →
-    n ≤ 9 →
-    (n ≡ 0 → FineTasks baseSpeeds ts) →
-    verdictNumber (answered n baseSpeeds ts) < 2 ^ 36
-verdict-most zero ts h f = packed-most (nominal baseSpeeds ts) (hyperperiod ts) (f refl .admitted) (f refl .span-most)
-verdict-most (suc n) ts h f = omega arith
+    (speeds : List ℕ) (n : ℕ) (ts : List Task) →
+    n ≤ 255 →
+    (n ≡ 0 → length speeds ≤ 8) →
+    (n ≡ 0 → FineTasks speeds ts) →
+    verdictNumber (answered n speeds ts) < 2 ^ 36
+verdict-most speeds zero ts h few f =
+    packed-most (nominal speeds ts) (hyperperiod ts) (omega (arith, f refl .admitted, few refl)) (f refl .span-most)
+verdict-most speeds (suc n) ts h few f = omega arith
 
-pub judged-most : (p : Plan) {j : Judged} → j ≡ judgedPlan baseSpeeds p → verdictNumber (j .verdict) < 2 ^ 36
-judged-most p e =
-    subst (λ (x : Judged). verdictNumber (x .verdict) < 2 ^ 36) (sym e)
-    (verdict-most (firstNo (judging baseSpeeds (p .count) (tasksOf p))) (tasksOf p)
-    (firstNo-most 9 (judging baseSpeeds (p .count) (tasksOf p)) refl)
-    (λ z. fine-list baseSpeeds (p .count) (tasksOf p) z .tasks))
+-- where some questions come after those put to a level block, and leave fine tasks
+module _ (levels : List ℕ) where
+  entered-most :
+      (rest : List Question) (ts : List Task) →
+      firstNo (loading levels ++ rest) ≤ 255 →
+      (firstNo rest ≡ 0 → FineTasks (speedsIn levels) ts) →
+      {j : Judged} →
+      j ≡ judgedBy (firstNo (loading levels ++ rest)) (speedsIn levels) ts →
+      verdictNumber (j .verdict) < 2 ^ 36
+  entered-most rest ts h f e =
+      subst (λ (x : Judged). verdictNumber (x .verdict) < 2 ^ 36) (sym e)
+      (verdict-most (speedsIn levels) (firstNo (loading levels ++ rest)) ts h
+      (λ z. loaded-table levels (yes-of (loading levels) rest z) .few)
+      (λ z. f (yes-after (loading levels) rest refl z)))
 
-pub read-most : (block : List ℕ) {j : Judged} → j ≡ readBlock baseSpeeds block → verdictNumber (j .verdict) < 2 ^ 36
-read-most block e =
-    subst (λ (x : Judged). verdictNumber (x .verdict) < 2 ^ 36) (sym e)
-    (verdict-most (firstNo (reading baseSpeeds block)) (tasksIn block) (firstNo-most 9 (reading baseSpeeds block) refl)
-    (λ z. fine-block baseSpeeds block z .tasks))
+  pub judged-most : (p : Plan) {j : Judged} → j ≡ judgedPlan levels p → verdictNumber (j .verdict) < 2 ^ 36
+  judged-most p =
+      let asked : List Question = judging (speedsIn levels) (p .count) (tasksOf p) in
+      entered-most asked (tasksOf p) (firstNo-most 255 (loading levels ++ asked) refl)
+      (λ z. fine-list (speedsIn levels) (p .count) (tasksOf p) z .tasks)
 
--- and what writing answers
-pub wrote-most :
-    (p : Plan) (room : ℕ) {w : Written} → w ≡ writePlan baseSpeeds p room → writtenNumber w < 2 ^ 36
-wrote-most p room e =
-    subst (λ (x : Written). writtenNumber x < 2 ^ 36) (sym e)
-    (written-most (writeNumber baseSpeeds p room) (planBlock (tasksOf p)) (firstNo-most 255 (judging baseSpeeds (p .count) (tasksOf p) ++ rest) refl) long)
-  where
-    rest : List Question
-    rest = roomQuestion (length (planBlock (tasksOf p))) room ∷ []
+  pub read-most : (block : List ℕ) {j : Judged} → j ≡ readBlock levels block → verdictNumber (j .verdict) < 2 ^ 36
+  read-most block =
+      let asked : List Question = reading (speedsIn levels) block in
+      entered-most asked (tasksIn block) (firstNo-most 255 (loading levels ++ asked) refl)
+      (λ z. fine-block (speedsIn levels) block z .tasks)
 
-    long : writeNumber baseSpeeds p room ≡ 0 → length (planBlock (tasksOf p)) ≤ 255
-    long z =
-        let f : FineList baseSpeeds (p .count) (tasksOf p) =
-        fine-list baseSpeeds (p .count) (tasksOf p) (yes-of (judging baseSpeeds (p .count) (tasksOf p)) rest z) in
-        let n : length (tasksOf p) ≤ 16 = omega (arith, length-take (p .count) (p .tasks), f .count-high) in
-        omega (arith, length-planBlock (tasksOf p), blockLength-most (editionOf (tasksOf p)) (length (tasksOf p)) n)
+  -- and what writing answers
+  pub wrote-most : (p : Plan) (room : ℕ) {w : Written} → w ≡ writePlan levels p room → writtenNumber w < 2 ^ 36
+  wrote-most p room e =
+      subst (λ (x : Written). writtenNumber x < 2 ^ 36) (sym e)
+      (written-most (writeNumber levels p room) (planBlock (tasksOf p)) (firstNo-most 255 (loading levels ++ writing (speedsIn levels) p room) refl) long)
+    where
+      asked : List Question
+      asked = judging (speedsIn levels) (p .count) (tasksOf p)
 
-pub copy-most :
-    (block : List ℕ) (room : ℕ) {w : Written} →
-    w ≡ writtenBy (copyNumber baseSpeeds block room) block →
-    writtenNumber w < 2 ^ 36
-copy-most block room e =
-    subst (λ (x : Written). writtenNumber x < 2 ^ 36) (sym e)
-    (written-most (copyNumber baseSpeeds block room) block (firstNo-most 255 (reading baseSpeeds block ++ rest) refl) long)
-  where
-    rest : List Question
-    rest = roomQuestion (length block) room ∷ []
+      rest : List Question
+      rest = roomQuestion (length (planBlock (tasksOf p))) room ∷ []
 
-    long : copyNumber baseSpeeds block room ≡ 0 → length block ≤ 255
-    long z =
-        let f : FineBlock baseSpeeds block = fine-block baseSpeeds block (yes-of (reading baseSpeeds block) rest z) in
-        omega (arith, f .size, blockLength-most (editionIn block) (countIn block) (f .count-high))
+      long : writeNumber levels p room ≡ 0 → length (planBlock (tasksOf p)) ≤ 255
+      long z =
+          let f : FineList (speedsIn levels) (p .count) (tasksOf p) =
+          fine-list (speedsIn levels) (p .count) (tasksOf p) (yes-of asked rest (yes-after (loading levels) (asked ++ rest) refl z)) in
+          let n : length (tasksOf p) ≤ 16 = omega (arith, length-take (p .count) (p .tasks), f .count-high) in
+          omega (arith, length-planBlock (tasksOf p), blockLength-most (editionOf (tasksOf p)) (length (tasksOf p)) n)
+
+  pub copy-most :
+      (block : List ℕ) (room : ℕ) {w : Written} →
+      w ≡ writtenBy (copyNumber levels block room) block →
+      writtenNumber w < 2 ^ 36
+  copy-most block room e =
+      subst (λ (x : Written). writtenNumber x < 2 ^ 36) (sym e)
+      (written-most (copyNumber levels block room) block (firstNo-most 255 (loading levels ++ (asked ++ rest)) refl) long)
+    where
+      asked : List Question
+      asked = reading (speedsIn levels) block
+
+      rest : List Question
+      rest = roomQuestion (length block) room ∷ []
+
+      long : copyNumber levels block room ≡ 0 → length block ≤ 255
+      long z =
+          let f : FineBlock (speedsIn levels) block =
+          fine-block (speedsIn levels) block (yes-of asked rest (yes-after (loading levels) (asked ++ rest) refl z)) in
+          omega (arith, f .size, blockLength-most (editionIn block) (countIn block) (f .count-high))

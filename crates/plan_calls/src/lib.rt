@@ -1,10 +1,12 @@
 // The calls on plans, for C and for tests: on numbers and lent slices, an answer packed into one number.
 pub mod lists;
 
+use answers::load_number;
 use answers::verdict_number;
 use answers::written_number;
 use judging::empty_plan;
 use judging::judge;
+use levels::read_levels;
 use plan::Plan;
 use plan::Task;
 use plan_reading::read;
@@ -12,9 +14,9 @@ use plan_writing::copy;
 use plan_writing::write;
 ghost use mathlib.Core.Path.{_≡_};
 ghost use lib.ListN.{length, getD};
-ghost use Rattle.plan.specs.Levels.{baseSpeeds};
+ghost use Rattle.plan.specs.LevelBlocks.{readLevels};
 ghost use Rattle.plan.specs.Answers.{judgedPlan, readBlock, writePlan, writeBuffer, writtenBy, storedBy, copyNumber};
-ghost use Rattle.plan.specs.Numbers.{planFrom, verdictNumber, writtenNumber};
+ghost use Rattle.plan.specs.Numbers.{planFrom, loadNumber, verdictNumber, writtenNumber};
 
 // The number at a place of a list, 0 past its end.
 fn number_at(numbers: &[u32], k: usize) -> u32
@@ -43,48 +45,67 @@ fn plan_from(count: usize, numbers: &[u32]) -> Plan
     p
 }
 
-// Judges a plan: 1 to 8 is a refusal's number; else the level stands from bit 8 on and the hyperperiod from bit 16 on.
+// Reads a level block: 18 to 20 is a refusal's number; else the count of levels stands from bit 8 on.
 #[no_mangle]
-pub extern "C" fn kilmstra_plan_judge(count: usize, numbers: &[u32]) -> u64
-    ensures { λ r. ⌜ r ≡ verdictNumber (judgedPlan baseSpeeds (planFrom count (now (numbers .entry))) .verdict) ⌝ }
+pub extern "C" fn kilmstra_levels_read(levels: &[u8]) -> u64
+    ensures { λ r. ⌜ r ≡ loadNumber (readLevels (now (levels .entry)) .answer) ⌝ }
+{
+    let board = read_levels(levels);
+    let answer = board.answer;
+    load_number(answer)
+}
+
+// Judges a plan over a level block: a number below 256 is a refusal's; else the level stands from bit 8 on and the hyperperiod from
+// bit 16 on.
+#[no_mangle]
+pub extern "C" fn kilmstra_plan_judge(levels: &[u8], count: usize, numbers: &[u32]) -> u64
+    ensures { λ r. ⌜ r ≡ verdictNumber
+        (judgedPlan (now (levels .entry)) (planFrom count (now (numbers .entry))) .verdict) ⌝ }
 {
     let p = plan_from(count, numbers);
-    let j = judge(p);
+    let j = judge(levels, p);
     let v = j.verdict;
     verdict_number(v)
 }
 
-// Reads a block, with an answer as judging has.
+// Reads a block over a level block, with an answer as judging has.
 #[no_mangle]
-pub extern "C" fn kilmstra_plan_read(block: &[u8]) -> u64
-    ensures { λ r. ⌜ r ≡ verdictNumber (readBlock baseSpeeds (now (block .entry)) .verdict) ⌝ }
+pub extern "C" fn kilmstra_plan_read(levels: &[u8], block: &[u8]) -> u64
+    ensures { λ r. ⌜ r ≡ verdictNumber (readBlock (now (levels .entry)) (now (block .entry)) .verdict) ⌝ }
 {
-    let j = read(block);
+    let j = read(levels, block);
     let v = j.verdict;
     verdict_number(v)
 }
 
-// Writes a plan's block: 1 to 9 is a refusal's number; else the count of bytes stands from bit 8 on.
+// Writes a plan's block, judged over a level block: a number below 256 is a refusal's; else the count of bytes stands from bit 8 on.
 #[no_mangle]
-pub extern "C" fn kilmstra_plan_write(count: usize, numbers: &[u32], buffer: &mut [u8]) -> u64
-    ensures { λ r. ⌜ r ≡ writtenNumber (writePlan baseSpeeds (planFrom count (now (numbers .entry))) (length (now (buffer .entry)))) ⌝ }
-    ensures { λ _. ⌜ now (buffer .exit) ≡ writeBuffer baseSpeeds (planFrom count (now (numbers .entry))) (now (buffer .entry)) ⌝ }
+pub extern "C" fn kilmstra_plan_write(
+    levels: &[u8],
+    count: usize,
+    numbers: &[u32],
+    buffer: &mut [u8],
+) -> u64
+    ensures { λ r. ⌜ r ≡ writtenNumber
+        (writePlan (now (levels .entry)) (planFrom count (now (numbers .entry))) (length (now (buffer .entry)))) ⌝ }
+    ensures { λ _. ⌜ now (buffer .exit) ≡
+        writeBuffer (now (levels .entry)) (planFrom count (now (numbers .entry))) (now (buffer .entry)) ⌝ }
 {
     let p = plan_from(count, numbers);
-    let w = write(p, buffer);
+    let w = write(levels, p, buffer);
     written_number(w)
 }
 
-// Reads a block and writes it again, with an answer as writing has.
+// Reads a block over a level block and writes it again, with an answer as writing has.
 #[no_mangle]
-pub extern "C" fn kilmstra_plan_copy(block: &[u8], buffer: &mut [u8]) -> u64
+pub extern "C" fn kilmstra_plan_copy(levels: &[u8], block: &[u8], buffer: &mut [u8]) -> u64
     ensures { λ r. ⌜ r ≡ writtenNumber (writtenBy
-        (copyNumber baseSpeeds (now (block .entry)) (length (now (buffer .entry))))
+        (copyNumber (now (levels .entry)) (now (block .entry)) (length (now (buffer .entry))))
         (now (block .entry))) ⌝ }
     ensures { λ _. ⌜ now (buffer .exit) ≡ storedBy
-        (copyNumber baseSpeeds (now (block .entry)) (length (now (buffer .entry))))
+        (copyNumber (now (levels .entry)) (now (block .entry)) (length (now (buffer .entry))))
         (now (block .entry)) (now (buffer .entry)) ⌝ }
 {
-    let w = copy(block, buffer);
+    let w = copy(levels, block, buffer);
     written_number(w)
 }

@@ -1,6 +1,6 @@
 -- Reading a plan block: what each way out of the code says of the block.
 -- Assumes nothing.
-use Prim.Native.Nat.{ℕ, zero, suc, _+_, _-_, _*_, _<_, _≤_}
+use Prim.Native.Nat.{ℕ, suc, _+_, _-_, _*_, _<_, _≤_}
 use mathlib.Core.Bool.{true}
 use mathlib.Core.Path.{_≡_, refl, sym, ap, ap₂, _∙_}
 use mathlib.Core.List.{List, _∷_}
@@ -18,10 +18,11 @@ use Rattle.plan.specs.declared.Judged.{Judged}
 use Rattle.plan.specs.Blocks.{taskWidth, bitCount, blockLength, editionIn, countIn, closingBits, taskFrom, tasksFrom, tasksIn, tasksOf, planOf, noTask}
 use Rattle.plan.specs.Questions.{countQuestion, taskQuestions, reading}
 use Rattle.arith.specs.Asking.{Question, ask, firstNo}
-use Rattle.plan.specs.Answers.{judgedBy, refusedWith, readBlock}
-use Rattle.judging.proofs.Judgements.{Filled, filled-all}
+use Rattle.plan.specs.Answers.{judgedBy, refusedWith}
+use Rattle.judging.proofs.Judgements.{Filled, filled-all, refused-as}
 use Rattle.arith.proofs.QuestionLaws.{within-true, ask-no, ask-yes, within-over, within-under}
-use Rattle.plan.proofs.BlockBits.{length-tasksFrom, tasksFrom-at, closing-zero}
+use Rattle.arith.proofs.BitLaws.{rest-zero}
+use Rattle.plan.proofs.BlockBits.{length-tasksFrom, tasksFrom-at, used}
 use Rattle.plan.proofs.RoundTrip.{tasksOf-planOf}
 
 -- a task read at its place
@@ -57,16 +58,6 @@ module _ (edition : ℕ) (bits : List ℕ) (count : ℕ) where
       filled-all at tasks-listed h
       ∙ ap (λ (x : List Task). planOf x) (take-all count tasksAt (omega (arith, length-tasksFrom edition count (drop 9 bits))))
 
--- a refusal's number is all that is told, whatever the tasks are
-pub refused-as :
-    (speeds : List ℕ) (ts : List Task) {r : Judged} {number n : ℕ} →
-    r ≡ refusedWith n →
-    0 < n →
-    number ≡ n →
-    r ≡ judgedBy number speeds ts
-refused-as speeds ts {n = zero} a h e = absurd (omega arith)
-refused-as speeds ts {n = suc n} a h e = a ∙ sym (ap (λ (k : ℕ). judgedBy k speeds ts) e)
-
 -- the questions that a block is asked past its count
 abbrev sized : List ℕ → List ℕ → List Question
 sized speeds block =
@@ -74,12 +65,16 @@ sized speeds block =
     ∷ ask 5 (every (eqb 0) (closingBits block))
     ∷ taskQuestions speeds (tasksIn block)
 
+-- a block read over a table of speeds
+abbrev Reads : List ℕ → List ℕ → Judged → Type 0
+Reads speeds block r = r ≡ judgedBy (firstNo (reading speeds block)) speeds (tasksIn block)
+
 -- each way out of reading a block, by the first no of its questions
 module _ (speeds block : List ℕ) {r : Judged} where
-  refused-at : (n : ℕ) → r ≡ refusedWith (suc n) → firstNo (reading speeds block) ≡ suc n → r ≡ readBlock speeds block
+  refused-at : (n : ℕ) → r ≡ refusedWith (suc n) → firstNo (reading speeds block) ≡ suc n → Reads speeds block r
   refused-at n a e = refused-as speeds (tasksIn block) a (omega arith) e
 
-  pub read-short : r ≡ refusedWith 1 → length block < 2 → r ≡ readBlock speeds block
+  pub read-short : r ≡ refusedWith 1 → length block < 2 → Reads speeds block r
   read-short a h = refused-at 0 a (ask-no 1 _ (lt-leb 2 (length block) h))
 
   pub read-edition :
@@ -88,7 +83,7 @@ module _ (speeds block : List ℕ) {r : Judged} where
       2 ≤ length block →
       x ≡ editionIn block →
       (x ≡ 1 → ⊥) →
-      r ≡ readBlock speeds block
+      Reads speeds block r
   read-edition a l e h =
       refused-at 1 a (ask-yes 1 (le-leb 2 (length block) l) (ask-no 2 _ (ne-eqb (editionIn block) 1 (λ q. h (e ∙ q)))))
 
@@ -104,10 +99,10 @@ module _ (speeds : List ℕ) {block : List ℕ} {edition count : ℕ} (o : Opene
   opened m h =
       ask-yes 1 (le-leb 2 (length block) (o .long)) (ask-yes 2 (eq-eqb (editionIn block) 1 (sym (o .named) ∙ o .known)) h)
 
-  pub read-low : {r : Judged} → r ≡ refusedWith 3 → count < 1 → r ≡ readBlock speeds block
+  pub read-low : {r : Judged} → r ≡ refusedWith 3 → count < 1 → Reads speeds block r
   read-low a h = refused-at speeds block 2 a (opened 3 (ask-no 3 _ (within-under 1 16 (countIn block) (omega arith))))
 
-  pub read-high : {r : Judged} → r ≡ refusedWith 3 → 16 < count → r ≡ readBlock speeds block
+  pub read-high : {r : Judged} → r ≡ refusedWith 3 → 16 < count → Reads speeds block r
   read-high a h = refused-at speeds block 2 a (opened 3 (ask-no 3 _ (within-over 1 16 (countIn block) (omega arith))))
 
 -- 3 is answered yes too
@@ -131,7 +126,7 @@ module _ (speeds : List ℕ) {block : List ℕ} {edition count : ℕ} (c : Count
       r ≡ refusedWith 4 →
       n ≡ blockLength edition count →
       (length block ≡ n → ⊥) →
-      r ≡ readBlock speeds block
+      Reads speeds block r
   read-size a b h =
       refused-at speeds block 3 a
       (counted 4 (ask-no 4 _ (ne-eqb (length block) (blockLength (editionIn block) (countIn block)) (λ q. h (q ∙ sym (b ∙ by-block blockLength))))))
@@ -149,9 +144,9 @@ module _ (speeds : List ℕ) {block : List ℕ} {edition count x : ℕ} (c : Clo
   five : every (eqb 0) (closingBits block) ≡ eqb x 0
   five =
       let bits : ℕ → ℕ → ℕ = λ e k. number 2 (8 * length block - bitCount e k) (drop (bitCount e k) (unpacked block)) in
-      closing-zero block ∙ sym (ap (λ (m : ℕ). eqb m 0) (c .closing ∙ by-block speeds (c .counts) bits))
+      rest-zero block (used block) ∙ sym (ap (λ (m : ℕ). eqb m 0) (c .closing ∙ by-block speeds (c .counts) bits))
 
-  pub read-closing : {r : Judged} → r ≡ refusedWith 5 → (x ≡ 0 → ⊥) → r ≡ readBlock speeds block
+  pub read-closing : {r : Judged} → r ≡ refusedWith 5 → (x ≡ 0 → ⊥) → Reads speeds block r
   read-closing a h =
       refused-at speeds block 4 a (counted speeds (c .counts) 5 (ask-yes 4 four (ask-no 5 _ (five ∙ ne-eqb x 0 h))))
 
@@ -160,7 +155,7 @@ module _ (speeds : List ℕ) {block : List ℕ} {edition count x : ℕ} (c : Clo
       x ≡ 0 →
       q ≡ planOf (tasksFrom edition count (drop 9 (unpacked block))) →
       r ≡ judgedBy (firstNo (taskQuestions speeds (tasksOf q))) speeds (tasksOf q) →
-      r ≡ readBlock speeds block
+      Reads speeds block r
   read-tasks {q} h p a =
       let bits : List ℕ = drop 9 (unpacked block) in
       let rest : ℕ = firstNo (taskQuestions speeds (tasksIn block)) in

@@ -2,16 +2,19 @@
 use judging::empty_plan;
 use judging::judged_with;
 use judging::refused;
+use levels::read_levels;
 use plan::Judged;
+use plan::Load;
 use plan::Plan;
 use plan::Task;
 ghost use mathlib.Core.Path.{_≡_};
 ghost use Prim.Native.Nat.{_+_, _*_, _/_, _<_, _≤_};
 ghost use lib.ListN.{length, drop};
 ghost use Rattle.arith.specs.Bits.{unpacked};
-ghost use Rattle.plan.specs.Levels.{baseSpeeds};
-ghost use Rattle.plan.specs.Blocks.{taskWidth, tasksFrom, taskFrom, planOf, bitCount, blockLength, editionIn, countIn};
-ghost use Rattle.plan.specs.Answers.{readBlock};
+ghost use Rattle.arith.specs.Asking.{firstNo};
+ghost use Rattle.plan.specs.Blocks.{taskWidth, tasksFrom, taskFrom, planOf, bitCount, blockLength, editionIn, countIn, tasksIn};
+ghost use Rattle.plan.specs.Questions.{reading};
+ghost use Rattle.plan.specs.Answers.{judgedBy, readBlock};
 ghost use Rattle.levels.specs.Code.{loaded, Table};
 
 // How many bits a task takes in an edition.
@@ -75,7 +78,9 @@ fn read_counted(
     requires { ⌜ Table (now speeds) levels ⌝ }
     requires { ⌜ (edition ≡ editionIn (now block)) × (edition ≡ 1) × (count ≡ countIn (now block)) ⌝ }
     requires { ⌜ (1 ≤ count) × (count ≤ 16) × (length (now block) ≡ blockLength edition count) ⌝ }
-    ensures { λ r. ⌜ r ≡ readBlock (loaded (now (speeds .entry)) levels) (now (block .entry)) ⌝ }
+    ensures { λ r. ⌜ r ≡ judgedBy
+        (firstNo (reading (loaded (now (speeds .entry)) levels) (now (block .entry))))
+        (loaded (now (speeds .entry)) levels) (tasksIn (now (block .entry))) ⌝ }
 {
     let used = bit_count(edition, count);
     let closing = numeric::bits_at(block, used, 8 * block.len() - used);
@@ -88,7 +93,9 @@ fn read_counted(
 // A block read over a table of speeds: the questions 1 to 8.
 pub fn read_over(speeds: &[u32; 8], levels: usize, block: &[u8]) -> Judged
     requires { ⌜ Table (now speeds) levels ⌝ }
-    ensures { λ r. ⌜ r ≡ readBlock (loaded (now (speeds .entry)) levels) (now (block .entry)) ⌝ }
+    ensures { λ r. ⌜ r ≡ judgedBy
+        (firstNo (reading (loaded (now (speeds .entry)) levels) (now (block .entry))))
+        (loaded (now (speeds .entry)) levels) (tasksIn (now (block .entry))) ⌝ }
 {
     if block.len() < 2 {
         return refused(1);
@@ -110,10 +117,15 @@ pub fn read_over(speeds: &[u32; 8], levels: usize, block: &[u8]) -> Judged
     read_counted(speeds, levels, block, edition, count)
 }
 
-// A block read over 01's levels.
-pub fn read(block: &[u8]) -> Judged
-    ensures { λ r. ⌜ r ≡ readBlock baseSpeeds (now (block .entry)) ⌝ }
+// A block read over a level block: the questions put to that, then 1 to 8.
+pub fn read(levels: &[u8], block: &[u8]) -> Judged
+    ensures { λ r. ⌜ r ≡ readBlock (now (levels .entry)) (now (block .entry)) ⌝ }
 {
-    let speeds = levels::base();
-    read_over(&speeds, levels::LEVELS, block)
+    let board = read_levels(levels);
+    let answer = board.answer;
+    let speeds = board.speeds;
+    match answer {
+        Load::Refused(n) => refused(n),
+        Load::Levels(count) => read_over(&speeds, count, block),
+    }
 }

@@ -1,19 +1,23 @@
 // Writing a plan block, bit by bit; the round trips.
 use admission::verdict_of;
 use judging::refused;
+use levels::read_levels;
 use plan::Judged;
+use plan::Load;
 use plan::Plan;
 use plan::Verdict;
 use plan::Written;
 use plan_reading::block_length;
-use plan_reading::read_over;
+use plan_reading::read;
 use plan_reading::task_width;
 ghost use mathlib.Core.Path.{_≡_};
 ghost use Prim.Native.Nat.{_+_, _*_, _/_, _%_, _^_, _<_, _≤_};
 ghost use lib.ListN.{length, drop, getD};
 ghost use Rattle.arith.specs.Digits.{number};
-ghost use Rattle.plan.specs.Levels.{baseSpeeds};
+ghost use Rattle.arith.specs.Asking.{firstNo};
+ghost use Rattle.plan.specs.LevelBlocks.{speedsIn};
 ghost use Rattle.plan.specs.Blocks.{tasksOf, editionOf, planBits, planBlock, blockLength};
+ghost use Rattle.plan.specs.Questions.{writing};
 ghost use Rattle.levels.specs.Code.{loaded, Table};
 ghost use Rattle.plan.specs.Answers.{writePlan, writeBuffer, writtenBy, storedBy, writeNumber, judgedBy, copyNumber};
 
@@ -95,8 +99,12 @@ fn put_block(p: Plan, edition: u32, buffer: &mut [u8])
 // A plan written over a table of speeds: the questions 3, 6, 7, 8, then 9.
 pub fn write_over(speeds: &[u32; 8], levels: usize, p: Plan, buffer: &mut [u8]) -> Written
     requires { ⌜ Table (now speeds) levels ⌝ }
-    ensures { λ r. ⌜ r ≡ writePlan (loaded (now (speeds .entry)) levels) p (length (now (buffer .entry))) ⌝ }
-    ensures { λ _. ⌜ now (buffer .exit) ≡ writeBuffer (loaded (now (speeds .entry)) levels) p (now (buffer .entry)) ⌝ }
+    ensures { λ r. ⌜ r ≡ writtenBy
+        (firstNo (writing (loaded (now (speeds .entry)) levels) p (length (now (buffer .entry)))))
+        (planBlock (tasksOf p)) ⌝ }
+    ensures { λ _. ⌜ now (buffer .exit) ≡ storedBy
+        (firstNo (writing (loaded (now (speeds .entry)) levels) p (length (now (buffer .entry)))))
+        (planBlock (tasksOf p)) (now (buffer .entry)) ⌝ }
 {
     let count = p.count;
     if count < 1 {
@@ -118,43 +126,48 @@ pub fn write_over(speeds: &[u32; 8], levels: usize, p: Plan, buffer: &mut [u8]) 
     Written::Bytes(wanted)
 }
 
-// A plan written over 01's levels.
-pub fn write(p: Plan, buffer: &mut [u8]) -> Written
-    ensures { λ r. ⌜ r ≡ writePlan baseSpeeds p (length (now (buffer .entry))) ⌝ }
-    ensures { λ _. ⌜ now (buffer .exit) ≡ writeBuffer baseSpeeds p (now (buffer .entry)) ⌝ }
+// A plan written over a level block: the questions put to that, then those of `write_over`.
+pub fn write(levels: &[u8], p: Plan, buffer: &mut [u8]) -> Written
+    ensures { λ r. ⌜ r ≡ writePlan (now (levels .entry)) p (length (now (buffer .entry))) ⌝ }
+    ensures { λ _. ⌜ now (buffer .exit) ≡ writeBuffer (now (levels .entry)) p (now (buffer .entry)) ⌝ }
 {
-    let speeds = levels::base();
-    write_over(&speeds, levels::LEVELS, p, buffer)
+    let board = read_levels(levels);
+    let answer = board.answer;
+    let speeds = board.speeds;
+    match answer {
+        Load::Refused(n) => Written::Refused(n),
+        Load::Levels(count) => write_over(&speeds, count, p, buffer),
+    }
 }
 
 // A block read and written again: the very same bytes, where the reading accepts it and there is room.
-pub fn copy(block: &[u8], buffer: &mut [u8]) -> Written
+pub fn copy(levels: &[u8], block: &[u8], buffer: &mut [u8]) -> Written
     ensures { λ r. ⌜ r ≡ writtenBy
-        (copyNumber baseSpeeds (now (block .entry)) (length (now (buffer .entry))))
+        (copyNumber (now (levels .entry)) (now (block .entry)) (length (now (buffer .entry))))
         (now (block .entry)) ⌝ }
     ensures { λ _. ⌜ now (buffer .exit) ≡ storedBy
-        (copyNumber baseSpeeds (now (block .entry)) (length (now (buffer .entry))))
+        (copyNumber (now (levels .entry)) (now (block .entry)) (length (now (buffer .entry))))
         (now (block .entry)) (now (buffer .entry)) ⌝ }
 {
-    let speeds = levels::base();
-    let j = read_over(&speeds, levels::LEVELS, block);
+    let j = read(levels, block);
     let v = j.verdict;
     if let Verdict::Refused(n) = v {
         return Written::Refused(n);
     }
     let q = j.plan;
-    write_over(&speeds, levels::LEVELS, q, buffer)
+    write(levels, q, buffer)
 }
 
 // A plan written and read back: judged as the plan itself is, where there is room for its block.
-pub fn reread(p: Plan, buffer: &mut [u8]) -> Judged
-    ensures { λ r. ⌜ r ≡ judgedBy (writeNumber baseSpeeds p (length (now (buffer .entry)))) baseSpeeds (tasksOf p) ⌝ }
-    ensures { λ _. ⌜ now (buffer .exit) ≡ writeBuffer baseSpeeds p (now (buffer .entry)) ⌝ }
+pub fn reread(levels: &[u8], p: Plan, buffer: &mut [u8]) -> Judged
+    ensures { λ r. ⌜ r ≡ judgedBy
+        (writeNumber (now (levels .entry)) p (length (now (buffer .entry))))
+        (speedsIn (now (levels .entry))) (tasksOf p) ⌝ }
+    ensures { λ _. ⌜ now (buffer .exit) ≡ writeBuffer (now (levels .entry)) p (now (buffer .entry)) ⌝ }
 {
-    let speeds = levels::base();
-    let w = write_over(&speeds, levels::LEVELS, p, buffer);
+    let w = write(levels, p, buffer);
     match w {
         Written::Refused(n) => refused(n),
-        Written::Bytes(n) => read_over(&speeds, levels::LEVELS, &buffer[..n]),
+        Written::Bytes(n) => read(levels, &buffer[..n]),
     }
 }

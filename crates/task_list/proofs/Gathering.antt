@@ -5,15 +5,19 @@ use mathlib.Core.Path.{_≡_, refl, sym, ap, ap₂, _∙_}
 use mathlib.Core.List.{List, [], _∷_, _++_, append-nil}
 use native.Mathlib.Numerals.{add-one}
 use native.Mathlib.Omega.{arith}
-use native.Mathlib.Decide.{decLe}
+use native.Mathlib.Decide.{decLe, ℕ-discrete}
 use lib.ListN.{length, set, getD, take, drop, length-set}
 use lib.Seq.{drop-cons, drop-length, set-out, take-suc-set, append-snoc}
 use Rattle.plan.specs.declared.Task.{Task}
 use Rattle.plan.specs.declared.Plan.{Plan}
 use Rattle.plan.specs.Blocks.{tasksOf, planOf}
-use Rattle.plan.specs.Answers.{judgedBy, judgedList, judgedPlan}
+use Rattle.arith.specs.Asking.{firstNo}
+use Rattle.arith.proofs.QuestionLaws.{no-before, yes-before}
+use Rattle.plan.specs.LevelBlocks.{loading, speedsIn}
+use Rattle.plan.specs.Questions.{judging}
+use Rattle.plan.specs.Answers.{judgedList, judgedPlan}
 use Rattle.task_list.specs.Lists.{putTask, gatheredFrom}
-use Rattle.judging.proofs.Judgements.{count-high}
+use Rattle.judging.proofs.Judgements.{count-high, refused-as}
 
 -- the two ways out of `put`
 pub put-stored : (p : Plan) (t : Task) → p .count < 16 → _≡_ {A = Plan} (record { count = p .count + 1; tasks = set (p .tasks) (p .count) t }) (putTask p t)
@@ -67,18 +71,34 @@ gathered-tasks p (t ∷ ts) size h =
 all-count : (ts : List Task) → gatheredFrom (planOf []) ts .count ≡ min (length ts) 17
 all-count ts = gathered-count (planOf []) ts (omega arith) ∙ omega arith
 
--- a list that is too long is refused, whatever it holds
-too-long : (speeds : List ℕ) (ts : List Task) → 16 < length ts → judgedPlan speeds (gatheredFrom (planOf []) ts) ≡ judgedList speeds (length ts) ts
-too-long speeds ts h =
-    let c : gatheredFrom (planOf []) ts .count ≡ 17 = all-count ts ∙ omega arith in
-    ap (λ (k : ℕ). judgedList speeds k (tasksOf (gatheredFrom (planOf []) ts))) c
-    ∙ sym (ap (λ (k : ℕ). judgedBy k speeds ts) (count-high speeds ts (length ts) h))
+-- a list that is too long is refused, whatever it holds: by the level block's number, or where that is accepted by 3
+module _ (levels : List ℕ) (ts : List Task) (h : 16 < length ts) where
+  abbrev number : ℕ → List Task → ℕ
+  number count l = firstNo (loading levels ++ judging (speedsIn levels) count l)
 
-pub judged-gathered : (speeds : List ℕ) (ts : List Task) → judgedPlan speeds (gatheredFrom (planOf []) ts) ≡ judgedList speeds (length ts) ts
-judged-gathered speeds ts =
+  abbrev packed : Plan
+  packed = gatheredFrom (planOf []) ts
+
+  same-refusal :
+      {n : ℕ} → 0 < n → ((count : ℕ) (l : List Task) → 16 < count → number count l ≡ n) → judgedPlan levels packed ≡ judgedList levels (length ts) ts
+  same-refusal pos e =
+      sym (refused-as (speedsIn levels) (tasksOf packed) refl pos (e (packed .count) (tasksOf packed) (omega (arith, all-count ts))))
+      ∙ refused-as (speedsIn levels) ts refl pos (e (length ts) ts h)
+
+  too-long : judgedPlan levels packed ≡ judgedList levels (length ts) ts
+  too-long =
+      elim (ℕ-discrete (firstNo (loading levels)) 0) [
+        | yes z ↦ same-refusal {n = 3} (omega arith)
+            (λ count l g. yes-before (loading levels) (judging (speedsIn levels) count l) refl z ∙ count-high (speedsIn levels) l count g)
+        | no z ↦ let pos : 0 < firstNo (loading levels) = omega (arith, z) in
+            same-refusal pos (λ count l g. no-before (loading levels) (judging (speedsIn levels) count l) (firstNo (loading levels)) pos refl)
+      ]
+
+pub judged-gathered : (levels : List ℕ) (ts : List Task) → judgedPlan levels (gatheredFrom (planOf []) ts) ≡ judgedList levels (length ts) ts
+judged-gathered levels ts =
     elim (decLe (length ts) 16) [
       | yes h ↦
           let c : gatheredFrom (planOf []) ts .count ≡ length ts = all-count ts ∙ omega arith in
-          ap₂ (λ (k : ℕ) (l : List Task). judgedList speeds k l) c (gathered-tasks (planOf []) ts refl (omega arith))
-      | no h ↦ too-long speeds ts (omega arith)
+          ap₂ (λ (k : ℕ) (l : List Task). judgedList levels k l) c (gathered-tasks (planOf []) ts refl (omega arith))
+      | no h ↦ too-long levels ts (omega arith)
     ]

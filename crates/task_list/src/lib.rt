@@ -7,7 +7,6 @@ use plan::Task;
 ghost use mathlib.Core.Path.{_≡_};
 ghost use mathlib.Core.List.{[]};
 ghost use lib.ListN.{length};
-ghost use Rattle.plan.specs.Levels.{baseSpeeds};
 ghost use Rattle.plan.specs.Blocks.{planOf};
 ghost use Rattle.plan.specs.Answers.{judgedList};
 ghost use Rattle.task_list.specs.Lists.{putTask, gatheredFrom};
@@ -40,9 +39,10 @@ pub fn gathered(tasks: &[Task]) -> Plan
     q
 }
 
-// A lent list judged: the questions 3, 6, 7, 8.
-pub fn judge_list(tasks: &[Task]) -> Judged
-    ensures { λ r. ⌜ r ≡ judgedList baseSpeeds (length (now (tasks .entry))) (now (tasks .entry)) ⌝ }
+// A lent list judged over a level block: the questions put to that, then 3, 6, 7, 8.
+pub fn judge_list(levels: &[u8], tasks: &[Task]) -> Judged
+    ensures { λ r. ⌜ r ≡ judgedList (now (levels .entry)) (length (now (tasks .entry))) (now (tasks .entry)) ⌝ }
 {
-    judge(gathered(tasks))
+    let p = gathered(tasks);
+    judge(levels, p)
 }

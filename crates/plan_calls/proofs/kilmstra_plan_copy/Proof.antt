@@ -20,8 +20,8 @@ copy-requires c κs = search needs
 written-number-requires : tie.Need-written-number-requires
 written-number-requires c κs =
     let copied = c .before .before in
-    let s = copied .before .before .before .before in
-    copy-most (s .args .block .now) (length (s .args .buffer .now)) (copied .copy .ensures .0)
+    let s = copied .before .before .before .before .before in
+    copy-most (s .args .levels .now) (s .args .block .now) (length (s .args .buffer .now)) (copied .copy .ensures .0)
 
 same-length : tie.Need-same-length
 same-length c = search needs

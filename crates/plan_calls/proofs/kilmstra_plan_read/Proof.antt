@@ -20,7 +20,8 @@ read-requires c κs = search needs
 verdict-number-requires : tie.Need-verdict-number-requires
 verdict-number-requires c κs =
     let done : tie.After-read = search in
-    read-most (done .before .before .args .block .now) (done .read .ensures)
+    let s = done .before .before .before in
+    read-most (s .args .levels .now) (s .args .block .now) (done .read .ensures)
 
 pub kilmstra-plan-read-spec : {M : Type 1} → statement M
 kilmstra-plan-read-spec = tie.close (tie.spec read-requires verdict-number-requires returns)

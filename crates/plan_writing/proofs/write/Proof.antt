@@ -1,31 +1,60 @@
 -- `write` meets its contract.
 -- Assumes nothing.
 use Prim.Native.Nat.{ℕ}
-use mathlib.Core.Path.{subst}
 use mathlib.Core.List.{List}
 use borrow.Author.Needs.{needs}
-use Rattle.levels.proofs.Tables.{loaded-base}
-use Rattle.plan_writing.proofs.WriteLaws.{Wrote}
+use Rattle.levels.proofs.Tables.{Loads, told-loaded, told-unloaded}
+use Rattle.plan_writing.proofs.WriteLaws.{writes-refused, writes-loaded}
 use Rattle.plan_writing.proofs.write.Statement.{statement}
 use Rattle.plan_writing.proofs.write.Tie as tie
 
-base-requires : tie.Need-base-requires
-base-requires c κs = search needs
+abbrev start : tie.After-read-levels → tie.Start
+start c = c .before .before .before
+
+abbrev table : tie.After-read-levels → List ℕ
+table c = start c .args .levels .now
+
+-- the level block is accepted
+loads : (c : tie.After-known-told2) → Loads (table (c .before .before .before .before)) (c .before .before .before .before .read-levels .result .speeds) (c .before .answer2 .given .0 .0)
+loads c = told-loaded (table (c .before .before .before .before)) (c .before .before .before .before .read-levels .ensures) (c .before .answer2 .given .1)
+
+read-levels-requires : tie.Need-read-levels-requires
+read-levels-requires c κs = search needs
+
+enum-known-answer : tie.Need-enum-known-answer
+enum-known-answer c = search needs
+
+enum-known-answer-2 : tie.Need-enum-known-answer-2
+enum-known-answer-2 c = search needs
 
 write-over-requires : tie.Need-write-over-requires
-write-over-requires c κs = search needs
+write-over-requires c κs = loads (c .before .before) .table
+
+returns : tie.Need-returns
+returns c =
+    let read = c .before .before .before .before in
+    let s = start read in
+    writes-refused (table read) (s .args .p) (s .args .buffer .now)
+    (told-unloaded (table read) (read .read-levels .ensures) (c .before .answer .given .1))
 
 same-length : tie.Need-same-length
 same-length c = search needs
 
-returns : tie.Need-returns
-returns c =
-    let wrote = c .before .before in
-    let made = wrote .before .before .before in
-    let s = made .before .before in
-    subst (λ (l : List ℕ). Wrote l (s .args .p) (s .args .buffer .now) (wrote .write-over .result) (wrote .write-over .last .1 .1 .1 .0))
-    (loaded-base (made .base .ensures .0))
-    (wrote .write-over .ensures)
+returns-2 : tie.Need-returns-2
+returns-2 c =
+    let known = c .before .before .before .before .before in
+    let read = known .before .before .before .before in
+    let s = start read in
+    writes-loaded (table read) (s .args .p) (s .args .buffer .now) (c .before .before .write-over .ensures) (loads known)
 
 pub write-spec : {M : Type 1} → statement M
-write-spec = tie.close (tie.spec base-requires write-over-requires same-length returns)
+write-spec =
+    tie.close
+    (tie.spec
+    read-levels-requires
+    enum-known-answer
+    enum-known-answer-2
+    write-over-requires
+    returns
+    same-length
+    returns-2)

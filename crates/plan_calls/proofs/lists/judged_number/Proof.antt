@@ -16,7 +16,9 @@ judge-requires : tie.Need-judge-requires
 judge-requires c κs = search needs
 
 verdict-number-requires : tie.Need-verdict-number-requires
-verdict-number-requires c κs = judged-most (c .before .args .p) (c .judge .ensures)
+verdict-number-requires c κs =
+    let s = c .before .before in
+    judged-most (s .args .levels .now) (s .args .p) (c .judge .ensures)
 
 pub judged-number-spec : {M : Type 1} → statement M
 judged-number-spec = tie.close (tie.spec judge-requires verdict-number-requires returns)

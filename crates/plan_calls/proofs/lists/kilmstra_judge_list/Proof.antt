@@ -1,4 +1,4 @@
--- `list::kilmstra_judge_list` meets its contract, by the walk of `Passing`: the list is gathered, and the plan judged, with the verdict as one number.
+-- `list::kilmstra_judge_list` meets its contract, by the walk of `Passing`: the list is gathered, and the plan judged over the level block, with the verdict as one number.
 -- Assumes nothing.
 use Prim.Native.Nat.{ℕ}
 use mathlib.Core.Path.{_≡_, refl, ap, subst}
@@ -14,7 +14,6 @@ use denote.Triple.Table.{entered, cited}
 use Rattle.plan.specs.declared.Task.{Task}
 use Rattle.plan.specs.declared.Plan.{Plan}
 use Rattle.plan.specs.declared.Judged.{Judged}
-use Rattle.plan.specs.Levels.{baseSpeeds}
 use Rattle.plan.specs.Answers.{judgedPlan, judgedList}
 use Rattle.plan.specs.Numbers.{verdictNumber}
 use Rattle.task_list.proofs.Gathering.{judged-gathered}
@@ -35,11 +34,11 @@ use Rattle.plan_calls.proofs.lists.kilmstra_judge_list.Code as code
 abbrev number : Judged → ℕ
 number j = verdictNumber (j .verdict)
 
-abbrev list-number : List Task → ℕ
-list-number ts = number (judgedList baseSpeeds (length ts) ts)
+abbrev list-number : List ℕ → List Task → ℕ
+list-number levels ts = number (judgedList levels (length ts) ts)
 
-abbrev plan-number : Plan → ℕ
-plan-number p = number (judgedPlan baseSpeeds p)
+abbrev plan-number : List ℕ → Plan → ℕ
+plan-number levels p = number (judgedPlan levels p)
 
 is-spelled : spelled word #gathered #number ≡ code.function
 is-spelled = refl
@@ -52,7 +51,7 @@ kilmstra-judge-list-spec 𝓤 H 𝓜 𝓖 𝓡 =
     (subst
     (λ (f : Fn). Meets 𝓤 H (𝓖 .A) entry.signature (WpFn 𝓤 H (tables 𝓤 H 𝓜 𝓡 code.env .C) (tables 𝓤 H 𝓜 𝓡 code.env .Λ) f) (entry.spec 𝓤 H (𝓖 .A) (𝓜 .mem) (𝓡 .run)))
     is-spelled
-    (passes u64 word list-number plan-number (λ ts. ap number (judged-gathered baseSpeeds ts)) #gathered #number
+    (passes u64 word list-number plan-number (λ levels ts. ap number (judged-gathered levels ts)) #gathered #number
     (λ r v is. uint-lawful 𝓤 H (𝓖 .A) (givenOf 𝓤 H 𝓜 𝓖) w64 .typed r (v ∷ []) is .0)
     𝓤 H (𝓖 .A) (givenOf 𝓤 H 𝓜 𝓖) (tablesOf 𝓤 H 𝓜 (tables 𝓤 H 𝓜 𝓡 code.env))
     (cited 𝓤 H (Gathered 𝓤 H (𝓖 .A)) 𝓜 𝓡 code.env #gathered gathered-def.routine code.calls-task-list·gathered (gathered-thm.met 𝓤 H 𝓜 𝓖 𝓡))
