@@ -1,7 +1,7 @@
 -- Showing the queue: its bytes, stored task by task.
 -- Assumes nothing.
 use Prim.Native.Nat.{ℕ, _+_, _*_, _<_, _≤_}
-use mathlib.Core.Path.{_≡_, refl, sym, ap, ap₂, _∙_}
+use mathlib.Core.Path.{_≡_, refl, sym, subst, ap, ap₂, _∙_}
 use mathlib.Core.Bool.{Bool, false}
 use mathlib.Core.List.{List, [], _∷_, _++_}
 use native.Mathlib.Numerals.{add-one}
@@ -10,7 +10,7 @@ use borrow.Author.Tests.{le-leb, lt-leb}
 use lib.ListN.{length, getD, take, drop, set, length-append, length-drop, length-set}
 use lib.Seq.{sets, sets-eq, length-sets, drop-drop, drop-append-add, length-take-le, take-at, take-suc}
 use Rattle.arith.specs.Digits.{digits}
-use Rattle.arith.specs.Choice.{pick}
+use Rattle.arith.specs.Choice.{pick, both}
 use Rattle.plan.specs.declared.Written.{Written}
 use Rattle.plan.specs.declared.Written.the-variants as written
 use Rattle.plan.specs.Answers.{roomNumber}
@@ -21,9 +21,13 @@ use Rattle.urgency.specs.declared.ReadyList.{ReadyList}
 use Rattle.soundness.specs.declared.Tested.{Tested}
 use Rattle.reclaiming.specs.declared.Entry.{Entry}
 use Rattle.reclaiming.specs.StateBlock.{remainingOf, decode, stateCount}
-use Rattle.reclaiming.specs.Calls.{queueBytes, shownBytes, showNumber}
+use Rattle.reclaiming.specs.Calls.{queueBytes, readyQueue, shownBytes, showNumber}
 use Rattle.urgency.specs.Code.{tasksBytes}
 use Rattle.state.specs.Code.{timingIn}
+use Rattle.levels.specs.Code.{loaded}
+use Rattle.tables.specs.declared.OwnTable.{OwnTable}
+use Rattle.tables.specs.Code.{ownTable, tableBy, Owns}
+use Rattle.tables.proofs.TableLaws.{unowned}
 use Rattle.soundness.specs.Code.{Good, testedBy}
 use Rattle.soundness.proofs.SoundLaws.{tested-sound}
 use Rattle.reclaiming.specs.Questions.{soundAt}
@@ -99,13 +103,40 @@ module _ {left : ℕ → ℕ} {ts : List ℕ} {len : ℕ} {found buffer : List �
       let e : k ≡ len = omega (arith, so-far .below) in
       so-far .bytes ∙ ap (λ (n : ℕ). tasksBytes left (take n ts) ++ drop (3 * n) found) e
 
--- what showing a block answers and leaves
-abbrev pub LeftByShow : List ℕ → List ℕ → List ℕ → Written → List ℕ → Type 0
-LeftByShow speeds bytes buffer r m = Leaves (showNumber speeds bytes (length buffer)) (shownBytes speeds bytes) buffer r m
+-- the bytes that are shown at a table of speeds
+abbrev shownAt : List ℕ → List ℕ → List ℕ
+shownAt speeds bytes = queueBytes (readyQueue speeds (decode bytes))
 
--- its number, by whether the block is sound
+-- the number of showing there, by whether the block is sound there
 abbrev showNo : List ℕ → List ℕ → List ℕ → Bool → ℕ
-showNo speeds bytes buffer b = pick b (roomNumber (length (shownBytes speeds bytes)) (length buffer)) 10
+showNo speeds bytes buffer b = pick b (roomNumber (length (shownAt speeds bytes)) (length buffer)) 10
+
+-- what showing a block answers and leaves there
+abbrev pub LeftByShow : List ℕ → List ℕ → List ℕ → Written → List ℕ → Type 0
+LeftByShow speeds bytes buffer r m = Leaves (showNo speeds bytes buffer (soundAt speeds bytes)) (shownAt speeds bytes) buffer r m
+
+-- what it answers and leaves by the call's own definitions
+abbrev pub Shown : List ℕ → List ℕ → Written → List ℕ → Type 0
+Shown bytes buffer r m = Leaves (showNumber bytes (length buffer)) (shownBytes bytes) buffer r m
+
+-- at the table that the block owns it is that of the call
+pub over-own :
+    {bytes held : List ℕ} {levels : ℕ} →
+    Owns bytes held levels →
+    (buffer : List ℕ) {r : Written} {m : List ℕ} →
+    LeftByShow (loaded held levels) bytes buffer r m →
+    Shown bytes buffer r m
+over-own {bytes} k buffer {r} {m} h =
+    let speeds : List ℕ = decode bytes .speeds in
+    subst (λ (b : Bool). Leaves (showNo speeds bytes buffer (both b (soundAt speeds bytes))) (shownAt speeds bytes) buffer r m) (sym (k .good))
+    (subst (λ (l : List ℕ). LeftByShow l bytes buffer r m) (k .is) h)
+
+-- a block without a table is answered with 10
+pub no-table :
+    (bytes buffer : List ℕ) {t : OwnTable} → t ≡ tableBy (ownTable bytes) bytes → t .levels ≡ 0 → Shown bytes buffer (written.Refused 10) buffer
+no-table bytes buffer e none =
+    leaves-refused (showNumber bytes (length buffer)) 10 (shownBytes bytes) buffer (omega arith)
+    (ap (showNo (decode bytes .speeds) bytes buffer) (unowned bytes e none))
 
 pub show-unsound :
     (speeds bytes buffer : List ℕ) (t : Tested) →
@@ -113,7 +144,7 @@ pub show-unsound :
     t .sound ≡ false →
     LeftByShow speeds bytes buffer (written.Refused 10) buffer
 show-unsound speeds bytes buffer t e h =
-    leaves-refused (showNumber speeds bytes (length buffer)) 10 (shownBytes speeds bytes) buffer (omega arith)
+    leaves-refused (showNo speeds bytes buffer (soundAt speeds bytes)) 10 (shownAt speeds bytes) buffer (omega arith)
     (ap (showNo speeds bytes buffer) (sym (tested-sound speeds bytes t e) ∙ h))
 
 -- a sound block with its count and its ready tasks
@@ -124,7 +155,7 @@ pub record Showing (speeds bytes keys : List ℕ) (highest n : ℕ) (q : ReadyLi
 
 module _ {speeds bytes keys : List ℕ} {highest n : ℕ} {q : ReadyList} (k : Showing speeds bytes keys highest n q) (buffer : List ℕ) where
   -- the bytes to show
-  shown-are : shownBytes speeds bytes ≡ tasksBytes (remainingIn bytes) (take (q .len) (q .tasks))
+  shown-are : shownAt speeds bytes ≡ tasksBytes (remainingIn bytes) (take (q .len) (q .tasks))
   shown-are =
       let τ : Timing = timingIn speeds bytes in
       let now : ℕ = decode bytes .clock in
@@ -136,19 +167,19 @@ module _ {speeds bytes keys : List ℕ} {highest n : ℕ} {q : ReadyList} (k : S
       ∙ ready-bytes τ now keys (k .good .keyed) (remainingIn bytes) n some
       ∙ ap (tasksBytes (remainingIn bytes)) (sym (listed-front (k .listed)))
 
-  wanted : length (shownBytes speeds bytes) ≡ 3 * q .len
+  wanted : length (shownAt speeds bytes) ≡ 3 * q .len
   wanted =
       ap length shown-are
       ∙ length-tasksBytes (remainingIn bytes) (take (q .len) (q .tasks))
       ∙ ap (λ (x : List ℕ). 3 * length x) (listed-front (k .listed))
       ∙ ap (λ (x : ReadyList). 3 * x .len) (sym (k .listed .is))
 
-  asked : showNumber speeds bytes (length buffer) ≡ roomNumber (3 * q .len) (length buffer)
+  asked : showNo speeds bytes buffer (soundAt speeds bytes) ≡ roomNumber (3 * q .len) (length buffer)
   asked = ap (showNo speeds bytes buffer) (k .good .sound) ∙ ap (λ (x : ℕ). roomNumber x (length buffer)) wanted
 
   pub show-short : length buffer < 3 * q .len → LeftByShow speeds bytes buffer (written.Refused 9) buffer
   show-short h =
-      leaves-refused (showNumber speeds bytes (length buffer)) 9 (shownBytes speeds bytes) buffer (omega arith)
+      leaves-refused (showNo speeds bytes buffer (soundAt speeds bytes)) 9 (shownAt speeds bytes) buffer (omega arith)
       (asked ∙ ap (λ (b : Bool). pick {A = ℕ} b 0 9) (lt-leb (3 * q .len) (length buffer) h))
 
   pub show-stored :
@@ -157,7 +188,7 @@ module _ {speeds bytes keys : List ℕ} {highest n : ℕ} {q : ReadyList} (k : S
       m ≡ tasksBytes (remainingIn bytes) (take (q .len) (q .tasks)) ++ drop (3 * q .len) buffer →
       LeftByShow speeds bytes buffer (written.Bytes (3 * q .len)) m
   show-stored {m} h e =
-      leaves-written (showNumber speeds bytes (length buffer)) (3 * q .len) (shownBytes speeds bytes) buffer m
+      leaves-written (showNo speeds bytes buffer (soundAt speeds bytes)) (3 * q .len) (shownAt speeds bytes) buffer m
       (asked ∙ ap (λ (b : Bool). pick {A = ℕ} b 0 9) (le-leb (3 * q .len) (length buffer) h))
       (sym wanted)
       (e ∙ ap₂ (λ (x : List ℕ) (y : ℕ). x ++ drop y buffer) (sym shown-are) (sym wanted))

@@ -3,16 +3,17 @@ use plan::Written;
 use soundness::test_block;
 use state::count_at;
 use state::remaining_at;
+use tables::own_table;
 use urgency::ReadyList;
 use urgency::ready;
 ghost use mathlib.Core.Path.{_≡_};
 ghost use mathlib.Core.List.{_++_};
 ghost use Prim.Native.Nat.{ℕ, _*_, _<_, _≤_};
 ghost use lib.ListN.{length, getD, take, drop};
-ghost use Rattle.plan.specs.Levels.{baseSpeeds};
 ghost use Rattle.reclaiming.specs.StateBlock.{places, stateLength};
 ghost use Rattle.reclaiming.specs.Calls.{showReply, showBuffer};
 ghost use Rattle.state.specs.Code.{entryIn};
+ghost use Rattle.tables.specs.Code.{Owns};
 ghost use Rattle.urgency.specs.Code.{tasksBytes};
 
 // Stores three bytes for each task of a list: its number, then its remaining ticks.
@@ -32,13 +33,13 @@ fn put_queue(buffer: &mut [u8], state: &[u8], q: ReadyList)
     }
 }
 
-// Showing the queue of a state: 10, then 9; the count of bytes.
-pub fn show(state: &[u8], buffer: &mut [u8]) -> Written
-    ensures { λ r. ⌜ r ≡ showReply baseSpeeds (now (state .entry)) (length (now (buffer .entry))) ⌝ }
-    ensures { λ _. ⌜ now (buffer .exit) ≡ showBuffer baseSpeeds (now (state .entry)) (now (buffer .entry)) ⌝ }
+// Showing the queue of a state, at the table that it owns.
+fn show_over(speeds: &[u32; 8], levels: usize, state: &[u8], buffer: &mut [u8]) -> Written
+    requires { ⌜ Owns (now state) (now speeds) levels ⌝ }
+    ensures { λ r. ⌜ r ≡ showReply (now (state .entry)) (length (now (buffer .entry))) ⌝ }
+    ensures { λ _. ⌜ now (buffer .exit) ≡ showBuffer (now (state .entry)) (now (buffer .entry)) ⌝ }
 {
-    let speeds = levels::base();
-    let tested = test_block(&speeds, levels::LEVELS, state);
+    let tested = test_block(speeds, levels, state);
     if !tested.sound {
         return Written::Refused(10);
     }
@@ -50,4 +51,17 @@ pub fn show(state: &[u8], buffer: &mut [u8]) -> Written
     }
     put_queue(buffer, state, q);
     Written::Bytes(wanted)
+}
+
+// Showing the queue of a state: 10, then 9; the count of bytes.
+pub fn show(state: &[u8], buffer: &mut [u8]) -> Written
+    ensures { λ r. ⌜ r ≡ showReply (now (state .entry)) (length (now (buffer .entry))) ⌝ }
+    ensures { λ _. ⌜ now (buffer .exit) ≡ showBuffer (now (state .entry)) (now (buffer .entry)) ⌝ }
+{
+    let t = own_table(state);
+    if t.levels == 0 {
+        return Written::Refused(10);
+    }
+    let speeds = t.speeds;
+    show_over(&speeds, t.levels, state, buffer)
 }

@@ -1,125 +1,33 @@
--- `show` meets its contract: the block is not sound, the buffer is too short, or the queue is stored.
+-- `show` meets its contract: the block has no table of its own, or its queue is shown at it.
 -- Assumes nothing.
-use Prim.Native.Nat.{ℕ}
-use mathlib.Core.Path.{subst}
-use mathlib.Core.List.{List}
-use native.Mathlib.Omega.{arith}
 use borrow.Author.Needs.{needs}
-use borrow.Author.Tests.{not-true, not-false}
-use Rattle.plan.specs.declared.Written.{Written}
-use Rattle.plan.specs.Levels.{baseSpeeds}
-use Rattle.levels.specs.Code.{loaded}
-use Rattle.levels.proofs.Tables.{loaded-base}
-use Rattle.soundness.specs.Code.{Good}
-use Rattle.soundness.proofs.SoundLaws.{tested-good}
-use Rattle.urgency.proofs.ReadySteps.{listed-few, listed-below}
-use Rattle.showing.proofs.ShowLaws.{LeftByShow, Showing, show-unsound, show-short, show-stored}
+use Rattle.tables.proofs.TableLaws.{owns}
+use Rattle.showing.proofs.ShowLaws.{no-table}
 use Rattle.showing.proofs.show.Statement.{statement}
 use Rattle.showing.proofs.show.Tie as tie
 
--- the places that others are reached from
-abbrev made : tie.After-test-block → tie.After-base
-made c = c .before .before
+abbrev begun : tie.After-own-table → tie.Start
+begun c = c .before .before .before
 
-abbrev start : tie.After-test-block → tie.Start
-start c = made c .before .before .before
-
-abbrev tested : tie.Else1 → tie.After-test-block
-tested c = c .before .before
-
--- the speeds of 01's table, as they are handed over
-abbrev table : tie.After-test-block → List ℕ
-table c = loaded (made c .base .result) 8
-
-abbrev sound : tie.After-ready → tie.Else1
-sound c = c .before .before .before .before
-
-abbrev state : tie.Else1 → List ℕ
-state c = start (tested c) .args .state .now
-
-abbrev buffer : tie.After-ready → List ℕ
-buffer c = start (tested (sound c)) .args .buffer .now
-
--- what is shown over them is shown over 01's
-over-base :
-    (c : tie.After-test-block) {r : Written} {m : List ℕ} →
-    LeftByShow (table c) (start c .args .state .now) (start c .args .buffer .now) r m →
-    LeftByShow baseSpeeds (start c .args .state .now) (start c .args .buffer .now) r m
-over-base c {r} {m} l =
-    subst (λ (s : List ℕ). LeftByShow s (start c .args .state .now) (start c .args .buffer .now) r m) (loaded-base (made c .base .ensures .0)) l
-
-good : (c : tie.Else1) → Good (table (tested c)) (state c) (tested c .test-block .result .keys) (tested c .test-block .result .nominal)
-good c =
-    tested-good (table (tested c)) (state c) (tested c .test-block .result) (tested c .test-block .ensures) (made (tested c) .base .ensures .1 .rising)
-    (not-false (tested c .test-block .result .sound) (c .if1 .left))
-
-showing :
-    (c : tie.After-ready) →
-    Showing (table (tested (sound c))) (state (sound c)) (tested (sound c) .test-block .result .keys) (tested (sound c) .test-block .result .nominal)
-    (c .before .count-at .result) (c .ready .result)
-showing c =
-    let counted = c .before .count-at .ensures in
-    record {
-      good = good (sound c);
-      counted = counted;
-      listed = record { few = omega (arith, counted, good (sound c) .holds .few); is = c .ready .ensures };
-    }
-
-base-requires : tie.Need-base-requires
-base-requires c κs = search needs
-
-test-block-requires : tie.Need-test-block-requires
-test-block-requires c κs = c .before .base .ensures .1
+own-table-requires : tie.Need-own-table-requires
+own-table-requires c κs = search needs
 
 returns : tie.Need-returns
 returns c =
-    let t : tie.After-test-block = c .before .before in
-    over-base t
-    (show-unsound (table t) (start t .args .state .now) (start t .args .buffer .now) (t .test-block .result) (t .test-block .ensures)
-    (not-true (t .test-block .result .sound) (c .if1 .taken)))
+    let t : tie.After-own-table = c .before .before in
+    no-table (begun t .args .state .now) (begun t .args .buffer .now) (t .own-table .ensures) (c .if1 .taken)
 
-count-at-requires : tie.Need-count-at-requires
-count-at-requires c κs = good (c .before .before) .holds
-
-ready-requires : tie.Need-ready-requires
-ready-requires c κs =
-    let holds = good (c .before .before .before) .holds in
-    (omega (arith, c .count-at .ensures, holds .few), holds .size)
-
-mul-wanted : tie.Need-mul-wanted
-mul-wanted c = omega (arith, listed-few (showing (c .before) .listed))
-
-returns-2 : tie.Need-returns-2
-returns-2 c =
-    let r : tie.After-ready = c .before .before in
-    over-base (tested (sound r)) (show-short (showing r) (buffer r) (omega arith))
-
-put-queue-requires : tie.Need-put-queue-requires
-put-queue-requires c κs =
-    let r : tie.After-ready = c .before .before .before in
-    ((good (sound r) .holds .size, listed-few (showing r .listed), c .before .if2 .left), listed-below (showing r .listed))
+show-over-requires : tie.Need-show-over-requires
+show-over-requires c κs =
+    let e : tie.Else1 = c .before .before .before in
+    let t : tie.After-own-table = e .before .before in
+    owns (begun t .args .state .now) (t .own-table .ensures) (e .if1 .left)
 
 same-length : tie.Need-same-length
 same-length c = search needs
 
-returns-3 : tie.Need-returns-3
-returns-3 c =
-    let p : tie.After-put-queue = c .before .before in
-    let e : tie.Else2 = p .before .before in
-    let r : tie.After-ready = e .before .before in
-    over-base (tested (sound r)) (show-stored (showing r) (buffer r) (e .if2 .left) (p .put-queue .ensures))
+returns-2 : tie.Need-returns-2
+returns-2 c = search needs
 
 pub show-spec : {M : Type 1} → statement M
-show-spec =
-    tie.close
-    (tie.spec
-    base-requires
-    test-block-requires
-    returns
-    count-at-requires
-    ready-requires
-    mul-wanted
-    returns-2
-    put-queue-requires
-    same-length
-    returns-3)
+show-spec = tie.close (tie.spec own-table-requires returns show-over-requires same-length returns-2)
