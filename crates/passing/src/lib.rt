@@ -84,13 +84,7 @@ fn passed(
 }
 
 // A pass over the state in a block, at the table that it owns.
-fn pass_over(
-    speeds: &[u32; 8],
-    levels: usize,
-    state: &mut [u8],
-    d: u32,
-    finished: bool,
-) -> Reply
+fn pass_over(speeds: &[u32; 8], levels: usize, state: &mut [u8], d: u32, finished: bool) -> Reply
     requires { ⌜ Owns (now state) (now speeds) levels ⌝ }
     ensures { λ r. ⌜ r ≡ passReply (now (state .entry)) d finished ⌝ }
     ensures { λ _. ⌜ now (state .exit) ≡ passBytes (now (state .entry)) d finished ⌝ }

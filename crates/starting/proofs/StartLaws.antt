@@ -1,9 +1,9 @@
 -- Starting: the image in which every task has a new job, made entry by entry, and the order chosen in it.
 -- Assumes nothing.
-use Prim.Native.Nat.{ℕ, zero, suc, _+_, _<_, _≤_}
+use Prim.Native.Nat.{ℕ, zero, suc, _+_, _*_, _<_, _≤_}
 use mathlib.Core.Path.{_≡_, refl, sym, subst, ap, ap₂, _∙_}
 use mathlib.Core.Bool.{Bool, true}
-use mathlib.Core.List.{List, [], _∷_, _++_, map}
+use mathlib.Core.List.{List, [], _∷_, _++_, map, append-nil, append-assoc}
 use native.Mathlib.Omega.{arith}
 use borrow.Author.Tests.{le-leb, lt-leb}
 use lib.ListN.{length, getD, drop, replicate}
@@ -16,33 +16,39 @@ use Rattle.plan.specs.declared.Judged.{Judged}
 use Rattle.plan.specs.declared.Verdict.the-variants as verdict
 use Rattle.plan.specs.Times.{whole, timeOf, taskTime}
 use Rattle.plan.specs.Levels.{Rising, speedOf, nominal}
+use Rattle.plan.specs.LevelBlocks.{loading, speedsIn}
 use Rattle.plan.specs.Blocks.{noTask, tasksOf, tasksIn, planOf}
 use Rattle.plan.specs.Questions.{inRange, judging, reading, roomQuestion}
-use Rattle.arith.specs.Asking.{firstNo}
-use Rattle.plan.specs.Answers.{roomNumber, answered, beside, readBlock, storedBy}
+use Rattle.arith.specs.Asking.{Question, firstNo}
+use Rattle.plan.specs.Answers.{roomNumber, answered, beside, judgedBy, storedBy}
 use Rattle.plan.proofs.Facts.{InRange, range-at, FineList, fine-list, length-tasksOf}
 use Rattle.plan.proofs.RoundTrip.{tasksOf-planOf, read-judged}
-use Rattle.plan.proofs.AnswerLaws.{told-refused, told-admitted}
+use Rattle.plan.proofs.AnswerLaws.{told-refused, told-admitted, Refusal}
 use Rattle.arith.proofs.QuestionLaws.{no-before, yes-before}
 use Rattle.schedule.specs.PlainSchedule.{Timing}
 use Rattle.reclaiming.specs.declared.Entry.{Entry}
 use Rattle.reclaiming.specs.declared.Reply.{Reply}
 use Rattle.reclaiming.specs.declared.Reply.the-variants as reply
-use Rattle.reclaiming.specs.StateBlock.{State, noEntry, remainingOf, restIn, restOf, taskOf, entryWith, timingAt, timing, planIn, taskField, countField, stateLength, stateCount, encode, decode, places}
+use Rattle.reclaiming.specs.StateBlock.{headFields, tailFields, tailAt, entryLength, State, noEntry, remainingOf, restIn, restOf, taskOf, entryWith, timingAt, timing, planIn, taskField, countField, stateLength, stateCount, encode, decode, places}
+use Rattle.reclaiming.specs.Fields.{fieldsBytes, fieldsLength}
 use Rattle.reclaiming.specs.Orders.{chooseOrder, holdOf, orderWith}
 use Rattle.reclaiming.specs.Passes.{newEntry, startState}
-use Rattle.reclaiming.specs.Calls.{repliedBy, startNumber, startOrder, startReply, startBuffer}
+use Rattle.reclaiming.specs.Calls.{repliedBy, startNumber, startOrder}
 use Rattle.state.specs.Code.{Holds, entryAt, entryIn, headStored, entryNumbers, timingIn}
 use Rattle.urgency.specs.Code.{latestKey, keysIn, Keyed}
 use Rattle.arith.proofs.ArrayLaws.{value-at}
 use Rattle.orders.specs.Code.{chosenIn, chosenReply, Enough}
-use Rattle.starting.specs.Code.{newState}
+use Rattle.tables.specs.Code.{tableBytes}
+use Rattle.levels.specs.Code.{loaded}
+use Rattle.levels.proofs.Tables.{Loads}
+use Rattle.starting.specs.Code.{newState, startNo}
 use Rattle.reclaiming.proofs.Fine.{Fine, nominalSpeed}
 use Rattle.reclaiming.proofs.Plans.{task-range}
-use Rattle.reclaiming.proofs.StateCodec.{Storable, StorableEntry, length-encode, decode-encode}
+use Rattle.reclaiming.proofs.StateCodec.{Storable, StorableEntry, StorableTable, length-encode, decode-encode}
 use Rattle.reclaiming.proofs.Soundness.{fine-storable}
+use Rattle.reclaiming.proofs.FieldLaws.{sets-over}
 use Rattle.arith.proofs.RangeLaws.{length-listTo, getD-listTo}
-use Rattle.reclaiming.proofs.PassedStates.{choose-clock, choose-entries}
+use Rattle.reclaiming.proofs.PassedStates.{choose-clock, choose-entries, choose-speeds}
 use Rattle.reclaiming.proofs.PassSound.{start-fine}
 use Rattle.state.proofs.BlockLaws.{storedTo, stored-size, stored-more, stored-all, count-in, entry-at}
 
@@ -61,56 +67,68 @@ module _ {p : Plan} (plan : Listed p) where
       subst InRange (getD-take (p .count) (p .tasks) i noTask h) (range-at (tasksOf p) i (plan .ranges) (omega (arith, count-is)))
 
 -- an image on its way: its first i entries are stored
-pub record Making (speed : ℕ) (p : Plan) (image : List ℕ) (i : ℕ) : Type 0 where
+pub record Making (speeds : List ℕ) (speed : ℕ) (p : Plan) (image : List ℕ) (i : ℕ) : Type 0 where
   pub plan : Listed p
   pub below : i ≤ p .count
   pub size : length image ≡ stateLength
-  pub bytes : image ≡ storedTo (newState speed (tasksOf p)) i
+  pub bytes : image ≡ storedTo (newState speeds speed (tasksOf p)) i
 
-module _ (speed : ℕ) {p : Plan} (plan : Listed p) where
+module _ (speeds : List ℕ) (speed : ℕ) {p : Plan} (plan : Listed p) where
   abbrev made : List Entry
-  made = newState speed (tasksOf p) .entries
+  made = newState speeds speed (tasksOf p) .entries
 
   made-are : length made ≡ p .count
   made-are = length-listTo (length (tasksOf p)) (newEntry (timingAt speed (tasksOf p)) (tasksOf p)) ∙ count-is plan
 
-  making : (i : ℕ) (image : List ℕ) → i ≤ p .count → image ≡ storedTo (newState speed (tasksOf p)) i → Making speed p image i
+  making : (i : ℕ) (image : List ℕ) → i ≤ p .count → image ≡ storedTo (newState speeds speed (tasksOf p)) i → Making speeds speed p image i
   making i image h e = record {
     plan = plan;
     below = h;
-    size = ap length e ∙ stored-size (newState speed (tasksOf p)) i (omega (arith, plan .most)) (omega (arith, made-are));
+    size = ap length e ∙ stored-size (newState speeds speed (tasksOf p)) i (omega (arith, plan .most)) (omega (arith, made-are));
     bytes = e;
   }
 
-  pub making-none : {image : List ℕ} → image ≡ headStored (headStored (replicate stateLength 0) taskField 255) countField (p .count) → Making speed p image 0
-  making-none {image} e =
-      making 0 image (omega arith)
-      (e ∙ ap (λ (n : ℕ). headStored (headStored (replicate stateLength 0) taskField 255) countField n) (sym made-are))
+  -- before the table and the entries all is zero but for the task and the count
+  abbrev blankBytes : ℕ → List ℕ
+  blankBytes n = headStored (headStored (replicate stateLength 0) taskField 255) countField n
 
-module _ {speed : ℕ} {p : Plan} {image : List ℕ} {i : ℕ} (so-far : Making speed p image i) where
+  pub making-none : {image : List ℕ} → image ≡ sets (blankBytes (p .count)) tailAt (tableBytes speeds) → Making speeds speed p image 0
+  making-none {image} e =
+      let N : State = newState speeds speed (tasksOf p) in
+      let head : List ℕ = fieldsBytes headFields N in
+      let tail : List ℕ = fieldsBytes tailFields N in
+      let free : List ℕ = replicate (entryLength * places) 0 in
+      making 0 image (omega arith)
+      (e
+      ∙ ap (λ (n : ℕ). sets (blankBytes n) tailAt tail) (sym made-are)
+      ∙ sets-over (head ++ free) (replicate (fieldsLength tailFields) 0) [] tail tailAt refl refl
+      ∙ ap (λ (l : List ℕ). (head ++ free) ++ l) (append-nil tail)
+      ∙ append-assoc head free tail)
+
+module _ {speeds : List ℕ} {speed : ℕ} {p : Plan} {image : List ℕ} {i : ℕ} (so-far : Making speeds speed p image i) where
   pub making-more :
       {rest : Rest} {ticks : ℕ} {m : List ℕ} →
       i < p .count →
       rest ≡ whole (getD (p .tasks) i noTask) →
       ticks ≡ taskTime speed (getD (p .tasks) i noTask) →
       m ≡ sets image (entryAt i) (entryNumbers (entryWith (getD (p .tasks) i noTask) rest ticks)) →
-      Making speed p m (i + 1)
+      Making speeds speed p m (i + 1)
   making-more {rest} {ticks} {m} h full e s =
       let ts : List Task = tasksOf p in
-      let es : List Entry = made speed (so-far .plan) in
+      let es : List Entry = made speeds speed (so-far .plan) in
       let f : ℕ → Entry = newEntry (timingAt speed ts) ts in
       let same : getD (p .tasks) i noTask ≡ getD ts i noTask = sym (getD-take (p .count) (p .tasks) i noTask h) in
       let rest-is : rest ≡ whole (getD ts i noTask) = full ∙ ap whole same in
       let ticks-is : ticks ≡ taskTime speed (getD ts i noTask) = e ∙ ap (taskTime speed) same in
       let new : entryWith (getD (p .tasks) i noTask) rest ticks ≡ f i = λ j. entryWith (same j) (rest-is j) (ticks-is j) in
       let at : f i ≡ getD es i noEntry = sym (getD-listTo (length ts) f i noEntry (omega (arith, count-is (so-far .plan)))) in
-      making speed (so-far .plan) (i + 1) m (omega arith)
-      (stored-more (newState speed ts) i image m (omega (arith, so-far .plan .most)) (omega (arith, made-are speed (so-far .plan))) (so-far .bytes)
+      making speeds speed (so-far .plan) (i + 1) m (omega arith)
+      (stored-more (newState speeds speed ts) i image m (omega (arith, so-far .plan .most)) (omega (arith, made-are speeds speed (so-far .plan))) (so-far .bytes)
       (s ∙ ap (λ (x : Entry). sets image (entryAt i) (entryNumbers x)) (new ∙ at)))
 
-  pub making-all : p .count ≤ i → image ≡ encode (newState speed (tasksOf p))
+  pub making-all : p .count ≤ i → image ≡ encode (newState speeds speed (tasksOf p))
   making-all h =
-      so-far .bytes ∙ stored-all (newState speed (tasksOf p)) i (omega (arith, made-are speed (so-far .plan), so-far .below))
+      so-far .bytes ∙ stored-all (newState speeds speed (tasksOf p)) i (omega (arith, made-are speeds speed (so-far .plan), so-far .below))
 
 -- a plan that was accepted over a table of speeds, with its nominal level
 pub record Planned (speeds : List ℕ) (p : Plan) (level : ℕ) : Type 0 where
@@ -161,22 +179,24 @@ module _ (speeds : List ℕ) where
 pub record Newly (speeds : List ℕ) (ts : List Task) (image : List ℕ) : Type 0 where
   pub rising : Rising speeds
   pub few : length speeds ≤ 256
+  pub stored : StorableTable speeds
   pub good : FineList speeds (length ts) ts
-  pub bytes : image ≡ encode (newState (nominalSpeed speeds ts) ts)
+  pub bytes : image ≡ encode (newState speeds (nominalSpeed speeds ts) ts)
 
 pub newly :
     {speeds : List ℕ} {p : Plan} {level speed : ℕ} {image : List ℕ} →
     Rising speeds →
-    length speeds ≤ 256 →
+    StorableTable speeds →
     Planned speeds p level →
     speed ≡ speedOf speeds level →
-    image ≡ encode (newState speed (tasksOf p)) →
+    image ≡ encode (newState speeds speed (tasksOf p)) →
     Newly speeds (tasksOf p) image
-newly {speeds} {p} rising few k s e = record {
+newly {speeds} {p} rising stored k s e = record {
   rising = rising;
-  few = few;
+  few = omega (arith, stored .few);
+  stored = stored;
   good = k .good;
-  bytes = e ∙ ap (λ (x : ℕ). encode (newState x (tasksOf p))) (s ∙ ap (speedOf speeds) (k .level-is));
+  bytes = e ∙ ap (λ (x : ℕ). encode (newState speeds x (tasksOf p))) (s ∙ ap (speedOf speeds) (k .level-is));
 }
 
 module _ {speeds : List ℕ} {ts : List Task} {image : List ℕ} (new : Newly speeds ts image) where
@@ -187,7 +207,7 @@ module _ {speeds : List ℕ} {ts : List Task} {image : List ℕ} (new : Newly sp
   τ = timing speeds ts
 
   abbrev N : State
-  N = newState speed ts
+  N = newState speeds speed ts
 
   abbrev S : State
   S = startState speeds ts
@@ -199,7 +219,9 @@ module _ {speeds : List ℕ} {ts : List Task} {image : List ℕ} (new : Newly sp
   start-clock = choose-clock speeds τ N
 
   start-storable : Storable S
-  start-storable = fine-storable speeds ts S (new .good) (new .rising) (new .few) fine (omega (arith, start-clock))
+  start-storable =
+      fine-storable speeds ts S (new .good) (new .rising) (new .few) fine (omega (arith, start-clock))
+      (subst StorableTable (sym (choose-speeds speeds τ N)) (new .stored))
 
   entries-are : S .entries ≡ N .entries
   entries-are = choose-entries speeds τ N
@@ -214,6 +236,7 @@ module _ {speeds : List ℕ} {ts : List Task} {image : List ℕ} (new : Newly sp
     level = omega arith;
     count = omega (arith, new-length, new .good .count-high);
     entries = subst (λ (es : List Entry). (i : ℕ) → i < length es → StorableEntry (getD es i noEntry)) entries-are (start-storable .entries);
+    table = new .stored;
   }
 
   -- it is read back
@@ -310,24 +333,27 @@ module _ {speeds : List ℕ} {ts : List Task} {image : List ℕ} (new : Newly sp
       ∙ ap (λ (n : ℕ). encode S ++ drop n buffer) (sym (length-encode S (start-storable .count))) in
       subst (λ (n : ℕ). LeftBy speeds n ts buffer r m) zero-is (order, stored)
 
--- what starting a block leaves: a reply, and the bytes of the state
+-- what starting a block leaves at a table of speeds: a reply, and the bytes of the state
 abbrev pub Left : List ℕ → List ℕ → List ℕ → Reply → List ℕ → Type 0
-Left speeds block buffer r m = (r ≡ startReply speeds block (length buffer)) × (m ≡ startBuffer speeds block buffer)
+Left speeds block buffer r m = LeftBy speeds (startNo speeds block (length buffer)) (tasksIn block) buffer r m
 
 -- by what reading the block answers
+abbrev pub readAt : List ℕ → List ℕ → Judged
+readAt speeds block = judgedBy (firstNo (reading speeds block)) speeds (tasksIn block)
+
 pub start-unread :
     (speeds block buffer : List ℕ) {j : Judged} {n : ℕ} →
-    j ≡ readBlock speeds block →
+    j ≡ readAt speeds block →
     j .verdict ≡ verdict.Refused n →
     Left speeds block buffer (reply.Refused n) buffer
 start-unread speeds block buffer {j} {n} read told =
     let t : (0 < n) × (firstNo (reading speeds block) ≡ n) =
     told-refused speeds (tasksIn block) (j .verdict) (firstNo (reading speeds block)) n (ap (λ (x : Judged). x .verdict) read) told in
-    left-refused speeds (startNumber speeds block (length buffer)) n (tasksIn block) buffer (t .0)
+    left-refused speeds (startNo speeds block (length buffer)) n (tasksIn block) buffer (t .0)
     (no-before (reading speeds block) (roomQuestion stateLength (length buffer) ∷ []) n (t .0) (t .1))
 
 pub record Admitted (speeds block : List ℕ) (j : Judged) (level span : ℕ) : Type 0 where
-  pub read : j ≡ readBlock speeds block
+  pub read : j ≡ readAt speeds block
   pub told : j .verdict ≡ verdict.Admitted level span
 
 module _ {speeds block : List ℕ} {j : Judged} {level span : ℕ} (k : Admitted speeds block j level span) where
@@ -363,3 +389,24 @@ module _ {speeds block : List ℕ} {j : Judged} {level span : ℕ} (k : Admitted
       subst (λ (n : ℕ). LeftBy speeds n (tasksIn block) buffer r m)
       (sym (yes-before (reading speeds block) (roomQuestion stateLength (length buffer) ∷ []) refl accepted))
       (subst (λ (ts : List Task). LeftBy speeds (roomNumber stateLength (length buffer)) ts buffer r m) tasks-are h)
+
+-- what starting leaves by the call's own definitions
+abbrev pub Started : List ℕ → List ℕ → List ℕ → Reply → List ℕ → Type 0
+Started levels block buffer r m = LeftBy (speedsIn levels) (startNumber levels block (length buffer)) (tasksIn block) buffer r m
+
+module _ (levels block buffer : List ℕ) where
+  abbrev own : List Question
+  own = reading (speedsIn levels) block ++ (roomQuestion stateLength (length buffer) ∷ [])
+
+  -- the level block is refused
+  pub start-unloaded : {n : ℕ} → Refusal (firstNo (loading levels)) n → Started levels block buffer (reply.Refused n) buffer
+  start-unloaded {n} f =
+      left-refused (speedsIn levels) (startNumber levels block (length buffer)) n (tasksIn block) buffer (f .positive)
+      (no-before (loading levels) own n (f .positive) (f .is))
+
+  -- it is accepted, and the plan is started over its speeds
+  pub start-loaded :
+      {held : List ℕ} {count : ℕ} {r : Reply} {m : List ℕ} → Loads levels held count → Left (loaded held count) block buffer r m → Started levels block buffer r m
+  start-loaded {r = r} {m = m} k h =
+      subst (λ (n : ℕ). LeftBy (speedsIn levels) n (tasksIn block) buffer r m) (sym (yes-before (loading levels) own refl (k .number)))
+      (subst (λ (l : List ℕ). Left l block buffer r m) (k .is) h)

@@ -1,5 +1,7 @@
 // Starting: a state in which every task of a plan has a new job, with an order chosen in it.
+use levels::read_levels;
 use orders::choose;
+use plan::Load;
 use plan::Plan;
 use plan::Verdict;
 use reclaiming::Entry;
@@ -9,42 +11,49 @@ use state::STATE_LENGTH;
 use state::TASK_AT;
 use state::put_entry;
 use state::store;
+use tables::put_table;
 use urgency::keys_of;
 ghost use mathlib.Core.Path.{_≡_};
 ghost use Prim.Native.Nat.{_<_, _≤_};
 ghost use mathlib.Core.Bool.{true};
 ghost use lib.ListN.{length, replicate};
-ghost use Rattle.plan.specs.Levels.{baseSpeeds, nominal};
-ghost use Rattle.plan.specs.Blocks.{tasksOf};
+ghost use Rattle.plan.specs.Levels.{nominal};
+ghost use Rattle.plan.specs.Blocks.{tasksOf, tasksIn};
 ghost use Rattle.plan.specs.Questions.{inRange, judging};
+ghost use lib.Seq.{sets};
+ghost use Rattle.arith.specs.Arrays.{padded};
 ghost use Rattle.arith.specs.Choice.{every};
 ghost use Rattle.arith.specs.Asking.{firstNo};
 ghost use Rattle.plan.specs.Answers.{roomNumber, storedBy};
-ghost use Rattle.reclaiming.specs.StateBlock.{places, taskField, countField, stateLength, encode};
+ghost use Rattle.reclaiming.specs.StateBlock.{places, taskField, countField, tailAt, stateLength, encode};
 ghost use Rattle.reclaiming.specs.Passes.{startState};
 ghost use Rattle.reclaiming.specs.Calls.{repliedBy, startOrder, startReply, startBuffer};
 ghost use Rattle.levels.specs.Code.{loaded, Table};
 ghost use Rattle.state.specs.Code.{headStored};
-ghost use Rattle.starting.specs.Code.{newState};
+ghost use Rattle.tables.specs.Code.{tableBytes};
+ghost use Rattle.starting.specs.Code.{newState, startNo};
 
-// The image of a state at clock 0, with no entries yet.
-fn blank(count: usize) -> [u8; STATE_LENGTH]
-    requires { ⌜ count ≤ places ⌝ }
-    ensures { λ r. ⌜ r ≡ headStored (headStored (replicate stateLength 0) taskField 255) countField count ⌝ }
+// The image of a state at clock 0, with a table of speeds and no entries yet.
+fn blank(speeds: &[u32; 8], levels: usize, count: usize) -> [u8; STATE_LENGTH]
+    requires { ⌜ (count ≤ places) × (levels ≤ 8) × (now speeds ≡ padded 8 0 (loaded (now speeds) levels)) ⌝ }
+    ensures { λ r. ⌜ r ≡ sets (headStored (headStored (replicate stateLength 0) taskField 255) countField count) tailAt
+        (tableBytes (loaded (now (speeds .entry)) levels)) ⌝ }
 {
     let mut image = [0u8; STATE_LENGTH];
     image[TASK_AT] = 255;
     image[COUNT_AT] = count as u8;
+    put_table(&mut image, speeds, levels);
     image
 }
 
 // A fresh image, filled at its offsets: every task of a plan has a new job at a speed, and no order is chosen.
-fn fresh(p: Plan, speed: u32) -> [u8; STATE_LENGTH]
+fn fresh(speeds: &[u32; 8], levels: usize, p: Plan, speed: u32) -> [u8; STATE_LENGTH]
+    requires { ⌜ (levels ≤ 8) × (now speeds ≡ padded 8 0 (loaded (now speeds) levels)) ⌝ }
     requires { ⌜ (p .count ≤ places) × (every inRange (tasksOf p) ≡ true) × (0 < speed) × (speed ≤ 1000) ⌝ }
-    ensures { λ r. ⌜ r ≡ encode (newState speed (tasksOf p)) ⌝ }
+    ensures { λ r. ⌜ r ≡ encode (newState (loaded (now (speeds .entry)) levels) speed (tasksOf p)) ⌝ }
 {
     let count = p.count;
-    let mut image = blank(count);
+    let mut image = blank(speeds, levels, count);
     let mut i: usize = 0;
     while i < count {
         let t = p.tasks[i];
@@ -62,9 +71,9 @@ fn fresh(p: Plan, speed: u32) -> [u8; STATE_LENGTH]
     image
 }
 
-// Starting a plan that was accepted over a table of speeds, of which the nominal level is known: 9 for the 200 bytes.
+// Starting a plan that was accepted over a table of speeds, of which the nominal level is known: 9 for the 217 bytes.
 fn started(speeds: &[u32; 8], levels: usize, p: Plan, highest: usize, state: &mut [u8]) -> Reply
-    requires { ⌜ Table (now speeds) levels ⌝ }
+    requires { ⌜ Table (now speeds) levels × (now speeds ≡ padded 8 0 (loaded (now speeds) levels)) ⌝ }
     requires { ⌜ firstNo (judging (loaded (now speeds) levels) (p .count) (tasksOf p)) ≡ 0 ⌝ }
     requires { ⌜ highest ≡ nominal (loaded (now speeds) levels) (tasksOf p) ⌝ }
     ensures { λ r. ⌜ r ≡ repliedBy (roomNumber stateLength (length (now (state .entry))))
@@ -76,20 +85,24 @@ fn started(speeds: &[u32; 8], levels: usize, p: Plan, highest: usize, state: &mu
         return Reply::Refused(9);
     }
     let speed = speeds[highest];
-    let mut image = fresh(p, speed);
+    let mut image = fresh(speeds, levels, p, speed);
     let keys = keys_of(&image, p.count, 0);
     let r = choose(speeds, levels, &mut image, &keys, highest);
     store(state, &image);
     r
 }
 
-// Starting: the questions 1 to 8 of the block, then 9 for the 200 bytes.
-pub fn start(block: &[u8], state: &mut [u8]) -> Reply
-    ensures { λ r. ⌜ r ≡ startReply baseSpeeds (now (block .entry)) (length (now (state .entry))) ⌝ }
-    ensures { λ _. ⌜ now (state .exit) ≡ startBuffer baseSpeeds (now (block .entry)) (now (state .entry)) ⌝ }
+// Starting over a table of speeds whose numbers past its count are zero: the questions 1 to 8 of the block, then 9 for the 217 bytes.
+fn start_over(speeds: &[u32; 8], levels: usize, block: &[u8], state: &mut [u8]) -> Reply
+    requires { ⌜ Table (now speeds) levels × (now speeds ≡ padded 8 0 (loaded (now speeds) levels)) ⌝ }
+    ensures { λ r. ⌜ r ≡ repliedBy
+        (startNo (loaded (now (speeds .entry)) levels) (now (block .entry)) (length (now (state .entry))))
+        (startOrder (loaded (now (speeds .entry)) levels) (startState (loaded (now (speeds .entry)) levels) (tasksIn (now (block .entry))))) ⌝ }
+    ensures { λ _. ⌜ now (state .exit) ≡ storedBy
+        (startNo (loaded (now (speeds .entry)) levels) (now (block .entry)) (length (now (state .entry))))
+        (encode (startState (loaded (now (speeds .entry)) levels) (tasksIn (now (block .entry))))) (now (state .entry)) ⌝ }
 {
-    let speeds = levels::base();
-    let j = plan_reading::read_over(&speeds, levels::LEVELS, block);
+    let j = plan_reading::read_over(speeds, levels, block);
     let v = j.verdict;
     let p = j.plan;
     match v {
@@ -97,6 +110,20 @@ pub fn start(block: &[u8], state: &mut [u8]) -> Reply
         Verdict::Admitted {
             nominal,
             hyperperiod: _,
-        } => started(&speeds, levels::LEVELS, p, nominal, state),
+        } => started(speeds, levels, p, nominal, state),
+    }
+}
+
+// Starting: the questions 18 to 20 of the level block, 1 to 8 of the plan's, then 9 for the 217 bytes.
+pub fn start(levels: &[u8], block: &[u8], state: &mut [u8]) -> Reply
+    ensures { λ r. ⌜ r ≡ startReply (now (levels .entry)) (now (block .entry)) (length (now (state .entry))) ⌝ }
+    ensures { λ _. ⌜ now (state .exit) ≡ startBuffer (now (levels .entry)) (now (block .entry)) (now (state .entry)) ⌝ }
+{
+    let board = read_levels(levels);
+    let answer = board.answer;
+    let speeds = board.speeds;
+    match answer {
+        Load::Refused(n) => Reply::Refused(n),
+        Load::Levels(count) => start_over(&speeds, count, block, state),
     }
 }

@@ -20,9 +20,9 @@ use Rattle.arith.proofs.QuestionLaws.{within-under, within-over, within-true}
 use Rattle.arith.proofs.ArrayLaws.{padded-at, length-padded}
 use Rattle.plan.specs.LevelBlocks.{risesFrom, tableGood}
 use Rattle.plan.proofs.LevelBlockLaws.{FineTable, fine-table}
-use Rattle.levels.specs.Code.{loaded}
+use Rattle.levels.specs.Code.{loaded, Table}
 use Rattle.levels.proofs.Loading.{loaded-padded}
-use Rattle.levels.proofs.Tables.{rises-table}
+use Rattle.levels.proofs.Tables.{levels-are, speed-is, rises-table}
 use Rattle.reclaiming.specs.Fields.{Field, width, valueIn, fieldsBytes, fieldAt, offsetOf}
 use Rattle.reclaiming.specs.StateBlock.{State, levelPlaces, speedRow, tailFields, speedField, tailAt, stateLength, levelCount, speedIn, decode, laidOut}
 use Rattle.reclaiming.specs.Questions.{inTime, stateSound, soundAt, sound}
@@ -131,6 +131,14 @@ unowned bytes {t} e none = by (ownTable bytes) refl e
     by true f e =
         let fine : FineTable speeds = fine-table speeds (both-right (eqb (length bytes) stateLength) (tableGood speeds) f) in
         absurd (omega (arith, none, ap (λ (x : OwnTable). x .levels) e, levels-in bytes, fine .some))
+
+-- a table that the code is handed fits a block
+pub table-stored : {held : List ℕ} {levels : ℕ} → Table held levels → StorableTable (loaded held levels)
+table-stored {held} {levels} t =
+    record {
+      few = omega (arith, levels-are t, t .few);
+      each = λ k h. let l : k < levels = omega (arith, levels-are t) in omega (arith, speed-is t k l, t .most k l);
+    }
 
 -- a table that a block owns may be loaded
 pub owned-fine : {bytes held : List ℕ} {levels : ℕ} → Owns bytes held levels → FineTable (loaded held levels)

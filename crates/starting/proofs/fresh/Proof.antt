@@ -6,26 +6,29 @@ use native.Mathlib.Omega.{arith}
 use borrow.Author.Needs.{needs}
 use lib.ListN.{length}
 use Rattle.arith.proofs.Loops.{length-mapped}
+use Rattle.levels.specs.Code.{loaded}
 use Rattle.starting.proofs.StartLaws.{Making, task-at, making-none, making-more, making-all}
 use Rattle.starting.proofs.fresh.Statement.{statement}
 use Rattle.starting.proofs.fresh.Tie as tie
 
 abbrev Inv-loop : tie.InvT-loop
-Inv-loop speed p count image₀ i₀ image i = Making speed p image i
+Inv-loop speeds levels speed p count image₀ i₀ image i = Making (loaded speeds levels) speed p image i
 
 abbrev μ-loop : tie.MeasureT-loop
-μ-loop speed p count image₀ i₀ image i = count - i
+μ-loop speeds levels speed p count image₀ i₀ image i = count - i
 
-size : (c : tie.Start Inv-loop μ-loop) → length (c .args .t1 .tasks) ≡ 16
+size : (c : tie.Start Inv-loop μ-loop) → length (c .args .t3 .tasks) ≡ 16
 size c = search (length-mapped, needs)
 
 blank-requires : tie.Need-blank-requires Inv-loop μ-loop
-blank-requires c κs = c .pre .0
+blank-requires c κs = (c .pre .1 .0, c .pre .0 .0, c .pre .0 .1)
 
 loop-holds : tie.Need-loop-holds Inv-loop μ-loop
 loop-holds c =
     let s : tie.Start Inv-loop μ-loop = c .before in
-    making-none (s .args .speed) (record { places = size s; most = s .pre .0; ranges = s .pre .1 }) (c .blank .ensures)
+    making-none (loaded (s .args .speeds .now) (s .args .levels)) (s .args .speed)
+    (record { places = size s; most = s .pre .1 .0; ranges = s .pre .1 .1 })
+    (c .blank .ensures)
 
 mul-t : tie.Need-mul-t Inv-loop μ-loop
 mul-t c = omega (arith, c .before .loop .inv .plan .most)
@@ -40,7 +43,7 @@ task-time-requires : tie.Need-task-time-requires Inv-loop μ-loop
 task-time-requires c κs =
     let turn : tie.In-loop Inv-loop μ-loop = c .before .before in
     let s : tie.Start Inv-loop μ-loop = turn .before .before .before in
-    (s .pre .2, s .pre .3, omega (arith, task-at (turn .before .loop .inv .plan) (turn .before .loop .i) (turn .loop-test .taken) .worst-high))
+    (s .pre .1 .2, s .pre .1 .3, omega (arith, task-at (turn .before .loop .inv .plan) (turn .before .loop .i) (turn .loop-test .taken) .worst-high))
 
 slice-aggregate-put-entry : tie.Need-slice-aggregate-put-entry Inv-loop μ-loop
 slice-aggregate-put-entry c = search needs

@@ -9,6 +9,7 @@ use lib.ListN.{length}
 use Rattle.arith.proofs.Loops.{length-mapped}
 use Rattle.plan.specs.Blocks.{tasksOf}
 use Rattle.levels.specs.Code.{loaded}
+use Rattle.tables.proofs.TableLaws.{table-stored}
 use Rattle.levels.proofs.Tables.{levels-are, speed-is, speed-positive, speed-most}
 use Rattle.starting.proofs.StartLaws.{count-is, left-short, Planned, planned, level-below, Newly, newly, new-size, new-periods, new-ready, new-left}
 use Rattle.starting.proofs.started.Statement.{statement}
@@ -26,7 +27,7 @@ accepted c = planned (table c) (c .args .p) (c .args .highest) (size c) (c .pre 
 
 -- the nominal level is one of the table's
 below : (c : tie.Start) → c .args .highest < c .args .levels
-below c = omega (arith, level-below (accepted c), levels-are (c .pre .0))
+below c = omega (arith, level-below (accepted c), levels-are (c .pre .0 .0))
 
 -- the places that others are reached from
 abbrev start : tie.After-fresh → tie.Start
@@ -39,8 +40,8 @@ fresh c = c .before .before .before .before
 new : (c : tie.After-fresh) → Newly (table (start c)) (tasksOf (start c .args .p)) (c .fresh .result)
 new c =
     let s : tie.Start = start c in
-    newly (s .pre .0 .rising) (omega (arith, levels-are (s .pre .0), s .pre .0 .few)) (accepted s)
-    (speed-is (s .pre .0) (s .args .highest) (below s))
+    newly (s .pre .0 .0 .rising) (table-stored (s .pre .0 .0)) (accepted s)
+    (speed-is (s .pre .0 .0) (s .args .highest) (below s))
     (c .fresh .ensures)
 
 returns : tie.Need-returns
@@ -49,19 +50,22 @@ returns c =
     left-short (table s) (tasksOf (s .args .p)) (s .args .state .now) (c .if1 .taken)
 
 mul-speed : tie.Need-mul-speed
-mul-speed c = omega (arith, below (c .before .before), c .before .before .pre .0 .few)
+mul-speed c = omega (arith, below (c .before .before), c .before .before .pre .0 .0 .few)
 
 element-copy-out-speed : tie.Need-element-copy-out-speed
-element-copy-out-speed c = omega (arith, below (c .before .before), c .before .before .pre .0 .few)
+element-copy-out-speed c = omega (arith, below (c .before .before), c .before .before .pre .0 .0 .few)
 
 fresh-requires : tie.Need-fresh-requires
 fresh-requires c κs =
     let s : tie.Start = c .before .before .before in
     let k = accepted s in (
-      k .plan .most,
-      k .plan .ranges,
-      speed-positive (s .pre .0) (s .args .highest) (below s),
-      speed-most (s .pre .0) (s .args .highest) (below s),
+      (s .pre .0 .0 .few, s .pre .0 .1),
+      (
+        k .plan .most,
+        k .plan .ranges,
+        speed-positive (s .pre .0 .0) (s .args .highest) (below s),
+        speed-most (s .pre .0 .0) (s .args .highest) (below s),
+      ),
     )
 
 slice-aggregate-keys-of : tie.Need-slice-aggregate-keys-of
@@ -81,7 +85,7 @@ choose-requires : tie.Need-choose-requires
 choose-requires c κs =
     let s : tie.Start = start (fresh c) in
     let r = new-ready (new (fresh c)) (sym (count-is (accepted s .plan))) (c .before .before .keys-of .ensures) (s .args .highest) (s .pre .1 .1) in
-    ((s .pre .0, r .0 .0, r .0 .1, r .0 .2), r .1)
+    ((s .pre .0 .0, r .0 .0, r .0 .1, r .0 .2), r .1)
 
 slice-aggregate-store : tie.Need-slice-aggregate-store
 slice-aggregate-store c = search needs
