@@ -9,7 +9,6 @@ use state::STATE_LENGTH;
 ghost use mathlib.Core.Path.{_≡_};
 ghost use mathlib.Core.List.{_++_};
 ghost use lib.ListN.{length, drop};
-ghost use Rattle.plan.specs.Levels.{baseSpeeds};
 ghost use Rattle.reclaiming.specs.Calls.{isOrder, startReply, passReply, passBytes};
 ghost use Rattle.reclaiming.specs.Run.{trace, bytesAfter};
 ghost use Rattle.reclaiming.specs.Numbers.{replyNumber};
@@ -18,8 +17,8 @@ ghost use Rattle.reclaiming.specs.Play.{playedShown, playedQueue, PlayedQueueSh
 
 // One pass, as a number, played on a state; the reply as a number.
 fn play_one(state: &mut [u8], p: u64) -> u64
-    ensures { λ r. ⌜ r ≡ replyNumber (passReply baseSpeeds (now (state .entry)) (passFrom p .d) (passFrom p .finished)) ⌝ }
-    ensures { λ _. ⌜ now (state .exit) ≡ passBytes baseSpeeds (now (state .entry)) (passFrom p .d) (passFrom p .finished) ⌝ }
+    ensures { λ r. ⌜ r ≡ replyNumber (passReply (now (state .entry)) (passFrom p .d) (passFrom p .finished)) ⌝ }
+    ensures { λ _. ⌜ now (state .exit) ≡ passBytes (now (state .entry)) (passFrom p .d) (passFrom p .finished) ⌝ }
 {
     let d = (p % 4294967296) as u32;
     let finished = p / 4294967296 % 2 == 1;
@@ -29,8 +28,8 @@ fn play_one(state: &mut [u8], p: u64) -> u64
 
 // Plays passes on a state, as many as there is room for replies.
 fn play_all(state: &mut [u8], passes: &[u64], replies: &mut [u64])
-    ensures { λ _. ⌜ now (state .exit) ≡ bytesAfter baseSpeeds (now (state .entry)) (playedPasses (now (passes .entry)) (length (now (replies .entry)))) ⌝ }
-    ensures { λ _. ⌜ now (replies .exit) ≡ replyNumbers (trace baseSpeeds (now (state .entry)) (playedPasses (now (passes .entry)) (length (now (replies .entry))))) ++ drop (length (playedPasses (now (passes .entry)) (length (now (replies .entry))))) (now (replies .entry)) ⌝ }
+    ensures { λ _. ⌜ now (state .exit) ≡ bytesAfter (now (state .entry)) (playedPasses (now (passes .entry)) (length (now (replies .entry)))) ⌝ }
+    ensures { λ _. ⌜ now (replies .exit) ≡ replyNumbers (trace (now (state .entry)) (playedPasses (now (passes .entry)) (length (now (replies .entry))))) ++ drop (length (playedPasses (now (passes .entry)) (length (now (replies .entry))))) (now (replies .entry)) ⌝ }
 {
     let mut i: usize = 0;
     while i < passes.len() {
@@ -57,15 +56,21 @@ fn is_order(r: Reply) -> bool
     }
 }
 
-// Starts a plan and plays a list of passes on it. The start's reply is returned; those of the passes stand in the lent block.
-pub fn play(block: &[u8], state: &mut [u8], passes: &[u64], replies: &mut [u64]) -> u64
-    ensures { λ r. ⌜ r ≡ replyNumber (startReply baseSpeeds (now (block .entry)) (length (now (state .entry)))) ⌝ }
-    ensures { λ _. ⌜ now (state .exit) ≡ playedState baseSpeeds (now (block .entry)) (now (state .entry)) (playedPasses (now (passes .entry)) (length (now (replies .entry)))) ⌝ }
-    ensures { λ _. ⌜ now (replies .exit) ≡ playedReplies baseSpeeds (now (block .entry)) (now (state .entry)) (playedPasses (now (passes .entry)) (length (now (replies .entry)))) (now (replies .entry)) ⌝ }
-    ensures { λ r. ⌜ PlayedOnTime baseSpeeds (now (block .entry)) r (playedPasses (now (passes .entry)) (length (now (replies .entry)))) (now (replies .exit)) ⌝ }
-    ensures { λ r. ⌜ PlayedMostUrgent baseSpeeds (now (block .entry)) r (playedPasses (now (passes .entry)) (length (now (replies .entry)))) (now (replies .exit)) ⌝ }
+// Starts a plan over a level block and plays a list of passes on it. The start's reply is returned; those of the passes stand in the lent block.
+pub fn play(
+    levels: &[u8],
+    block: &[u8],
+    state: &mut [u8],
+    passes: &[u64],
+    replies: &mut [u64],
+) -> u64
+    ensures { λ r. ⌜ r ≡ replyNumber (startReply (now (levels .entry)) (now (block .entry)) (length (now (state .entry)))) ⌝ }
+    ensures { λ _. ⌜ now (state .exit) ≡ playedState (now (levels .entry)) (now (block .entry)) (now (state .entry)) (playedPasses (now (passes .entry)) (length (now (replies .entry)))) ⌝ }
+    ensures { λ _. ⌜ now (replies .exit) ≡ playedReplies (now (levels .entry)) (now (block .entry)) (now (state .entry)) (playedPasses (now (passes .entry)) (length (now (replies .entry)))) (now (replies .entry)) ⌝ }
+    ensures { λ r. ⌜ PlayedOnTime (now (levels .entry)) (now (block .entry)) r (playedPasses (now (passes .entry)) (length (now (replies .entry)))) (now (replies .exit)) ⌝ }
+    ensures { λ r. ⌜ PlayedMostUrgent (now (levels .entry)) (now (block .entry)) r (playedPasses (now (passes .entry)) (length (now (replies .entry)))) (now (replies .exit)) ⌝ }
 {
-    let first = start(block, state);
+    let first = start(levels, block, state);
     if !is_order(first) {
         return reply_number(first);
     }
@@ -81,20 +86,21 @@ pub struct Played {
 
 // Plays a list of passes as `play` does and, where the start was accepted, shows the queue of the state that they leave.
 pub fn play_and_show(
+    levels: &[u8],
     block: &[u8],
     state: &mut [u8],
     passes: &[u64],
     replies: &mut [u64],
     buffer: &mut [u8],
 ) -> Played
-    ensures { λ r. ⌜ r .first ≡ replyNumber (startReply baseSpeeds (now (block .entry)) (length (now (state .entry)))) ⌝ }
-    ensures { λ r. ⌜ r .shown ≡ playedShown baseSpeeds (now (block .entry)) (now (state .entry)) (playedPasses (now (passes .entry)) (length (now (replies .entry)))) (length (now (buffer .entry))) ⌝ }
-    ensures { λ _. ⌜ now (state .exit) ≡ playedState baseSpeeds (now (block .entry)) (now (state .entry)) (playedPasses (now (passes .entry)) (length (now (replies .entry)))) ⌝ }
-    ensures { λ _. ⌜ now (replies .exit) ≡ playedReplies baseSpeeds (now (block .entry)) (now (state .entry)) (playedPasses (now (passes .entry)) (length (now (replies .entry)))) (now (replies .entry)) ⌝ }
-    ensures { λ _. ⌜ now (buffer .exit) ≡ playedQueue baseSpeeds (now (block .entry)) (now (state .entry)) (playedPasses (now (passes .entry)) (length (now (replies .entry)))) (now (buffer .entry)) ⌝ }
-    ensures { λ r. ⌜ PlayedQueueShown baseSpeeds (now (block .entry)) (r .first) (playedPasses (now (passes .entry)) (length (now (replies .entry)))) (now (replies .exit)) (now (buffer .entry)) (r .shown) (now (buffer .exit)) ⌝ }
+    ensures { λ r. ⌜ r .first ≡ replyNumber (startReply (now (levels .entry)) (now (block .entry)) (length (now (state .entry)))) ⌝ }
+    ensures { λ r. ⌜ r .shown ≡ playedShown (now (levels .entry)) (now (block .entry)) (now (state .entry)) (playedPasses (now (passes .entry)) (length (now (replies .entry)))) (length (now (buffer .entry))) ⌝ }
+    ensures { λ _. ⌜ now (state .exit) ≡ playedState (now (levels .entry)) (now (block .entry)) (now (state .entry)) (playedPasses (now (passes .entry)) (length (now (replies .entry)))) ⌝ }
+    ensures { λ _. ⌜ now (replies .exit) ≡ playedReplies (now (levels .entry)) (now (block .entry)) (now (state .entry)) (playedPasses (now (passes .entry)) (length (now (replies .entry)))) (now (replies .entry)) ⌝ }
+    ensures { λ _. ⌜ now (buffer .exit) ≡ playedQueue (now (levels .entry)) (now (block .entry)) (now (state .entry)) (playedPasses (now (passes .entry)) (length (now (replies .entry)))) (now (buffer .entry)) ⌝ }
+    ensures { λ r. ⌜ PlayedQueueShown (now (levels .entry)) (now (block .entry)) (r .first) (playedPasses (now (passes .entry)) (length (now (replies .entry)))) (now (replies .exit)) (now (buffer .entry)) (r .shown) (now (buffer .exit)) ⌝ }
 {
-    let first = play(block, state, passes, replies);
+    let first = play(levels, block, state, passes, replies);
     if first < 256 {
         return Played {
             first,

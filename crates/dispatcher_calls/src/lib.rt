@@ -6,26 +6,25 @@ use showing::show;
 use starting::start;
 ghost use mathlib.Core.Path.{_≡_};
 ghost use lib.ListN.{length};
-ghost use Rattle.plan.specs.Levels.{baseSpeeds};
 ghost use Rattle.plan.specs.Numbers.{writtenNumber};
 ghost use Rattle.reclaiming.specs.Calls.{startReply, startBuffer, passReply, passBytes, showReply, showBuffer};
 ghost use Rattle.reclaiming.specs.Numbers.{replyNumber, isYes};
 
-// Starts a plan's block into a state of 200 bytes: 1 to 9 is a refusal's number; else the order.
+// Starts a plan's block over a level block into a state of 217 bytes: 18 to 20, then 1 to 9, is a refusal's number; else the order.
 #[no_mangle]
-pub extern "C" fn kilmstra_start(block: &[u8], state: &mut [u8]) -> u64
-    ensures { λ r. ⌜ r ≡ replyNumber (startReply baseSpeeds (now (block .entry)) (length (now (state .entry)))) ⌝ }
-    ensures { λ _. ⌜ now (state .exit) ≡ startBuffer baseSpeeds (now (block .entry)) (now (state .entry)) ⌝ }
+pub extern "C" fn kilmstra_start(levels: &[u8], block: &[u8], state: &mut [u8]) -> u64
+    ensures { λ r. ⌜ r ≡ replyNumber (startReply (now (levels .entry)) (now (block .entry)) (length (now (state .entry)))) ⌝ }
+    ensures { λ _. ⌜ now (state .exit) ≡ startBuffer (now (levels .entry)) (now (block .entry)) (now (state .entry)) ⌝ }
 {
-    let r = start(block, state);
+    let r = start(levels, block, state);
     reply_number(r)
 }
 
 // Passes d ticks to a state, in which the running job finished or (0) did not: 10 to 15 is a refusal's number; else the order.
 #[no_mangle]
 pub extern "C" fn kilmstra_pass(state: &mut [u8], d: u32, finished: u8) -> u64
-    ensures { λ r. ⌜ r ≡ replyNumber (passReply baseSpeeds (now (state .entry)) d (isYes finished)) ⌝ }
-    ensures { λ _. ⌜ now (state .exit) ≡ passBytes baseSpeeds (now (state .entry)) d (isYes finished) ⌝ }
+    ensures { λ r. ⌜ r ≡ replyNumber (passReply (now (state .entry)) d (isYes finished)) ⌝ }
+    ensures { λ _. ⌜ now (state .exit) ≡ passBytes (now (state .entry)) d (isYes finished) ⌝ }
 {
     let r = pass(state, d, finished != 0);
     reply_number(r)
@@ -34,8 +33,8 @@ pub extern "C" fn kilmstra_pass(state: &mut [u8], d: u32, finished: u8) -> u64
 // Shows the queue of a state: 9 or 10 is a refusal's number; else the count of bytes stands from bit 8 on.
 #[no_mangle]
 pub extern "C" fn kilmstra_show(state: &[u8], buffer: &mut [u8]) -> u64
-    ensures { λ r. ⌜ r ≡ writtenNumber (showReply baseSpeeds (now (state .entry)) (length (now (buffer .entry)))) ⌝ }
-    ensures { λ _. ⌜ now (buffer .exit) ≡ showBuffer baseSpeeds (now (state .entry)) (now (buffer .entry)) ⌝ }
+    ensures { λ r. ⌜ r ≡ writtenNumber (showReply (now (state .entry)) (length (now (buffer .entry)))) ⌝ }
+    ensures { λ _. ⌜ now (buffer .exit) ≡ showBuffer (now (state .entry)) (now (buffer .entry)) ⌝ }
 {
     let w = show(state, buffer);
     written_number(w)

@@ -1,10 +1,8 @@
 -- `kilmstra_pass` meets its contract.
 -- Assumes nothing.
 use mathlib.Core.Path.{_≡_, ap, _∙_}
-use Rattle.plan.specs.Levels.{baseSpeeds}
 use Rattle.reclaiming.specs.Calls.{passReply}
 use Rattle.reclaiming.specs.Numbers.{replyNumber, isYes}
-use Rattle.plan.proofs.LevelLaws.{baseRising, base-few}
 use Rattle.reclaiming.proofs.NumberLaws.{pass-most}
 use borrow.Author.Needs.{needs}
 use Rattle.dispatcher_calls.proofs.kilmstra_pass.Statement.{statement}
@@ -14,7 +12,7 @@ abbrev start : tie.After-pass → tie.Start
 start c = c .before .before .before
 
 -- the reply to these ticks and this finish
-replied : (c : tie.After-pass) → c .pass .result ≡ passReply baseSpeeds (start c .args .state .now) (start c .args .d) (isYes (start c .args .finished))
+replied : (c : tie.After-pass) → c .pass .result ≡ passReply (start c .args .state .now) (start c .args .d) (isYes (start c .args .finished))
 replied c = c .pass .ensures .0
 
 pass-requires : tie.Need-pass-requires
@@ -24,7 +22,7 @@ reply-number-requires : tie.Need-reply-number-requires
 reply-number-requires c κs =
     let passed = c .before .before in
     let s = start passed in
-    pass-most baseSpeeds baseRising base-few (s .args .state .now) (s .args .d) (isYes (s .args .finished)) (passed .pass .result) (replied passed)
+    pass-most (s .args .state .now) (s .args .d) (isYes (s .args .finished)) (passed .pass .result) (replied passed)
 
 same-length : tie.Need-same-length
 same-length c = search needs

@@ -3,8 +3,6 @@
 use mathlib.Core.Path.{ap, _∙_}
 use lib.ListN.{length}
 use Rattle.plan.specs.Numbers.{writtenNumber}
-use Rattle.plan.specs.Levels.{baseSpeeds}
-use Rattle.plan.proofs.LevelLaws.{baseRising, base-few}
 use Rattle.reclaiming.proofs.NumberLaws.{show-most}
 use borrow.Author.Needs.{needs}
 use Rattle.dispatcher_calls.proofs.kilmstra_show.Statement.{statement}
@@ -23,7 +21,7 @@ written-number-requires : tie.Need-written-number-requires
 written-number-requires c κs =
     let shown = c .before .before in
     let s = shown .before .before .before .before in
-    show-most baseSpeeds baseRising base-few (s .args .state .now) (length (s .args .buffer .now)) (shown .show .result) (shown .show .ensures .0)
+    show-most (s .args .state .now) (length (s .args .buffer .now)) (shown .show .result) (shown .show .ensures .0)
 
 same-length : tie.Need-same-length
 same-length c = search needs

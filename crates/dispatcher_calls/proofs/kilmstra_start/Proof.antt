@@ -3,8 +3,6 @@
 use mathlib.Core.Path.{ap, _∙_}
 use lib.ListN.{length}
 use Rattle.reclaiming.specs.Numbers.{replyNumber}
-use Rattle.plan.specs.Levels.{baseSpeeds}
-use Rattle.plan.proofs.LevelLaws.{baseRising, base-few}
 use Rattle.reclaiming.proofs.NumberLaws.{start-most}
 use borrow.Author.Needs.{needs}
 use Rattle.dispatcher_calls.proofs.kilmstra_start.Statement.{statement}
@@ -22,8 +20,8 @@ start-requires c κs = search needs
 reply-number-requires : tie.Need-reply-number-requires
 reply-number-requires c κs =
     let started = c .before .before in
-    let s = started .before .before .before .before in
-    start-most baseSpeeds baseRising base-few (s .args .block .now) (length (s .args .state .now)) (started .start .result) (started .start .ensures .0)
+    let s = started .before .before .before .before .before in
+    start-most (s .args .levels .now) (s .args .block .now) (length (s .args .state .now)) (started .start .result) (started .start .ensures .0)
 
 same-length : tie.Need-same-length
 same-length c = search needs

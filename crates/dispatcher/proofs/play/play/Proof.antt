@@ -10,8 +10,6 @@ use lib.Seq.{length-take-le}
 use Rattle.reclaiming.specs.StateBlock.{stateLength}
 use Rattle.reclaiming.specs.Run.{Pass}
 use Rattle.reclaiming.specs.Play.{playedPasses}
-use Rattle.plan.specs.Levels.{baseSpeeds}
-use Rattle.plan.proofs.LevelLaws.{baseRising, base-few}
 use Rattle.reclaiming.proofs.NumberLaws.{start-most}
 use Rattle.reclaiming.proofs.PlayLaws.{Begun, play-room, play-refused, play-accepted}
 use Rattle.dispatcher.proofs.play.play.Statement.{statement}
@@ -19,7 +17,7 @@ use Rattle.dispatcher.proofs.play.play.Tie as tie
 
 -- the places that others are reached from
 abbrev start : tie.After-start → tie.Start
-start c = c .before .before .before .before .before .before
+start c = c .before .before .before .before .before .before .before
 
 abbrev started : tie.After-is-order → tie.After-start
 started c = c .before .before .before
@@ -29,7 +27,7 @@ accepted c = c .before .before .before
 
 -- the state that the start leaves, the passes that are played and the replies that were found
 abbrev left : tie.After-start → List ℕ
-left c = c .start .last .1 .0
+left c = c .start .last .1 .1 .0
 
 abbrev passes : tie.After-start → List Pass
 passes c = playedPasses (start c .args .passes .now) (length (start c .args .replies .now))
@@ -37,18 +35,22 @@ passes c = playedPasses (start c .args .passes .now) (length (start c .args .rep
 abbrev found : tie.After-start → List ℕ
 found c = start c .args .replies .now
 
+-- the level block
+abbrev levels : tie.After-start → List ℕ
+levels c = start c .args .levels .now
+
 begun :
     (c : tie.After-is-order) →
-    Begun baseSpeeds (start (started c) .args .block .now) (start (started c) .args .state .now) (started c .start .result) (c .is-order .result) (left (started c))
+    Begun (levels (started c)) (start (started c) .args .block .now) (start (started c) .args .state .now) (started c .start .result) (c .is-order .result) (left (started c))
 begun c = record {
   replied = started c .start .ensures .0;
   tested = c .is-order .ensures;
   left = started c .start .ensures .1;
-  kept = started c .start .kept .1 .0;
+  kept = started c .start .kept .1 .1 .0;
 }
 
 room : (c : tie.Else1) → stateLength ≤ length (left (started (c .before)))
-room c = play-room baseSpeeds baseRising base-few (begun (c .before)) (not-false _ (c .if1 .left))
+room c = play-room (levels (started (c .before))) (begun (c .before)) (not-false _ (c .if1 .left))
 
 start-requires : tie.Need-start-requires
 start-requires c κs = search needs
@@ -59,7 +61,7 @@ is-order-requires c κs = search needs
 reply-number-requires : tie.Need-reply-number-requires
 reply-number-requires c κs =
     let s : tie.After-start = started (c .before) in
-    start-most baseSpeeds baseRising base-few (start s .args .block .now) (length (start s .args .state .now)) (s .start .result) (s .start .ensures .0)
+    start-most (levels s) (start s .args .block .now) (length (start s .args .state .now)) (s .start .result) (s .start .ensures .0)
 
 same-length : tie.Need-same-length
 same-length c = search needs
@@ -67,7 +69,7 @@ same-length c = search needs
 returns : tie.Need-returns
 returns c =
     let k : tie.After-is-order = c .before .before in
-    play-refused baseSpeeds baseRising base-few (begun k) (passes (started k)) (found (started k)) (c .reply-number .ensures) (not-true _ (c .before .if1 .taken))
+    play-refused (levels (started k)) (begun k) (passes (started k)) (found (started k)) (c .reply-number .ensures) (not-true _ (c .before .if1 .taken))
 
 slice-relend-prefix-play-all : tie.Need-slice-relend-prefix-play-all
 slice-relend-prefix-play-all c = room c
@@ -81,7 +83,7 @@ play-all-requires c κs = search needs
 reply-number-requires-2 : tie.Need-reply-number-requires-2
 reply-number-requires-2 c κs =
     let s : tie.After-start = started (accepted (c .before .before .before .before) .before) in
-    start-most baseSpeeds baseRising base-few (start s .args .block .now) (length (start s .args .state .now)) (s .start .result) (s .start .ensures .0)
+    start-most (levels s) (start s .args .block .now) (length (start s .args .state .now)) (s .start .result) (s .start .ensures .0)
 
 same-length-2 : tie.Need-same-length-2
 same-length-2 c = search needs
@@ -93,7 +95,7 @@ returns-2 : tie.Need-returns-2
 returns-2 c =
     let p : tie.After-play-all = c .before .before .before .before .before in
     let e : tie.Else1 = accepted p in
-    play-accepted baseSpeeds baseRising base-few (begun (e .before)) (passes (started (e .before))) (found (started (e .before))) (c .reply-number2 .ensures) (not-false _ (e .if1 .left))
+    play-accepted (levels (started (e .before))) (begun (e .before)) (passes (started (e .before))) (found (started (e .before))) (c .reply-number2 .ensures) (not-false _ (e .if1 .left))
     (p .play-all .ensures .0) (p .play-all .ensures .1)
 
 pub play-spec : {M : Type 1} → statement M

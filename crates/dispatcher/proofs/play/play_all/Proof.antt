@@ -4,13 +4,12 @@ use Prim.Native.Nat.{_-_}
 use native.Mathlib.Omega.{arith}
 use borrow.Author.Needs.{needs}
 use lib.ListN.{length}
-use Rattle.plan.specs.Levels.{baseSpeeds}
 use Rattle.dispatcher.proofs.PlaySteps.{PlayedTo, played-none, played-next, played-all, played-full}
 use Rattle.dispatcher.proofs.play.play_all.Statement.{statement}
 use Rattle.dispatcher.proofs.play.play_all.Tie as tie
 
 abbrev Inv-loop : tie.InvT-loop
-Inv-loop state₀ passes replies₀ i₀ state replies i = PlayedTo baseSpeeds state₀ passes replies₀ state replies i
+Inv-loop state₀ passes replies₀ i₀ state replies i = PlayedTo state₀ passes replies₀ state replies i
 
 abbrev μ-loop : tie.MeasureT-loop
 μ-loop state₀ passes replies₀ i₀ state replies i = length passes - i
@@ -22,7 +21,7 @@ roomy c = c .before .before .before .before .before
 loop-holds : tie.Need-loop-holds Inv-loop μ-loop
 loop-holds c =
     let s : tie.Start Inv-loop μ-loop = c .before .before .before in
-    played-none baseSpeeds (s .args .state .now) (s .args .passes .now) (s .args .replies .now)
+    played-none (s .args .state .now) (s .args .passes .now) (s .args .replies .now)
 
 same-length : tie.Need-same-length Inv-loop μ-loop
 same-length c = c .before .before .loop .inv .state-kept

@@ -5,8 +5,6 @@ use mathlib.Core.Path.{ap, _∙_}
 use lib.Dec.{eqb}
 use borrow.Author.Needs.{needs}
 use Rattle.reclaiming.specs.Numbers.{replyNumber}
-use Rattle.plan.specs.Levels.{baseSpeeds}
-use Rattle.plan.proofs.LevelLaws.{baseRising, base-few}
 use Rattle.reclaiming.proofs.NumberLaws.{pass-most}
 use Rattle.dispatcher.proofs.play.play_one.Statement.{statement}
 use Rattle.dispatcher.proofs.play.play_one.Tie as tie
@@ -26,7 +24,7 @@ reply-number-requires : tie.Need-reply-number-requires
 reply-number-requires c κs =
     let p : tie.After-pass = c .before .before in
     let s : tie.Start = p .before .before .before in
-    pass-most baseSpeeds baseRising base-few (s .args .state .now) (s .args .p % 4294967296) (eqb (s .args .p / 4294967296 % 2) 1) (p .pass .result) (p .pass .ensures .0)
+    pass-most (s .args .state .now) (s .args .p % 4294967296) (eqb (s .args .p / 4294967296 % 2) 1) (p .pass .result) (p .pass .ensures .0)
 
 same-length : tie.Need-same-length
 same-length c = search needs
