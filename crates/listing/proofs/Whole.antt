@@ -16,7 +16,7 @@ use Rattle.plan.specs.declared.Judged.{Judged}
 use Rattle.plan.specs.declared.Task.{Task}
 use Rattle.plan.specs.declared.Verdict.{Verdict}
 use Rattle.plan.specs.declared.Verdict.the-variants as verdict
-use Rattle.plan.specs.Levels.{baseSpeeds}
+use Rattle.plan.specs.LevelBlocks.{speedsIn}
 use Rattle.plan.specs.Blocks.{tasksIn}
 use Rattle.plan.specs.Answers.{verdictAnswer, readBlock}
 use Rattle.reclaiming.specs.declared.Reply.{Reply}
@@ -24,7 +24,7 @@ use Rattle.reclaiming.specs.declared.Reply.the-variants as reply
 use Rattle.reclaiming.specs.StateBlock.{stateLength}
 use Rattle.reclaiming.specs.Calls.{startReply, startBuffer}
 use Rattle.reclaiming.specs.Run.{trace, startedBytes, openedBook, linesFrom}
-use Rattle.transcript.specs.Listing.{planLine, replyLine, refusedLine, planCut, passesIn, oddLine, linesText, startedLines, judgedLines, readLines, listing}
+use Rattle.transcript.specs.Listing.{planLine, replyLine, refusedLine, levelCut, planCut, passesIn, oddLine, linesText, startedLines, judgedLines, readLines, planListing, listing}
 use Rattle.lines.specs.Stores.{Put}
 use Rattle.pass_lines.specs.Code.{passesText}
 
@@ -57,50 +57,55 @@ opened-clock ts (reply.Refused n) = refl
 
 -- the lines from the start on
 pub started-is :
-    (block passes : List ℕ) {r : Reply} {s : List ℕ} →
-    r ≡ startReply baseSpeeds block stateLength →
-    s ≡ startBuffer baseSpeeds block (replicate stateLength 0) →
+    (levels block passes : List ℕ) {r : Reply} {s : List ℕ} →
+    r ≡ startReply levels block stateLength →
+    s ≡ startBuffer levels block (replicate stateLength 0) →
     length s ≡ stateLength →
-    replyLine 0 r ++ passesText baseSpeeds (tasksIn block) (openedBook (tasksIn block) r) s passes ≡ startedLines baseSpeeds block passes
-started-is block passes {r} {s} a b size =
-    let begun : s ≡ startedBytes baseSpeeds block (replicate stateLength 0) = sym (take-all stateLength s (omega arith)) ∙ ap (take stateLength) b in
+    replyLine 0 r ++ passesText (speedsIn levels) (tasksIn block) (openedBook (tasksIn block) r) s passes ≡ startedLines levels block passes
+started-is levels block passes {r} {s} a b size =
+    let begun : s ≡ startedBytes levels block (replicate stateLength 0) = sym (take-all stateLength s (omega arith)) ∙ ap (take stateLength) b in
     let ts : List Task = tasksIn block in
-    let lines : Reply → List ℕ → List ℕ = λ x y. linesText (linesFrom baseSpeeds ts (openedBook ts x) (trace baseSpeeds y (passesIn passes))) in
+    let lines : Reply → List ℕ → List ℕ = λ x y. linesText (linesFrom (speedsIn levels) ts (openedBook ts x) (trace y (passesIn passes))) in
     sym (append-assoc (replyLine 0 r) (lines r s) (oddLine passes))
     ∙ ap₂ (λ (x : Reply) (y : List ℕ). replyLine 0 x ++ lines x y ++ oddLine passes) a begun
 
--- the lines of an input that is cut and read
-abbrev linesAt : List ℕ → ℕ → List ℕ
-linesAt input cut = readLines baseSpeeds (take cut input) (readBlock baseSpeeds (take cut input)) (drop cut input)
-
 -- an input that is too long
-pub over-is : (input : List ℕ) → 65536 < length input → refusedLine 17 ≡ listing baseSpeeds input
+pub over-is : (input : List ℕ) → 65536 < length input → refusedLine 17 ≡ listing input
 over-is input h =
-    sym (ap (λ (b : Bool). pick b (linesAt input (planCut input)) (refusedLine 17)) (lt-leb (length input) 65536 h))
+    let cut : ℕ = levelCut input in
+    sym (ap (λ (b : Bool). pick b (planListing (take cut input) (drop cut input)) (refusedLine 17)) (lt-leb (length input) 65536 h))
 
--- one that is not: its cut, and what the reader says of it
-pub record Read (input : List ℕ) (cut : ℕ) (j : Judged) : Type 0 where
-  pub few : length input ≤ 65536
+-- one that is not, with its level block cut off
+pub cut-is :
+    (input : List ℕ) {cut : ℕ} →
+    length input ≤ 65536 →
+    cut ≡ levelCut input →
+    planListing (take cut input) (take (length input - cut) (drop cut input)) ≡ listing input
+cut-is input {cut} few e =
+    let at : ℕ = levelCut input in
+    ap (λ (l : List ℕ). planListing (take cut input) l) (part-to-end input cut)
+    ∙ ap (λ (k : ℕ). planListing (take k input) (drop k input)) e
+    ∙ sym (ap (λ (b : Bool). pick b (planListing (take at input) (drop at input)) (refusedLine 17)) (le-leb (length input) 65536 few))
+
+-- a plan block and passes: the cut, and what the reader says of the block
+pub record Read (levels input : List ℕ) (cut : ℕ) (j : Judged) : Type 0 where
   pub is-cut : cut ≡ planCut input
-  pub is-read : j ≡ readBlock baseSpeeds (take cut input)
+  pub is-read : j ≡ readBlock levels (take cut input)
 
-module _ {input : List ℕ} {cut : ℕ} {j : Judged} (h : Read input cut j) where
-  read-is : readLines baseSpeeds (take cut input) j (drop cut input) ≡ listing baseSpeeds input
+module _ {levels input : List ℕ} {cut : ℕ} {j : Judged} (h : Read levels input cut j) where
+  read-is : readLines levels (take cut input) j (drop cut input) ≡ planListing levels input
   read-is =
-      ap (λ (x : Judged). readLines baseSpeeds (take cut input) x (drop cut input)) (h .is-read)
-      ∙ ap (λ (k : ℕ). linesAt input k) (h .is-cut)
-      ∙ sym (ap (λ (b : Bool). pick b (linesAt input (planCut input)) (refusedLine 17)) (le-leb (length input) 65536 (h .few)))
+      ap (λ (x : Judged). readLines levels (take cut input) x (drop cut input)) (h .is-read)
+      ∙ ap (λ (k : ℕ). readLines levels (take k input) (readBlock levels (take k input)) (drop k input)) (h .is-cut)
 
   -- by the reader's verdict
   by-verdict :
-      (v : Verdict) →
-      j .verdict ≡ v →
-      judgedLines baseSpeeds (take cut input) v (j .plan .count) (drop cut input) ≡ listing baseSpeeds input
+      (v : Verdict) → j .verdict ≡ v → judgedLines levels (take cut input) v (j .plan .count) (drop cut input) ≡ planListing levels input
   by-verdict v e =
-      sym (ap (λ (x : Verdict). judgedLines baseSpeeds (take cut input) x (j .plan .count) (drop cut input)) e) ∙ read-is
+      sym (ap (λ (x : Verdict). judgedLines levels (take cut input) x (j .plan .count) (drop cut input)) e) ∙ read-is
 
   pub refused-is :
-      {k n : ℕ} → k ≡ numberOf (verdictAnswer (j .verdict)) → j .verdict ≡ verdict.Refused n → refusedLine k ≡ listing baseSpeeds input
+      {k n : ℕ} → k ≡ numberOf (verdictAnswer (j .verdict)) → j .verdict ≡ verdict.Refused n → refusedLine k ≡ planListing levels input
   refused-is {k} {n} a e =
       ap (λ (x : ℕ). refusedLine x) (a ∙ ap (λ (v : Verdict). numberOf (verdictAnswer v)) e) ∙ by-verdict (verdict.Refused n) e
 
@@ -108,8 +113,8 @@ module _ {input : List ℕ} {cut : ℕ} {j : Judged} (h : Read input cut j) wher
       {level span : ℕ} →
       j .verdict ≡ verdict.Admitted level span →
       planLine (j .plan .count) level span
-      ++ startedLines baseSpeeds (take cut input) (take (length input - cut) (drop cut input))
-      ≡ listing baseSpeeds input
+      ++ startedLines levels (take cut input) (take (length input - cut) (drop cut input))
+      ≡ planListing levels input
   admitted-is {level} {span} e =
-      ap (λ (l : List ℕ). planLine (j .plan .count) level span ++ startedLines baseSpeeds (take cut input) l) (part-to-end input cut)
+      ap (λ (l : List ℕ). planLine (j .plan .count) level span ++ startedLines levels (take cut input) l) (part-to-end input cut)
       ∙ by-verdict (verdict.Admitted level span) e

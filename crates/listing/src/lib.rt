@@ -10,10 +10,9 @@ ghost use mathlib.Core.Path.{_≡_};
 ghost use mathlib.Core.List.{_++_};
 ghost use Prim.Native.Nat.{_+_, _≤_};
 ghost use lib.ListN.{length, take, drop};
-ghost use Rattle.plan.specs.Levels.{baseSpeeds};
 ghost use Rattle.arith.specs.Asking.{numberOf};
 ghost use Rattle.plan.specs.Answers.{verdictAnswer};
-ghost use Rattle.transcript.specs.Listing.{cutEdition, planCut, startedLines, listing};
+ghost use Rattle.transcript.specs.Listing.{cutEdition, levelCut, planCut, startedLines, planListing, listing};
 ghost use Rattle.lines.specs.Stores.{Put};
 
 // The edition that an input is cut by: one that is not 1 is refused whatever is cut.
@@ -24,6 +23,29 @@ fn cut_edition(edition: u32) -> u32
         return edition;
     }
     1
+}
+
+// How many bytes of the input its level block is given: as many as the count needs, or all there are if fewer, or if the count is bad.
+pub fn level_cut(input: &[u8]) -> usize
+    ensures { λ r. ⌜ r ≡ levelCut (now (input .entry)) ⌝ }
+    ensures { λ r. ⌜ r ≤ length (now (input .entry)) ⌝ }
+{
+    let n = input.len();
+    if n < 1 {
+        return n;
+    }
+    let count = numeric::bits_at(input, 0, 4) as usize;
+    if count < 1 {
+        return n;
+    }
+    if count > 8 {
+        return n;
+    }
+    let wanted = levels::level_length(count);
+    if wanted < n {
+        return wanted;
+    }
+    n
 }
 
 // How many bytes of the input the reader is given: as many as the count needs, or all there are if fewer, or if the count is bad.
@@ -61,28 +83,23 @@ fn refusal_of(v: Verdict) -> u32
 }
 
 // Stores the lines from the start on, over a fresh state.
-fn started_lines(block: &[u8], passes: &[u8], out: &mut [u8], from: usize) -> usize
+fn started_lines(levels: &[u8], block: &[u8], passes: &[u8], out: &mut [u8], from: usize) -> usize
     requires { ⌜ (length (now passes) ≤ 65536) × (from + 1900000 ≤ length (now out)) ⌝ }
-    ensures { λ r. ⌜ Put 1900000 (now (out .entry)) from (startedLines baseSpeeds (now (block .entry)) (now (passes .entry))) r (now (out .exit)) ⌝ }
+    ensures { λ r. ⌜ Put 1900000 (now (out .entry)) from (startedLines (now (levels .entry)) (now (block .entry)) (now (passes .entry))) r (now (out .exit)) ⌝ }
 {
     let mut state = [0u8; STATE_LENGTH];
-    let reply = start(block, &mut state);
+    let reply = start(levels, block, &mut state);
     let at = reply_line(out, from, 0, reply);
     pass_lines(passes, &mut state, out, at)
 }
 
-// Stores the listing of an input at the front of a buffer, and returns its length.
-pub fn list_into(input: &[u8], out: &mut [u8]) -> usize
-    requires { ⌜ 2000000 ≤ length (now out) ⌝ }
-    ensures { λ r. ⌜ r ≡ length (listing baseSpeeds (now (input .entry))) ⌝ }
-    ensures { λ _. ⌜ now (out .exit) ≡ listing baseSpeeds (now (input .entry)) ++ drop (length (listing baseSpeeds (now (input .entry)))) (now (out .entry)) ⌝ }
-    ensures { λ r. ⌜ (r ≤ length (now (out .exit))) × (r ≡ length (take r (now (out .exit)))) ⌝ }
+// Stores the listing of a plan block and passes, over a level block: a refusal of either ends it.
+fn plan_listing(levels: &[u8], input: &[u8], out: &mut [u8]) -> usize
+    requires { ⌜ (length (now input) ≤ 65536) × (1950000 ≤ length (now out)) ⌝ }
+    ensures { λ r. ⌜ Put 1950000 (now (out .entry)) 0 (planListing (now (levels .entry)) (now (input .entry))) r (now (out .exit)) ⌝ }
 {
-    if input.len() > 65536 {
-        return refused_line(out, 0, 17);
-    }
     let cut = plan_cut(input);
-    let judged = plan_reading::read(&input[..cut]);
+    let judged = plan_reading::read(levels, &input[..cut]);
     let verdict = judged.verdict;
     let Verdict::Admitted {
         nominal,
@@ -93,5 +110,19 @@ pub fn list_into(input: &[u8], out: &mut [u8]) -> usize
     };
     let p = judged.plan;
     let at = plan_line(out, 0, p.count, nominal, hyperperiod);
-    started_lines(&input[..cut], &input[cut..], out, at)
+    started_lines(levels, &input[..cut], &input[cut..], out, at)
+}
+
+// Stores the listing of an input at the front of a buffer, and returns its length.
+pub fn list_into(input: &[u8], out: &mut [u8]) -> usize
+    requires { ⌜ 2000000 ≤ length (now out) ⌝ }
+    ensures { λ r. ⌜ r ≡ length (listing (now (input .entry))) ⌝ }
+    ensures { λ _. ⌜ now (out .exit) ≡ listing (now (input .entry)) ++ drop (length (listing (now (input .entry)))) (now (out .entry)) ⌝ }
+    ensures { λ r. ⌜ (r ≤ length (now (out .exit))) × (r ≡ length (take r (now (out .exit)))) ⌝ }
+{
+    if input.len() > 65536 {
+        return refused_line(out, 0, 17);
+    }
+    let cut = level_cut(input);
+    plan_listing(&input[..cut], &input[cut..], out)
 }

@@ -8,4 +8,4 @@ use Rattle.transcript.specs.Listing.{passesIn, oddLine, linesText}
 
 -- the lines of an input's passes on a state, with a book that stands as the dispatcher's does before them; then the odd byte's
 abbrev pub passesText : List ℕ → List Task → DispatcherBook → List ℕ → List ℕ → List ℕ
-passesText speeds ts b state passes = linesText (linesFrom speeds ts b (trace speeds state (passesIn passes))) ++ oddLine passes
+passesText speeds ts b state passes = linesText (linesFrom speeds ts b (trace state (passesIn passes))) ++ oddLine passes

@@ -7,7 +7,6 @@ ghost use mathlib.Core.Path.{_≡_};
 ghost use mathlib.Core.List.{List};
 ghost use Prim.Native.Nat.{ℕ, _+_, _^_, _<_, _≤_};
 ghost use lib.ListN.{length};
-ghost use Rattle.plan.specs.Levels.{baseSpeeds};
 ghost use Rattle.plan.specs.declared.Task.{Task};
 ghost use Rattle.reclaiming.specs.Run.{Pass, DispatcherBook, booked, bytesAfter};
 ghost use Rattle.transcript.specs.Listing.{passesIn};
@@ -30,9 +29,9 @@ fn clock_after(clock: u32, d: u32, r: Reply) -> u32
 // Stores the lines of all passes from a state on: of a book only its clock is told, so they are those of any book at clock 0.
 pub fn pass_lines(passes: &[u8], state: &mut [u8], out: &mut [u8], from: usize) -> usize
     requires { ⌜ (length (now passes) ≤ 65536) × (from + 1800000 ≤ length (now out)) ⌝ }
-    ensures { λ r. ⌜ ((ts : List Task) (b : DispatcherBook) → b .clock ≡ 0 →
-        Put 1800000 (now (out .entry)) from (passesText baseSpeeds ts b (now (state .entry)) (now (passes .entry))) r (now (out .exit))) ⌝ }
-    ensures { λ _. ⌜ now (state .exit) ≡ bytesAfter baseSpeeds (now (state .entry)) (passesIn (now (passes .entry))) ⌝ }
+    ensures { λ r. ⌜ ((speeds : List ℕ) (ts : List Task) (b : DispatcherBook) → b .clock ≡ 0 →
+        Put 1800000 (now (out .entry)) from (passesText speeds ts b (now (state .entry)) (now (passes .entry))) r (now (out .exit))) ⌝ }
+    ensures { λ _. ⌜ now (state .exit) ≡ bytesAfter (now (state .entry)) (passesIn (now (passes .entry))) ⌝ }
 {
     let mut at = from;
     let mut clock: u32 = 0;

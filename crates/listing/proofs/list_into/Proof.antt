@@ -1,13 +1,10 @@
--- `list_into` meets its contract.
+-- `list_into` meets its contract: the input is too long, or its level block is cut off and the rest is listed over it.
 -- Assumes nothing.
-use Prim.Native.Nat.{ℕ}
 use mathlib.Core.Path.{sym}
-use mathlib.Core.List.{List}
 use native.Mathlib.Omega.{arith}
 use lib.Seq.{length-take-le}
-use Rattle.lines.proofs.Puts.{_then_}
-use Rattle.listing.proofs.Whole.{Read, front, over-is, refused-is, admitted-is}
 use borrow.Author.Needs.{needs}
+use Rattle.listing.proofs.Whole.{front, over-is, cut-is}
 use Rattle.listing.proofs.list_into.Statement.{statement}
 use Rattle.listing.proofs.list_into.Tie as tie
 
@@ -23,82 +20,36 @@ returns c =
     let start : tie.Start = search in
     front (refused .refused-line .ensures) (omega (arith, start .pre)) (over-is (start .args .input .now) (omega arith))
 
-plan-cut-requires : tie.Need-plan-cut-requires
-plan-cut-requires c κs = search needs
+level-cut-requires : tie.Need-level-cut-requires
+level-cut-requires c κs = search needs
 
-slice-aggregate-read : tie.Need-slice-aggregate-read
-slice-aggregate-read c =
+slice-aggregate-plan-listing : tie.Need-slice-aggregate-plan-listing
+slice-aggregate-plan-listing c =
+    let cut : tie.After-level-cut = search in
     let start : tie.Start = search in
-    sym (length-take-le (c .before .plan-cut .result) (start .args .input .now) (c .before .plan-cut .ensures .1))
+    sym (length-take-le (cut .level-cut .result) (start .args .input .now) (cut .level-cut .ensures .1))
 
-read-requires : tie.Need-read-requires
-read-requires c κs = search needs
+sub-plan-listing : tie.Need-sub-plan-listing
+sub-plan-listing c = search needs
 
-enum-known-verdict : tie.Need-enum-known-verdict
-enum-known-verdict c = search needs
+part-plan-listing-start : tie.Need-part-plan-listing-start
+part-plan-listing-start c = search needs
 
-enum-told : tie.Need-enum-told
-enum-told c = search needs
+part-plan-listing-end : tie.Need-part-plan-listing-end
+part-plan-listing-end c = search needs
 
-refusal-of-requires : tie.Need-refusal-of-requires
-refusal-of-requires c κs = search needs
-
-refused-line-requires-2 : tie.Need-refused-line-requires-2
-refused-line-requires-2 c κs = search needs
+plan-listing-requires : tie.Need-plan-listing-requires
+plan-listing-requires c κs = search needs
 
 same-length-2 : tie.Need-same-length-2
 same-length-2 c = search needs
 
--- what is known of the input once it is read
-abbrev input : tie.After-read → List ℕ
-input c = c .before .before .before .before .before .before .args .input .now
-
-known : (c : tie.After-read) → Read (input c) (c .before .before .plan-cut .result) (c .read .result)
-known c = record { few = omega arith; is-cut = c .before .before .plan-cut .ensures .0; is-read = c .read .ensures }
-
 returns-2 : tie.Need-returns-2
 returns-2 c =
-    let refused : tie.After-refused-line2 = search in
-    let numbered : tie.After-refusal-of = search in
-    let told : tie.After-enum-told = search in
-    let read : tie.After-read = search in
+    let listed : tie.After-plan-listing = search in
+    let cut : tie.After-level-cut = search in
     let start : tie.Start = search in
-    front (refused .refused-line2 .ensures) (omega (arith, start .pre))
-    (refused-is (known read) (numbered .refusal-of .ensures) (told .enum-told .given .1))
-
-plan-line-requires : tie.Need-plan-line-requires
-plan-line-requires c κs = search needs
-
-slice-aggregate-started-lines : tie.Need-slice-aggregate-started-lines
-slice-aggregate-started-lines c =
-    let cut : tie.After-plan-cut = search in
-    let start : tie.Start = search in
-    sym (length-take-le (cut .plan-cut .result) (start .args .input .now) (cut .plan-cut .ensures .1))
-
-sub-started-lines : tie.Need-sub-started-lines
-sub-started-lines c = search needs
-
-part-started-lines-start : tie.Need-part-started-lines-start
-part-started-lines-start c = search needs
-
-part-started-lines-end : tie.Need-part-started-lines-end
-part-started-lines-end c = search needs
-
-started-lines-requires : tie.Need-started-lines-requires
-started-lines-requires c κs = search needs
-
-same-length-3 : tie.Need-same-length-3
-same-length-3 c = search needs
-
-returns-3 : tie.Need-returns-3
-returns-3 c =
-    let started : tie.After-started-lines = search in
-    let planned : tie.After-plan-line = search in
-    let told : tie.After-verdict = search in
-    let read : tie.After-read = search in
-    let start : tie.Start = search in
-    front (planned .plan-line .ensures then started .started-lines .ensures) (omega (arith, start .pre))
-    (admitted-is (known read) (told .verdict .given .1))
+    front (listed .plan-listing .ensures) (omega (arith, start .pre)) (cut-is (start .args .input .now) (omega arith) (cut .level-cut .ensures .0))
 
 pub list-into-spec : {M : Type 1} → statement M
 list-into-spec =
@@ -107,20 +58,11 @@ list-into-spec =
     refused-line-requires
     same-length
     returns
-    plan-cut-requires
-    slice-aggregate-read
-    read-requires
-    enum-known-verdict
-    enum-told
-    refusal-of-requires
-    refused-line-requires-2
+    level-cut-requires
+    slice-aggregate-plan-listing
+    sub-plan-listing
+    part-plan-listing-start
+    part-plan-listing-end
+    plan-listing-requires
     same-length-2
-    returns-2
-    plan-line-requires
-    slice-aggregate-started-lines
-    sub-started-lines
-    part-started-lines-start
-    part-started-lines-end
-    started-lines-requires
-    same-length-3
-    returns-3)
+    returns-2)

@@ -4,6 +4,7 @@ use Prim.Native.Nat.{ℕ}
 use mathlib.Core.List.{List}
 use native.Mathlib.Omega.{arith}
 use Rattle.plan.specs.declared.Task.{Task}
+use Rattle.plan.specs.LevelBlocks.{speedsIn}
 use Rattle.plan.specs.Blocks.{tasksIn}
 use Rattle.reclaiming.specs.declared.Reply.{Reply}
 use Rattle.reclaiming.specs.Run.{openedBook}
@@ -37,11 +38,12 @@ returns c =
     let replied : tie.After-reply-line = search in
     let started : tie.After-start = search in
     let start : tie.Start = search in
+    let levels : List ℕ = start .args .levels .now in
     let block : List ℕ = start .args .block .now in
     let ts : List Task = tasksIn block in
     let r : Reply = started .start .result in
-    as-text (replied .reply-line .ensures then listed .pass-lines .ensures .0 ts (openedBook ts r) (opened-clock ts r))
-    (started-is block (start .args .passes .now) (started .start .ensures .0) (started .start .ensures .1) (started .start .kept .1 .0))
+    as-text (replied .reply-line .ensures then listed .pass-lines .ensures .0 (speedsIn levels) ts (openedBook ts r) (opened-clock ts r))
+    (started-is levels block (start .args .passes .now) (started .start .ensures .0) (started .start .ensures .1) (started .start .kept .1 .1 .0))
     (omega arith)
 
 pub started-lines-spec : {M : Type 1} → statement M

@@ -5,14 +5,13 @@ use mathlib.Core.Path.{refl}
 use native.Mathlib.Omega.{arith}
 use lib.ListN.{length}
 use borrow.Author.Needs.{needs}
-use Rattle.plan.specs.Levels.{baseSpeeds}
 use Rattle.transcript.specs.Listing.{passOf}
-use Rattle.pass_lines.proofs.Going.{Going, noTasks, bookAt, going-first, going-again, going-even, going-odd}
+use Rattle.pass_lines.proofs.Going.{Going, noSpeeds, noTasks, bookAt, going-first, going-again, going-even, going-odd}
 use Rattle.pass_lines.proofs.pass_lines.Statement.{statement}
 use Rattle.pass_lines.proofs.pass_lines.Tie as tie
 
 abbrev Inv-loop : tie.InvT-loop
-Inv-loop passes state₀ out₀ from at₀ clock₀ i₀ state out at clock i = Going baseSpeeds passes state₀ out₀ from state out at clock i
+Inv-loop passes state₀ out₀ from at₀ clock₀ i₀ state out at clock i = Going passes state₀ out₀ from state out at clock i
 
 abbrev μ-loop : tie.MeasureT-loop
 μ-loop passes state₀ out₀ from at₀ clock₀ i₀ state out at clock i = length passes - i
@@ -20,7 +19,7 @@ abbrev μ-loop : tie.MeasureT-loop
 loop-holds : tie.Need-loop-holds Inv-loop μ-loop
 loop-holds c =
     let start : tie.Start Inv-loop μ-loop = search in
-    going-first baseSpeeds (start .args .passes .now) (start .args .state .now) (start .args .out .now) (start .args .from)
+    going-first (start .args .passes .now) (start .args .state .now) (start .args .out .now) (start .args .from)
 
 add-loop : tie.Need-add-loop Inv-loop μ-loop
 add-loop c = omega arith
@@ -88,7 +87,7 @@ loop-again c =
       stored = passed .pass .ensures .1;
       kept = passed .pass .kept .0;
       moved =
-          moved .clock-after .ensures .0 baseSpeeds noTasks (bookAt (at-loop .loop .clock)) (passOf (high .wide .result) (low .wide2 .result)) refl refl;
+          moved .clock-after .ensures .0 noSpeeds noTasks (bookAt (at-loop .loop .clock)) (passOf (high .wide .result) (low .wide2 .result)) refl refl;
       later = moved .clock-after .ensures .1;
     } (told .reply-line .ensures) (told .reply-line .kept .0)
 
