@@ -34,13 +34,13 @@ returns : tie.Need-returns Inv-loop μ-loop
 returns c =
     let turn = c .before .before .before in
     let s = turn .before in
-    rises-not (s .args .speeds .now) (s .args .levels) (places s) (turn .loop .last) (turn .loop .i) (c .before .before .loop-test .taken) (turn .loop .inv .1) (c .if1 .taken)
+    rises-not (s .args .speeds .now) (s .args .levels) (places s) (turn .loop .last) (turn .loop .i) (c .before .before .loop-test .taken) (turn .loop .inv .1) (omega arith)
 
 returns-2 : tie.Need-returns-2 Inv-loop μ-loop
 returns-2 c =
     let turn = c .before .before .before .before in
     let s = turn .before in
-    rises-over (s .args .speeds .now) (s .args .levels) (places s) (turn .loop .last) (turn .loop .i) (c .before .before .before .loop-test .taken) (turn .loop .inv .1) (c .if2 .taken)
+    rises-over (s .args .speeds .now) (s .args .levels) (places s) (turn .loop .last) (turn .loop .i) (c .before .before .before .loop-test .taken) (turn .loop .inv .1) (omega arith)
 
 add-i : tie.Need-add-i Inv-loop μ-loop
 add-i c = omega arith
