@@ -1,7 +1,8 @@
-// Runs the cases of document 01 that are not starred, and prints what each call gives.
+// Runs the cases of document 01 that are not starred, with 01's speeds loaded, and cases of level blocks, and prints what each call gives.
 use dispatcher_calls::kilmstra_pass;
 use dispatcher_calls::kilmstra_show;
 use dispatcher_calls::kilmstra_start;
+use plan_calls::kilmstra_levels_read;
 use plan_calls::kilmstra_plan_copy;
 use plan_calls::kilmstra_plan_read;
 use state::STATE_LENGTH;
@@ -27,9 +28,9 @@ fn tell(what: &[u8], answer: u64) {
 }
 
 // "Bench plan at tick 0, passes: 5 finished, 14; 0, 11." A refusal leaves the state, so one state serves both.
-fn at_the_start(block: &[u8]) {
+fn at_the_start(levels: &[u8], block: &[u8]) {
     let mut state = [0u8; STATE_LENGTH];
-    tell(b"start", kilmstra_start(block, &mut state));
+    tell(b"start", kilmstra_start(levels, block, &mut state));
     tell(b"tick 0, 5 finished", kilmstra_pass(&mut state, 5, 1));
     tell(b"tick 0, 0", kilmstra_pass(&mut state, 0, 0));
     tell(b"tick 0, 1 finished", kilmstra_pass(&mut state, 1, 1));
@@ -41,9 +42,9 @@ fn at_the_start(block: &[u8]) {
 }
 
 // "At tick 18, 2 finished: 13", the levels at ticks 10 and 20 where a scheduler goes astray, and the whole listing's orders.
-fn along_the_listing(block: &[u8]) {
+fn along_the_listing(levels: &[u8], block: &[u8]) {
     let mut state = [0u8; STATE_LENGTH];
-    tell(b"start", kilmstra_start(block, &mut state));
+    tell(b"start", kilmstra_start(levels, block, &mut state));
     tell(b"tick 1", kilmstra_pass(&mut state, 1, 1));
     tell(b"tick 8", kilmstra_pass(&mut state, 7, 1));
     tell(b"tick 10", kilmstra_pass(&mut state, 2, 1));
@@ -59,15 +60,15 @@ fn hex(byte: u8) {
 }
 
 // "One task with period 40 and worst case 300 is, in hex, 10 80 14 00 09 60": read, and written again.
-fn the_example_block() {
+fn the_example_block(levels: &[u8]) {
     let block = [16u8, 128, 20, 0, 9, 96];
     let mut again = [255u8; 8];
-    let read = kilmstra_plan_read(&block);
+    let read = kilmstra_plan_read(levels, &block);
     io::write_all(1, b"example block: level ");
     io::print_decimal(1, read / 256 % 256);
     io::write_all(1, b", hyperperiod ");
     io::print_decimal(1, read / 65536);
-    let copied = kilmstra_plan_copy(&block, &mut again);
+    let copied = kilmstra_plan_copy(levels, &block, &mut again);
     io::write_all(1, b"; written again ");
     io::print_decimal(1, copied / 256);
     io::write_all(1, b" bytes\n");
@@ -82,9 +83,51 @@ fn the_example_block() {
     io::write_all(1, b"\n");
 }
 
+// A line of a level block: the count of its levels, or a refusal.
+fn tell_levels(what: &[u8], answer: u64) {
+    io::write_all(1, what);
+    if answer < 256 {
+        io::write_all(1, b": refused ");
+        io::print_decimal(1, answer);
+        io::write_all(1, b"\n");
+        return;
+    }
+    io::write_all(1, b": levels ");
+    io::print_decimal(1, answer / 256);
+    io::write_all(1, b"\n");
+}
+
+// 02, No. 1: level blocks on each side of 18, 19 and 20.
+fn the_level_blocks(levels: &[u8]) {
+    tell_levels(b"01's speeds", kilmstra_levels_read(levels));
+    tell_levels(b"count 0", kilmstra_levels_read(&[0u8, 0]));
+    tell_levels(b"count 9", kilmstra_levels_read(&[144u8, 0]));
+    tell_levels(b"a closing bit", kilmstra_levels_read(&[16u8, 5]));
+    tell_levels(b"a byte too long", kilmstra_levels_read(&[16u8, 4, 0]));
+    tell_levels(b"speed 0", kilmstra_levels_read(&[16u8, 0]));
+    tell_levels(b"speed 1", kilmstra_levels_read(&[16u8, 4]));
+    tell_levels(b"speed 1,000", kilmstra_levels_read(&[31u8, 160]));
+    tell_levels(b"speed 1,001", kilmstra_levels_read(&[31u8, 164]));
+    tell_levels(b"speeds 5, 5", kilmstra_levels_read(&[32u8, 20, 5]));
+}
+
+// One level alone, of speed 1,000: a job of 1,000 units takes the whole of its period of 1 tick.
+fn one_level_alone() {
+    let block = [16u8, 128, 0, 128, 31, 64];
+    let mut state = [0u8; STATE_LENGTH];
+    tell(
+        b"one level, start",
+        kilmstra_start(&[31u8, 160], &block, &mut state),
+    );
+    tell(b"one level, tick 1", kilmstra_pass(&mut state, 1, 1));
+}
+
 fn main() {
+    let levels = [128u8, 40, 20, 7, 130, 128, 200, 60, 20, 6, 64];
     let block = [17u8, 128, 5, 0, 12, 128, 0, 80, 0, 200, 0, 15, 0, 18, 192];
-    at_the_start(&block);
-    along_the_listing(&block);
-    the_example_block();
+    at_the_start(&levels, &block);
+    along_the_listing(&levels, &block);
+    the_example_block(&levels);
+    the_level_blocks(&levels);
+    one_level_alone();
 }
