@@ -7,8 +7,8 @@ use mathlib.Core.List.{[], _∷_, List, _++_}
 use native.Mathlib.Nat.{not-suc-le-zero}
 use native.Mathlib.Decide.{decLe}
 use native.Mathlib.Omega.{arith}
-use lib.ListN.{length, getD, length-append, List·getD-append}
-use lib.Seq.{ext-getD, getD-at}
+use lib.ListN.{length, getD, take, length-append, List·getD-append}
+use lib.Seq.{ext-getD, getD-at, getD-take, length-take-le}
 use Rattle.arith.specs.Choice.{pick}
 use Rattle.arith.specs.Ranges.{leastTo, listTo, someTo}
 use Rattle.arith.proofs.Tests.{passed, failed, tested}
@@ -94,6 +94,12 @@ pub listTo-is {ℓ} :
     {A : Type ℓ} (n : ℕ) (f : ℕ → A) (l : List A) (d : A) → length l ≡ n → ((i : ℕ) → i < n → getD l i d ≡ f i) → l ≡ listTo n f
 listTo-is n f l d size each =
     ext-getD d l (listTo n f) (size ∙ sym (length-listTo n f)) (λ i h. each i (omega arith) ∙ sym (getD-listTo n f i d (omega arith)))
+
+-- the first values of a list
+pub take-listTo {ℓ} : {A : Type ℓ} (m n : ℕ) (f : ℕ → A) (d : A) → m ≤ n → take m (listTo n f) ≡ listTo m f
+take-listTo m n f d h =
+    listTo-is m f (take m (listTo n f)) d (length-take-le m (listTo n f) (omega (arith, length-listTo n f)))
+    (λ i k. getD-take m (listTo n f) i d k ∙ getD-listTo n f i d (omega arith))
 
 -- lists that agree at each place
 pub listTo-same {ℓ} : {A : Type ℓ} (n : ℕ) (f g : ℕ → A) → ((i : ℕ) → i < n → f i ≡ g i) → listTo n f ≡ listTo n g

@@ -18,10 +18,10 @@ use Rattle.arith.specs.Ranges.{listTo}
 use Rattle.arith.proofs.Tests.{both-left, both-right, both-true, passed, failed, tested}
 use Rattle.arith.proofs.QuestionLaws.{within-under, within-over, within-true}
 use Rattle.arith.proofs.ArrayLaws.{padded-at, length-padded}
+use Rattle.arith.proofs.RangeLaws.{take-listTo}
 use Rattle.plan.specs.LevelBlocks.{risesFrom, tableGood}
 use Rattle.plan.proofs.LevelBlockLaws.{FineTable, fine-table}
 use Rattle.levels.specs.Code.{loaded, Table}
-use Rattle.levels.proofs.Loading.{loaded-padded}
 use Rattle.levels.proofs.Tables.{levels-are, speed-is, rises-table}
 use Rattle.reclaiming.specs.Fields.{Field, width, valueIn, fieldsBytes, fieldAt, offsetOf}
 use Rattle.reclaiming.specs.StateBlock.{State, levelPlaces, speedRow, tailFields, speedField, tailAt, stateLength, levelCount, speedIn, decode, laidOut}
@@ -53,6 +53,18 @@ module _ (bytes : List ℕ) where
     pub some-rises : 1 ≤ levelCount bytes → levelCount bytes ≤ 8 → ownTable bytes ≡ risesFrom 0 (decode bytes .speeds)
     some-rises l h = table-is ∙ ap (λ (t : Bool). both t (risesFrom 0 (decode bytes .speeds))) (within-true 1 8 (levelCount bytes) l h)
 
+-- the first so many of the numbers at all places are the state's speeds
+loaded-own :
+    (bytes : List ℕ) {held : List ℕ} {count : ℕ} →
+    held ≡ listTo levelPlaces (speedIn bytes) →
+    count ≡ levelCount bytes →
+    count ≤ 8 →
+    loaded held count ≡ decode bytes .speeds
+loaded-own bytes {held} {count} gathered counted few =
+    ap (λ (l : List ℕ). loaded l count) gathered
+    ∙ take-listTo count levelPlaces (speedIn bytes) 0 few
+    ∙ ap (λ (n : ℕ). listTo n (speedIn bytes)) counted
+
 -- each way out of the test: no table, or the one that was found to rise
 module _ (bytes : List ℕ) {t : OwnTable} where
   pub found-none : ownTable bytes ≡ false → t ≡ tableBy false [] → t ≡ tableBy (ownTable bytes) bytes
@@ -63,20 +75,17 @@ pub record Gathers (bytes held : List ℕ) (count : ℕ) : Type 0 where
   pub some : 1 ≤ count
   pub few : count ≤ 8
   pub counted : count ≡ levelCount bytes
-  pub gathered : held ≡ padded 8 0 (listTo count (speedIn bytes))
+  pub gathered : held ≡ listTo levelPlaces (speedIn bytes)
 
 module _ {bytes held : List ℕ} {count : ℕ} (k : Gathers bytes held count) where
-  held-is : held ≡ padded 8 0 (decode bytes .speeds)
-  held-is = k .gathered ∙ ap (λ (n : ℕ). padded 8 0 (listTo n (speedIn bytes))) (k .counted)
-
   pub gathered-length : length held ≡ 8
-  gathered-length = ap length held-is ∙ length-padded 8 0 (decode bytes .speeds) (omega (arith, levels-in bytes, k .counted, k .few))
+  gathered-length = ap length (k .gathered)
 
   rises-is : {b : Bool} → b ≡ risesFrom 0 (loaded held count) → ownTable bytes ≡ b
   rises-is e =
       some-rises bytes (k .size) (omega (arith, k .some, k .counted)) (omega (arith, k .few, k .counted))
       ∙ ap (λ (l : List ℕ). risesFrom 0 l)
-      (sym (ap₂ (λ (l : List ℕ) (n : ℕ). loaded l n) held-is (k .counted ∙ sym (levels-in bytes)) ∙ loaded-padded (decode bytes .speeds)))
+      (sym (loaded-own bytes (k .gathered) (k .counted) (k .few)))
       ∙ sym e
 
   pub found-falling : {t : OwnTable} {b : Bool} → b ≡ risesFrom 0 (loaded held count) → b ≡ false → t ≡ tableBy false [] → t ≡ tableBy (ownTable bytes) bytes
@@ -84,7 +93,7 @@ module _ {bytes held : List ℕ} {count : ℕ} (k : Gathers bytes held count) wh
 
   pub found-rising : {b : Bool} → b ≡ risesFrom 0 (loaded held count) → b ≡ true → record { levels = count; speeds = held } ≡ tableBy (ownTable bytes) bytes
   found-rising e f =
-      (λ i. record { levels = k .counted i; speeds = held-is i }) ∙ sym (ap (λ (b : Bool). tableBy b bytes) (rises-is e ∙ f))
+      (λ i. record { levels = k .counted i; speeds = k .gathered i }) ∙ sym (ap (λ (b : Bool). tableBy b bytes) (rises-is e ∙ f))
 
 -- a table that was found is the block's own
 pub owns : (bytes : List ℕ) {t : OwnTable} → t ≡ tableBy (ownTable bytes) bytes → (t .levels ≡ 0 → ⊥) → Owns bytes (t .speeds) (t .levels)
@@ -96,15 +105,15 @@ owns bytes {t} e some = by (ownTable bytes) refl e
         let speeds : List ℕ = decode bytes .speeds in
         let fine : FineTable speeds = fine-table speeds (both-right (eqb (length bytes) stateLength) (tableGood speeds) f) in
         let counted : t .levels ≡ levelCount bytes = ap (λ (x : OwnTable). x .levels) e in
-        let held : t .speeds ≡ padded 8 0 speeds = ap (λ (x : OwnTable). x .speeds) e in
-        let is : loaded (t .speeds) (t .levels) ≡ speeds =
-        ap₂ (λ (l : List ℕ) (n : ℕ). loaded l n) held (counted ∙ sym (levels-in bytes)) ∙ loaded-padded speeds in
+        let held : t .speeds ≡ listTo levelPlaces (speedIn bytes) = ap (λ (x : OwnTable). x .speeds) e in
+        let few : t .levels ≤ 8 = omega (arith, counted, levels-in bytes, fine .few) in
+        let is : loaded (t .speeds) (t .levels) ≡ speeds = loaded-own bytes held counted few in
         record {
           size = eqb-true (length bytes) stateLength (both-left (eqb (length bytes) stateLength) (tableGood speeds) f);
           good = fine .good;
           is = is;
           table =
-              rises-table (t .speeds) (t .levels) (ap length held ∙ length-padded 8 0 speeds (fine .few)) (omega (arith, counted, levels-in bytes, fine .few))
+              rises-table (t .speeds) (t .levels) (ap length held) few
               (ap (λ (l : List ℕ). risesFrom 0 l) is ∙ both-right (within 1 8 (length speeds)) (risesFrom 0 speeds) (fine .good));
         }
 

@@ -8,20 +8,21 @@ use lib.Dec.{eqb}
 use lib.ListN.{length}
 use Rattle.arith.specs.Arrays.{padded}
 use Rattle.arith.specs.Choice.{both}
+use Rattle.arith.specs.Ranges.{listTo}
 use Rattle.plan.specs.LevelBlocks.{tableGood}
 use Rattle.levels.specs.Code.{loaded, Table}
 use Rattle.reclaiming.specs.Fields.{fieldsBytes}
-use Rattle.reclaiming.specs.StateBlock.{State, tailFields, stateLength, levelCount, decode}
+use Rattle.reclaiming.specs.StateBlock.{State, levelPlaces, tailFields, stateLength, levelCount, speedIn, decode}
 use Rattle.tables.specs.declared.OwnTable.{OwnTable}
 
 -- whether a block has a state's length and a table that may be loaded
 abbrev pub ownTable : List ℕ → Bool
 ownTable bytes = both (eqb (length bytes) stateLength) (tableGood (decode bytes .speeds))
 
--- its table; or none, and zeros
+-- its table, with the numbers at all places; or none, and zeros
 abbrev pub tableBy : Bool → List ℕ → OwnTable
 tableBy false bytes = record { levels = 0; speeds = padded 8 0 [] }
-tableBy true bytes = record { levels = levelCount bytes; speeds = padded 8 0 (decode bytes .speeds) }
+tableBy true bytes = record { levels = levelCount bytes; speeds = listTo levelPlaces (speedIn bytes) }
 
 -- numbers and a count that are a block's own table, where the block has one
 pub record Owns (bytes held : List ℕ) (levels : ℕ) : Type 0 where

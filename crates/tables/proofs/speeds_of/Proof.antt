@@ -6,18 +6,18 @@ use native.Mathlib.Omega.{arith}
 use Rattle.arith.specs.Arrays.{padded}
 use Rattle.arith.specs.Ranges.{listTo}
 use Rattle.arith.proofs.ArrayLaws.{padded-none, values-more}
-use Rattle.reclaiming.specs.StateBlock.{speedIn}
+use Rattle.reclaiming.specs.StateBlock.{levelPlaces, speedIn}
 use Rattle.tables.proofs.speeds_of.Statement.{statement}
 use Rattle.tables.proofs.speeds_of.Tie as tie
 
 abbrev Inv-loop : tie.InvT-loop
-Inv-loop block count speeds₀ k₀ speeds k = (k ≤ count) × (speeds ≡ padded 8 0 (listTo k (speedIn block)))
+Inv-loop block speeds₀ k₀ speeds k = (k ≤ levelPlaces) × (speeds ≡ padded levelPlaces 0 (listTo k (speedIn block)))
 
 abbrev μ-loop : tie.MeasureT-loop
-μ-loop block count speeds₀ k₀ speeds k = count - k
+μ-loop block speeds₀ k₀ speeds k = levelPlaces - k
 
 loop-holds : tie.Need-loop-holds Inv-loop μ-loop
-loop-holds c = (omega arith, padded-none 8 0)
+loop-holds c = (omega arith, padded-none levelPlaces 0)
 
 speed-at-requires : tie.Need-speed-at-requires Inv-loop μ-loop
 speed-at-requires c κs = omega arith
@@ -38,15 +38,15 @@ loop-again : tie.Need-loop-again Inv-loop μ-loop
 loop-again c =
     let turn : tie.At-loop Inv-loop μ-loop = c .before .before in (
       omega arith,
-      values-more 8 0 (speedIn (turn .before .before .args .block .now)) (turn .loop .speeds) (turn .loop .k) _ (omega arith) (turn .loop .inv .1)
+      values-more levelPlaces 0 (speedIn (turn .before .before .args .block .now)) (turn .loop .speeds) (turn .loop .k) _ (omega arith) (turn .loop .inv .1)
           (c .speed-at .ensures .0),
     )
 
 returns : tie.Need-returns Inv-loop μ-loop
 returns c =
     let s : tie.Start Inv-loop μ-loop = c .before .before .before in
-    let e : c .before .loop .k ≡ s .args .count = omega arith in
-    c .before .loop .inv .1 ∙ ap (λ (n : ℕ). padded 8 0 (listTo n (speedIn (s .args .block .now)))) e
+    let e : c .before .loop .k ≡ levelPlaces = omega arith in
+    c .before .loop .inv .1 ∙ ap (λ (n : ℕ). padded levelPlaces 0 (listTo n (speedIn (s .args .block .now)))) e
 
 pub speeds-of-spec : {M : Type 1} → statement M
 speeds-of-spec =
