@@ -124,16 +124,16 @@ abbrev Entered : List ℕ → (List ℕ → List Question) → List Task → Jud
 Entered block rest ts r = r ≡ judgedBy (firstNo (loading block ++ rest (speedsIn block))) (speedsIn block) ts
 
 module _ (block : List ℕ) (rest : List ℕ → List Question) (ts : List Task) {r : Judged} where
-  pub entered-refused : {n : ℕ} → r ≡ refusedWith n → Refusal (firstNo (loading block)) n → Entered block rest ts r
-  entered-refused {n} a e =
+  pub entered-refused : {n : ℕ} → Refusal (firstNo (loading block)) n → r ≡ refusedWith n → Entered block rest ts r
+  entered-refused {n} e a =
       refused-as (speedsIn block) ts a (e .positive) (no-before (loading block) (rest (speedsIn block)) n (e .positive) (e .is))
 
   pub entered-loaded :
       {held : List ℕ} {levels : ℕ} →
-      r ≡ judgedBy (firstNo (rest (loaded held levels))) (loaded held levels) ts →
       Loads block held levels →
+      r ≡ judgedBy (firstNo (rest (loaded held levels))) (loaded held levels) ts →
       Entered block rest ts r
-  entered-loaded a l =
+  entered-loaded l a =
       a
       ∙ ap (λ (s : List ℕ). judgedBy (firstNo (rest s)) s ts) (l .is)
       ∙ sym (ap (λ (k : ℕ). judgedBy k (speedsIn block) ts) (yes-before (loading block) (rest (speedsIn block)) refl (l .number)))

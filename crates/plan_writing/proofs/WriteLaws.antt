@@ -218,10 +218,10 @@ module _ (levels : List ℕ) (p : Plan) (buffer : List ℕ) where
 
   pub writes-loaded :
       {held : List ℕ} {count : ℕ} {r : Written} {m : List ℕ} →
-      Wrote (loaded held count) p buffer r m →
       Loads levels held count →
+      Wrote (loaded held count) p buffer r m →
       Writes levels p buffer r m
-  writes-loaded {r = r} {m = m} w l =
+  writes-loaded {r = r} {m = m} l w =
       subst (λ (k : ℕ). Leaves k (planBlock (tasksOf p)) buffer r m)
       (sym (yes-before (loading levels) (writing (speedsIn levels) p (length buffer)) refl (l .number)))
       (subst (λ (s : List ℕ). Wrote s p buffer r m) (l .is) w)

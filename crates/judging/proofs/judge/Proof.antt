@@ -25,6 +25,18 @@ asked c speeds = judging speeds (start c .args .p .count) (tasksOf (start c .arg
 loads : (c : tie.After-known-told2) → Loads (block (c .before .before .before .before)) (c .before .before .before .before .read-levels .result .speeds) (c .before .answer2 .given .0 .0)
 loads c = told-loaded (block (c .before .before .before .before)) (c .before .before .before .before .read-levels .ensures) (c .before .answer2 .given .1)
 
+-- first, so that a wrong answer is refused here
+returns : tie.Need-returns
+returns c =
+    let read = c .before .before .before .before .before in
+    entered-refused (block read) (asked read) (tasksOf (start read .args .p))
+    (told-unloaded (block read) (read .read-levels .ensures) (c .before .before .answer .given .1)) (c .refused .ensures)
+
+returns-2 : tie.Need-returns-2
+returns-2 c =
+    let read = c .before .before .before .before .before .before in
+    entered-loaded (block read) (asked read) (tasksOf (start read .args .p)) (loads (c .before .before)) (c .judge-over .ensures)
+
 read-levels-requires : tie.Need-read-levels-requires
 read-levels-requires c κs = search needs
 
@@ -39,17 +51,6 @@ enum-known-answer-2 c = search needs
 
 judge-over-requires : tie.Need-judge-over-requires
 judge-over-requires c κs = loads (c .before) .table
-
-returns : tie.Need-returns
-returns c =
-    let read = c .before .before .before .before .before in
-    entered-refused (block read) (asked read) (tasksOf (start read .args .p)) (c .refused .ensures)
-    (told-unloaded (block read) (read .read-levels .ensures) (c .before .before .answer .given .1))
-
-returns-2 : tie.Need-returns-2
-returns-2 c =
-    let read = c .before .before .before .before .before .before in
-    entered-loaded (block read) (asked read) (tasksOf (start read .args .p)) (c .judge-over .ensures) (loads (c .before .before))
 
 pub judge-spec : {M : Type 1} → statement M
 judge-spec =

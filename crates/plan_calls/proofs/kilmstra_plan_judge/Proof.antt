@@ -10,16 +10,16 @@ use borrow.Author.Needs.{needs}
 use Rattle.plan_calls.proofs.kilmstra_plan_judge.Statement.{statement}
 use Rattle.plan_calls.proofs.kilmstra_plan_judge.Tie as tie
 
-abbrev start : tie.After-plan-from → tie.Start
-start c = c .before .before .before
+abbrev start : tie.After-judge → tie.Start
+start c = c .before .before .before .before
 
 -- first, so that a wrong answer is refused here
 returns : tie.Need-returns
 returns c =
-    let plan = c .before .before in
+    let done : tie.After-judge = search in
     c .verdict-number .ensures
-    ∙ ap (λ (j : Judged). verdictNumber (j .verdict)) (c .before .judge .ensures)
-    ∙ ap (λ (p : Plan). verdictNumber (judgedPlan (start plan .args .levels .now) p .verdict)) (plan .plan-from .ensures)
+    ∙ ap (λ (j : Judged). verdictNumber (j .verdict)) (done .judge .ensures)
+    ∙ ap (λ (p : Plan). verdictNumber (judgedPlan (start done .args .levels .now) p .verdict)) (done .before .plan-from .ensures)
 
 plan-from-requires : tie.Need-plan-from-requires
 plan-from-requires c κs = search needs
@@ -28,7 +28,9 @@ judge-requires : tie.Need-judge-requires
 judge-requires c κs = search needs
 
 verdict-number-requires : tie.Need-verdict-number-requires
-verdict-number-requires c κs = judged-most (start (c .before) .args .levels .now) (c .before .plan-from .result) (c .judge .ensures)
+verdict-number-requires c κs =
+    let done : tie.After-judge = search in
+    judged-most (start done .args .levels .now) (done .before .plan-from .result) (done .judge .ensures)
 
 pub kilmstra-plan-judge-spec : {M : Type 1} → statement M
 kilmstra-plan-judge-spec =

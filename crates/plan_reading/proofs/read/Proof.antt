@@ -29,6 +29,18 @@ asked c speeds = reading speeds (block c)
 loads : (c : tie.After-known-told2) → Loads (table (c .before .before .before .before)) (c .before .before .before .before .read-levels .result .speeds) (c .before .answer2 .given .0 .0)
 loads c = told-loaded (table (c .before .before .before .before)) (c .before .before .before .before .read-levels .ensures) (c .before .answer2 .given .1)
 
+-- first, so that a wrong answer is refused here
+returns : tie.Need-returns
+returns c =
+    let read = c .before .before .before .before .before in
+    entered-refused (table read) (asked read) (tasksIn (block read))
+    (told-unloaded (table read) (read .read-levels .ensures) (c .before .before .answer .given .1)) (c .refused .ensures)
+
+returns-2 : tie.Need-returns-2
+returns-2 c =
+    let read = c .before .before .before .before .before .before in
+    entered-loaded (table read) (asked read) (tasksIn (block read)) (loads (c .before .before)) (c .read-over .ensures)
+
 read-levels-requires : tie.Need-read-levels-requires
 read-levels-requires c κs = search needs
 
@@ -43,17 +55,6 @@ enum-known-answer-2 c = search needs
 
 read-over-requires : tie.Need-read-over-requires
 read-over-requires c κs = loads (c .before) .table
-
-returns : tie.Need-returns
-returns c =
-    let read = c .before .before .before .before .before in
-    entered-refused (table read) (asked read) (tasksIn (block read)) (c .refused .ensures)
-    (told-unloaded (table read) (read .read-levels .ensures) (c .before .before .answer .given .1))
-
-returns-2 : tie.Need-returns-2
-returns-2 c =
-    let read = c .before .before .before .before .before .before in
-    entered-loaded (table read) (asked read) (tasksIn (block read)) (c .read-over .ensures) (loads (c .before .before))
 
 pub read-spec : {M : Type 1} → statement M
 read-spec =

@@ -18,6 +18,21 @@ table c = start c .args .levels .now
 loads : (c : tie.After-known-told2) → Loads (table (c .before .before .before .before)) (c .before .before .before .before .read-levels .result .speeds) (c .before .answer2 .given .0 .0)
 loads c = told-loaded (table (c .before .before .before .before)) (c .before .before .before .before .read-levels .ensures) (c .before .answer2 .given .1)
 
+-- first, so that a wrong answer is refused here
+returns : tie.Need-returns
+returns c =
+    let read = c .before .before .before .before in
+    let s = start read in
+    writes-refused (table read) (s .args .p) (s .args .buffer .now)
+    (told-unloaded (table read) (read .read-levels .ensures) (c .before .answer .given .1))
+
+returns-2 : tie.Need-returns-2
+returns-2 c =
+    let known = c .before .before .before .before .before in
+    let read = known .before .before .before .before in
+    let s = start read in
+    writes-loaded (table read) (s .args .p) (s .args .buffer .now) (loads known) (c .before .before .write-over .ensures)
+
 read-levels-requires : tie.Need-read-levels-requires
 read-levels-requires c κs = search needs
 
@@ -30,22 +45,8 @@ enum-known-answer-2 c = search needs
 write-over-requires : tie.Need-write-over-requires
 write-over-requires c κs = loads (c .before .before) .table
 
-returns : tie.Need-returns
-returns c =
-    let read = c .before .before .before .before in
-    let s = start read in
-    writes-refused (table read) (s .args .p) (s .args .buffer .now)
-    (told-unloaded (table read) (read .read-levels .ensures) (c .before .answer .given .1))
-
 same-length : tie.Need-same-length
 same-length c = search needs
-
-returns-2 : tie.Need-returns-2
-returns-2 c =
-    let known = c .before .before .before .before .before in
-    let read = known .before .before .before .before in
-    let s = start read in
-    writes-loaded (table read) (s .args .p) (s .args .buffer .now) (c .before .before .write-over .ensures) (loads known)
 
 pub write-spec : {M : Type 1} → statement M
 write-spec =
