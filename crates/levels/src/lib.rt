@@ -9,7 +9,8 @@ ghost use Rattle.arith.specs.Ranges.{listTo};
 ghost use Rattle.plan.specs.LevelBlocks.{levelBitCount, levelLength, levelCountIn, speedAt, risesFrom, readLevels};
 ghost use Rattle.levels.specs.Code.{loaded, unloadedWith};
 
-// Whether the first so many numbers rise from above 0 and are at most 1,000. A proof learns nothing of a lent array's length, so it is asked.
+// Whether the first so many numbers rise from above 0 and are at most 1,000: where they rise, the last one tells. A proof learns nothing of
+// a lent array's length, so it is asked.
 pub fn rises(speeds: &[u32; 8], levels: usize) -> bool
     requires { ⌜ (levels ≤ 8) × (length (now speeds) ≡ 8) ⌝ }
     ensures { λ r. ⌜ r ≡ risesFrom 0 (loaded (now (speeds .entry)) levels) ⌝ }
@@ -21,13 +22,10 @@ pub fn rises(speeds: &[u32; 8], levels: usize) -> bool
         if s <= last {
             return false;
         }
-        if s > 1000 {
-            return false;
-        }
         last = s;
         i += 1;
     }
-    true
+    last <= 1000
 }
 
 // How many bytes the block of so many levels has.

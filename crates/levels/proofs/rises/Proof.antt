@@ -1,17 +1,17 @@
 -- `rises` meets its contract.
 -- Assumes nothing.
 use Prim.Native.Nat.{_≤_, _-_}
-use mathlib.Core.Path.{_≡_, refl}
+use mathlib.Core.Path.{_≡_}
 use native.Mathlib.Omega.{arith}
 use lib.ListN.{length, drop}
 use Rattle.plan.specs.LevelBlocks.{risesFrom}
 use Rattle.levels.specs.Code.{loaded}
-use Rattle.levels.proofs.Loading.{rises-not, rises-over, rises-more, rises-end}
+use Rattle.levels.proofs.Loading.{climbsFrom, climbs-is, rises-not, rises-more, rises-end}
 use Rattle.levels.proofs.rises.Statement.{statement}
 use Rattle.levels.proofs.rises.Tie as tie
 
 abbrev Inv-loop : tie.InvT-loop
-Inv-loop speeds levels last₀ i₀ last i = (i ≤ levels) × (risesFrom last (drop i (loaded speeds levels)) ≡ risesFrom 0 (loaded speeds levels))
+Inv-loop speeds levels last₀ i₀ last i = (i ≤ levels) × (climbsFrom last (drop i (loaded speeds levels)) ≡ risesFrom 0 (loaded speeds levels))
 
 abbrev μ-loop : tie.MeasureT-loop
 μ-loop speeds levels last₀ i₀ last i = levels - i
@@ -21,7 +21,7 @@ places : (c : tie.Start Inv-loop μ-loop) → c .args .levels ≤ length (c .arg
 places c = omega (arith, c .pre .0, c .pre .1)
 
 loop-holds : tie.Need-loop-holds Inv-loop μ-loop
-loop-holds c = (omega arith, refl)
+loop-holds c = (omega arith, climbs-is 0 (loaded (c .args .speeds .now) (c .args .levels)) (omega arith))
 
 mul-s : tie.Need-mul-s Inv-loop μ-loop
 mul-s c = omega arith
@@ -35,12 +35,6 @@ returns c =
     let s = turn .before in
     rises-not (s .args .speeds .now) (s .args .levels) (places s) (turn .loop .last) (turn .loop .i) (c .before .before .loop-test .taken) (turn .loop .inv .1) (omega arith)
 
-returns-2 : tie.Need-returns-2 Inv-loop μ-loop
-returns-2 c =
-    let turn = c .before .before .before .before in
-    let s = turn .before in
-    rises-over (s .args .speeds .now) (s .args .levels) (places s) (turn .loop .last) (turn .loop .i) (c .before .before .before .loop-test .taken) (turn .loop .inv .1) (omega arith)
-
 add-i : tie.Need-add-i Inv-loop μ-loop
 add-i c = omega arith
 
@@ -49,14 +43,14 @@ loop-less c = omega arith
 
 loop-again : tie.Need-loop-again Inv-loop μ-loop
 loop-again c =
-    let turn = c .before .before .before .before in
+    let turn = c .before .before .before in
     let s = turn .before in (
       omega arith,
-      rises-more (s .args .speeds .now) (s .args .levels) (places s) (turn .loop .last) (turn .loop .i) (c .before .before .before .loop-test .taken) (turn .loop .inv .1) (c .before .if1 .left) (c .if2 .left),
+      rises-more (s .args .speeds .now) (s .args .levels) (places s) (turn .loop .last) (turn .loop .i) (c .before .before .loop-test .taken) (turn .loop .inv .1) (c .if1 .left),
     )
 
-returns-3 : tie.Need-returns-3 Inv-loop μ-loop
-returns-3 c =
+returns-2 : tie.Need-returns-2 Inv-loop μ-loop
+returns-2 c =
     let turn = c .before in
     let s = turn .before in
     rises-end (s .args .speeds .now) (s .args .levels) (places s) (turn .loop .last) (turn .loop .i) (omega arith) (turn .loop .inv .1)
@@ -71,8 +65,7 @@ rises-spec =
     mul-s
     element-copy-out-s
     returns
-    returns-2
     add-i
     loop-less
     loop-again
-    returns-3)
+    returns-2)
