@@ -125,3 +125,19 @@ module _ {keys : List ℕ} {count clock least i : ℕ} (so-far : EarliestTo keys
     earliest-ahead =
         let a : Attained count (λ k. getD keys k 0) = least-at count (λ k. getD keys k 0) (so-far .some) in
         subst (λ (x : ℕ). (clock ≤ deadlineIn x) × (x < noKey)) (sym (earliest-all ∙ a .is)) (so-far .ahead (a .number) (a .below))
+
+-- the same by its place among the keys
+pub record Earliest (keys : List ℕ) (count clock first i : ℕ) : Type 0 where
+  pub place : first < count
+  pub least : EarliestTo keys count clock (getD keys first 0) i
+
+module _ {keys : List ℕ} {count clock first i : ℕ} (so-far : Earliest keys count clock first i) (h : i < count) where
+  pub earliest-later : {next : ℕ} → getD keys i 0 < getD keys first 0 → next ≡ i → Earliest keys count clock next (i + 1)
+  earliest-later {next} l e =
+      let same : getD keys next 0 ≡ getD keys i 0 = ap (λ (k : ℕ). getD keys k 0) e in
+      record { place = omega arith; least = earliest-more (so-far .least) h (omega arith) }
+
+  pub earliest-kept : {next : ℕ} → getD keys first 0 ≤ getD keys i 0 → next ≡ first → Earliest keys count clock next (i + 1)
+  earliest-kept {next} l e =
+      let same : getD keys next 0 ≡ getD keys first 0 = ap (λ (k : ℕ). getD keys k 0) e in
+      record { place = omega (arith, so-far .place); least = earliest-more (so-far .least) h (omega arith) }
