@@ -41,9 +41,9 @@ pub fn level_cut(input: &[u8]) -> usize
     if count > 8 {
         return n;
     }
-    let wanted = levels::level_length(count);
-    if wanted < n {
-        return wanted;
+    let size = levels::level_length(count);
+    if size < n {
+        return size;
     }
     n
 }

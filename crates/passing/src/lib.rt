@@ -31,6 +31,9 @@ ghost use Rattle.tables.specs.Code.{Owns};
 ghost use Rattle.orders.specs.Code.{choiceOf};
 ghost use Rattle.soundness.specs.Code.{Good};
 
+// The number of a state that is not sound.
+const UNSOUND: u32 = 10;
+
 // Whether an order is chosen anew after d ticks, of which the block knows nothing yet: the job finished, or one arrives.
 fn chooses_anew(
     speeds: &[u32; 8],
@@ -91,7 +94,7 @@ fn pass_over(speeds: &[u32; 8], levels: usize, state: &mut [u8], d: u32, finishe
 {
     let b = test_block(speeds, levels, state);
     if !b.sound {
-        return Reply::Refused(10);
+        return Reply::Refused(UNSOUND);
     }
     let keys = b.keys;
     let clock = clock_at(state);
@@ -121,7 +124,7 @@ pub fn pass(state: &mut [u8], d: u32, finished: bool) -> Reply
 {
     let t = own_table(state);
     if t.levels == 0 {
-        return Reply::Refused(10);
+        return Reply::Refused(UNSOUND);
     }
     let speeds = t.speeds;
     pass_over(&speeds, t.levels, state, d, finished)

@@ -16,6 +16,9 @@ ghost use Rattle.state.specs.Code.{entryIn};
 ghost use Rattle.tables.specs.Code.{Owns};
 ghost use Rattle.urgency.specs.Code.{tasksBytes};
 
+// The number of a state that is not sound.
+const UNSOUND: u32 = 10;
+
 // Stores three bytes for each task of a list: its number, then its remaining ticks.
 fn put_queue(buffer: &mut [u8], state: &[u8], q: ReadyList)
     requires { ⌜ (length (now state) ≡ stateLength) × (q .len ≤ places) × (3 * q .len ≤ length (now buffer)) ⌝ }
@@ -41,7 +44,7 @@ fn show_over(speeds: &[u32; 8], levels: usize, state: &[u8], buffer: &mut [u8]) 
 {
     let tested = test_block(speeds, levels, state);
     if !tested.sound {
-        return Written::Refused(10);
+        return Written::Refused(UNSOUND);
     }
     let keys = tested.keys;
     let q = ready(state, &keys, count_at(state));
@@ -60,7 +63,7 @@ pub fn show(state: &[u8], buffer: &mut [u8]) -> Written
 {
     let t = own_table(state);
     if t.levels == 0 {
-        return Written::Refused(10);
+        return Written::Refused(UNSOUND);
     }
     let speeds = t.speeds;
     show_over(&speeds, t.levels, state, buffer)
