@@ -5,18 +5,16 @@ use mathlib.Core.Path.{_≡_, refl, sym, subst, ap, _∙_}
 use mathlib.Core.List.{List, [], _∷_, _++_}
 use native.Mathlib.Nat.{not-suc-le-zero, mul-le-mul, mul-le-mul-left, mul-suc}
 use native.Mathlib.Omega.{arith}
-use lib.Dec.{eqb}
-use lib.ListN.{length, getD, drop, length-append, length-drop, List·getD-eq-default}
+use lib.ListN.{length, getD, drop, length-append, List·getD-eq-default}
 use lib.Seq.{drop-at, drop-drop, getD-drop}
-use Rattle.arith.specs.Choice.{every}
 use Rattle.arith.specs.Need.{need}
 use Rattle.arith.specs.Digits.{number, digits}
-use Rattle.arith.specs.Bits.{fieldsBits, unpacked}
+use Rattle.arith.specs.Bits.{fieldsBits}
 use Rattle.arith.proofs.ListLaws.{getD-early}
-use Rattle.arith.proofs.BitLaws.{every-zero, length-unpacked, length-packed, packed-at}
+use Rattle.arith.proofs.BitLaws.{length-packed, packed-at}
 use Rattle.arith.proofs.FieldLaws.{Below, below-append, digits-below, field-bit, field-past, length-fields, fields-below}
 use Rattle.plan.specs.declared.Task.{Task}
-use Rattle.plan.specs.Blocks.{taskWidths, taskNumbers, taskWidth, taskBits, tasksBits, planBits, editionOf, planBlock, bitCount, blockLength, editionIn, countIn, taskFrom, tasksFrom, closingBits, noTask}
+use Rattle.plan.specs.Blocks.{taskWidths, taskNumbers, taskWidth, taskBits, tasksBits, planBits, editionOf, planBlock, bitCount, blockLength, editionIn, countIn, taskFrom, tasksFrom, noTask}
 
 module _ (edition : ℕ) where
   -- how wide a task is: it has its period and its worst case, and sixteen fit 1,024 bits with their header
@@ -190,13 +188,6 @@ module _ (ts : List Task) where
       packed-at (need 8 (length (planBits (editionOf ts) ts))) (planBits (editionOf ts) ts) j
       (subst (λ (n : ℕ). j < need 8 n) (sym (length-planBits (editionOf ts) ts)) h)
 
--- the closing bits are zero exactly if the number that they are is
-module _ (block : List ℕ) where
-  abbrev pub used : ℕ
-  used = bitCount (editionIn block) (countIn block)
-
-  length-closingBits : length (closingBits block) ≡ 8 * length block - used
-  length-closingBits = length-drop used (unpacked block) ∙ ap (λ (n : ℕ). n - used) (length-unpacked block)
-
-  pub closing-zero : every (eqb 0) (closingBits block) ≡ eqb (number 2 (8 * length block - used) (closingBits block)) 0
-  closing-zero = every-zero (closingBits block) ∙ ap (λ (m : ℕ). eqb (number 2 m (closingBits block)) 0) length-closingBits
+-- how many bits of a block its tasks end at
+abbrev pub used : List ℕ → ℕ
+used block = bitCount (editionIn block) (countIn block)

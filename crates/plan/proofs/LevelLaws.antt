@@ -1,23 +1,21 @@
 -- Laws of the levels and of the hyperperiod.
 -- Assumes nothing.
 use Prim.Native.Nat.{ℕ, zero, suc, _*_, _/_, _<_, _≤_, _∣_}
-use mathlib.Core.Path.{_≡_, refl, sym, subst}
-use mathlib.Core.Bool.{Bool, true}
+use mathlib.Core.Path.{_≡_, sym, subst}
+use mathlib.Core.Bool.{true}
 use mathlib.Core.List.{List, [], _∷_}
 use native.Mathlib.Nat.{not-suc-le-zero, add-le-add, add-mul, mul-le-mul-right, mul-right-comm, le-trans, dvd-refl, dvd-trans, one-dvd, le-of-dvd}
 use native.Mathlib.Decide.{decLe}
 use native.Mathlib.Omega.{arith}
 use borrow.Author.Tests.{leb-true, le-leb}
-use lib.Dec.{ltb}
 use lib.ListN.{length, getD, drop}
-use Rattle.arith.specs.Choice.{both, every}
-use Rattle.arith.proofs.Tests.{both-left, both-right}
+use Rattle.arith.specs.Choice.{every}
 use Rattle.arith.proofs.Divisors.{lcm-left, lcm-right, lcm-least, lcm-positive}
 use Rattle.arith.proofs.Sums.{sumOf-le}
 use Rattle.arith.proofs.Searches.{first-le, first-passes}
 use Rattle.plan.specs.declared.Task.{Task}
 use Rattle.plan.specs.Times.{whole, taskTime}
-use Rattle.plan.specs.Levels.{baseSpeeds, Rising, speedOf, hyperperiod, demandWithin, admits, nominal}
+use Rattle.plan.specs.Levels.{Rising, speedOf, hyperperiod, demandWithin, admits, nominal}
 use Rattle.plan.specs.Blocks.{noTask}
 use Rattle.plan.specs.Questions.{inRange}
 use Rattle.plan.specs.Laws.{AdmitsFromNominal, HyperperiodIsLeast}

@@ -29,7 +29,7 @@ use Rattle.arith.proofs.Tests.{both-false}
 use Rattle.arith.proofs.Loops.{every-again, every-not, every-end}
 use Rattle.reclaiming.specs.declared.Entry.{Entry}
 use Rattle.soundness.specs.declared.Tested.{Tested}
-use Rattle.reclaiming.specs.StateBlock.{State, noEntry, restIn, taskOf, planIn, timing, encode, decode, sameBytes, laidOut, places, stateLength, stateCount}
+use Rattle.reclaiming.specs.StateBlock.{State, noEntry, restIn, taskOf, planIn, timing, decode, laidOut, places, stateCount}
 use Rattle.reclaiming.specs.Orders.{allowance, openJobs, runningTime}
 use Rattle.reclaiming.specs.Questions.{largestClock, inTime, entrySound, orderSound, stateSound, soundAt}
 use Rattle.state.specs.Code.{Holds, entryIn, timingIn}

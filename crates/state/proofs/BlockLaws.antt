@@ -10,7 +10,7 @@ use native.Mathlib.Decide.{ℕ-discrete}
 use native.Mathlib.Omega.{arith}
 use borrow.Author.Tests.{eq-eqb, ne-eqb}
 use lib.ListN.{length, getD, take, drop, set, replicate, length-append, length-set, length-replicate, replicate-append-replicate}
-use lib.Seq.{ext-getD, sets, length-sets, drop-drop, getD-drop, length-take-le, take-all, take-length, take-suc, getD-set-same, getD-set-other, paste, paste-suc}
+use lib.Seq.{sets, length-sets, drop-drop, getD-drop, length-take-le, take-all, take-length, take-suc, getD-set-same, getD-set-other, paste, paste-suc}
 use Rattle.arith.specs.Digits.{number, digits}
 use Rattle.arith.specs.Choice.{pick}
 use Rattle.arith.proofs.DigitLaws.{number-below}
@@ -21,7 +21,6 @@ use Rattle.reclaiming.specs.StateBlock.{State, noEntry, remainingOf, restIn, re
 use Rattle.reclaiming.specs.StateBlock.{entryFields, periodField, worstField, workField, remainingField, pairField, headLength, entryLength, stateLength}
 use Rattle.reclaiming.specs.StateBlock.{entryBytes, entriesBytes, unusedBytes, encode, entryFrom, entriesFrom, stateCount, decode}
 use Rattle.reclaiming.specs.Orders.{withOrder}
-use Rattle.arith.specs.Ranges.{listTo}
 use Rattle.state.specs.Code.{entryAt, entryIn, fieldPlace, numberIn, entryStored, headStored, entryNumbers, changed, withJobs, withClock, FitTask, FitRest, restStored}
 use Rattle.reclaiming.proofs.FieldLaws.{fieldsValues, sets-past, sets-over, length-fields, read-field, fields-same, store-field, store-next}
 use Rattle.reclaiming.proofs.StateCodec.{pastHead, pastEntries, past-head, length-entriesFrom, length-entriesBytes}

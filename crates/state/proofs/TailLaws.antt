@@ -3,7 +3,7 @@
 use Prim.Native.Nat.{ℕ, suc, _+_, _-_, _*_, _<_, _≤_}
 use mathlib.Core.Path.{_≡_, refl, sym, subst, ap, ap₂, _∙_}
 use mathlib.Core.Bool.{Bool, true, false}
-use mathlib.Core.List.{List, _∷_}
+use mathlib.Core.List.{List}
 use native.Mathlib.Decide.{decLe}
 use native.Mathlib.Numerals.{add-one}
 use native.Mathlib.Omega.{arith}
@@ -18,7 +18,7 @@ use Rattle.arith.proofs.DigitLaws.{number-below}
 use Rattle.arith.proofs.ListLaws.{every-at, at-every, zero-at}
 use Rattle.arith.proofs.RangeLaws.{length-listTo, getD-listTo}
 use Rattle.reclaiming.specs.Fields.{Field, width, offsetOf}
-use Rattle.reclaiming.specs.StateBlock.{State, levelPlaces, tailFields, levelsField, speedField, tailAt, levelCount, speedIn, decode}
+use Rattle.reclaiming.specs.StateBlock.{State, levelPlaces, tailFields, speedField, tailAt, levelCount, speedIn, decode}
 use Rattle.reclaiming.proofs.StateCodec.{speed-row}
 use Rattle.state.specs.Code.{unusedZero}
 use Rattle.state.proofs.BlockLaws.{byte-field, bytes-past}

@@ -1,13 +1,11 @@
 -- `next_arrival` meets its contract. The loop has the place of the least of the keys of the tasks below i.
 -- Assumes nothing.
-use Prim.Native.Nat.{ℕ, _-_, _<_}
-use mathlib.Core.Path.{_≡_, refl, ap, _∙_}
-use mathlib.Core.List.{List}
+use Prim.Native.Nat.{ℕ, _-_}
+use mathlib.Core.Path.{refl, ap, _∙_}
 use mathlib.Core.Logic.{⊎-elim}
 use native.Mathlib.Omega.{arith}
-use lib.ListN.{getD}
 use Rattle.urgency.specs.Code.{deadlineIn}
-use Rattle.urgency.proofs.KeySteps.{EarliestTo, Earliest, earliest-later, earliest-kept, earliest-all, earliest-ahead}
+use Rattle.urgency.proofs.KeySteps.{Earliest, earliest-later, earliest-kept, earliest-all, earliest-ahead}
 use Rattle.urgency.proofs.next_arrival.Statement.{statement}
 use Rattle.urgency.proofs.next_arrival.Tie as tie
 
