@@ -15,7 +15,8 @@ use Rattle.arith.proofs.Tests.{both-left, both-right, both-true}
 use Rattle.arith.proofs.QuestionLaws.{within-low, within-high, replyTo, replied}
 use Rattle.arith.proofs.RangeLaws.{length-listTo}
 use Rattle.plan.specs.Levels.{Rising}
-use Rattle.plan.specs.LevelBlocks.{levelCountIn, speedAt, speedsIn, risesFrom, tableGood, loading}
+use Rattle.arith.specs.Need.{need}
+use Rattle.plan.specs.LevelBlocks.{levelLength, levelCountIn, speedAt, speedsIn, risesFrom, tableGood, loading}
 
 -- the first of some speeds that rise from above a given one, and the rest
 module _ (low x : ℕ) (xs : List ℕ) (h : risesFrom low (x ∷ xs) ≡ true) where
@@ -79,6 +80,15 @@ fine-table speeds h =
       most = speeds-most speeds rise;
       rising = rising speeds rise;
     }
+
+-- 2 bytes for one level, 11 for eight
+pub levelLength-one : levelLength 1 ≡ 2
+unfolding need
+levelLength-one = refl
+
+pub levelLength-eight : levelLength 8 ≡ 11
+unfolding need
+levelLength-eight = refl
 
 -- a level of such a table fits a byte
 pub few-levels : {speeds : List ℕ} → FineTable speeds → length speeds ≤ 256

@@ -2,6 +2,7 @@ pub mod BlockBits
 pub mod Facts
 pub mod LevelLaws
 pub mod LevelBlockLaws
+pub mod LevelTrip
 pub mod TimeLaws
 pub mod RoundTrip
 pub mod NumberLaws

@@ -6,10 +6,11 @@ use mathlib.Core.Bool.{true}
 use mathlib.Core.List.{List}
 use mathlib.Core.Logic.{_↔_}
 use lib.ListN.{length, getD}
-use Rattle.arith.specs.Asking.{isAccepted}
+use Rattle.arith.specs.Asking.{isAccepted, firstNo}
 use Rattle.plan.specs.declared.Task.{Task}
 use Rattle.plan.specs.declared.Plan.{Plan}
 use Rattle.plan.specs.Levels.{speedOf, hyperperiod, admits, nominal}
+use Rattle.plan.specs.LevelBlocks.{levelBlock, speedsIn, tableGood, loading}
 use Rattle.plan.specs.Blocks.{noTask, tasksOf, planBlock}
 use Rattle.plan.specs.Answers.{verdictAnswer, judgedPlan, readBlock}
 
@@ -32,6 +33,14 @@ AcceptedWritesBack =
     Bytes block →
     isAccepted (verdictAnswer (readBlock levels block .verdict)) ≡ true →
     planBlock (tasksOf (readBlock levels block .plan)) ≡ block
+
+-- 02, No. 1: every table of 1 to 8 speeds in their range that rise has a block, which is accepted and reads as it; so what holds of any
+-- accepted level block holds of any such table
+abbrev pub TableLoads : Type 0
+TableLoads =
+    (speeds : List ℕ) →
+    tableGood speeds ≡ true →
+    (firstNo (loading (levelBlock speeds)) ≡ 0) × (speedsIn (levelBlock speeds) ≡ speeds)
 
 -- a level admits exactly from the nominal one up
 abbrev pub AdmitsFromNominal : List ℕ → Type 0

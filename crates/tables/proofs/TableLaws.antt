@@ -157,11 +157,6 @@ owned-fine {bytes} {held} {levels} k = fine-table (loaded held levels) (ap table
 pub owned-stored : {bytes held : List ℕ} {levels : ℕ} → Owns bytes held levels → StorableTable (decode bytes .speeds)
 owned-stored {bytes} k = fine-stored (fine-table (decode bytes .speeds) (k .good))
 
--- the soundness of the block is that over its table
-pub owned-sound : {bytes held : List ℕ} {levels : ℕ} → Owns bytes held levels → sound bytes ≡ soundAt (loaded held levels) bytes
-owned-sound {bytes} {held} {levels} k =
-    ap (λ (t : Bool). both t (soundAt (decode bytes .speeds) bytes)) (k .good) ∙ ap (λ (l : List ℕ). soundAt l bytes) (sym (k .is))
-
 -- a table on its way into a block: the count and the first k speeds are stored
 pub record StoredTo (held : List ℕ) (levels : ℕ) (found image : List ℕ) (k : ℕ) : Type 0 where
   pub size : length image ≡ stateLength
