@@ -1,7 +1,7 @@
 -- A table that may be loaded has a block, which is accepted and reads as it.
 -- Assumes nothing.
 use Prim.Native.Nat.{ℕ, zero, suc, _+_, _*_, _<_, _≤_}
-use mathlib.Core.Path.{_≡_, refl, sym, subst, ap, ap₂, _∙_}
+use mathlib.Core.Path.{_≡_, refl, sym, ap, _∙_}
 use mathlib.Core.Bool.{true}
 use mathlib.Core.List.{List, _++_}
 use native.Mathlib.Nat.{not-suc-le-zero}
@@ -15,7 +15,7 @@ use Rattle.arith.specs.Need.{need}
 use Rattle.arith.specs.Digits.{number, digits}
 use Rattle.arith.specs.Bits.{fieldsBits, unpacked}
 use Rattle.arith.specs.Asking.{within}
-use Rattle.arith.proofs.Tests.{both-left, both-right, both-true}
+use Rattle.arith.proofs.Tests.{both-right, both-true}
 use Rattle.arith.proofs.ListLaws.{at-every}
 use Rattle.arith.proofs.Needs.{need-covers}
 use Rattle.arith.proofs.DigitLaws.{length-digits, number-digits, number-drop-same}

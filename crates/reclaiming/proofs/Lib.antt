@@ -16,5 +16,3 @@ pub mod Demand
 pub mod PlayLaws
 pub mod PlayShown
 pub mod NumberLaws
-pub mod Listing
-pub mod Starred

@@ -6,6 +6,5 @@ pub mod Questions
 pub mod Calls
 pub mod Run
 pub mod Promises
-pub mod Cases
 pub mod Numbers
 pub mod Play

@@ -1,4 +1,5 @@
 // Whether a state block is sound.
+use block_layout::laid_out;
 use clock::Clock;
 use plan::Plan;
 use plan::Verdict;
@@ -9,7 +10,6 @@ use state::TASK_AT;
 use state::WORK_AT;
 use state::WORK_WIDTH;
 use state::clock_at;
-use state::laid_out;
 use state::remaining_at;
 use state::rest_at;
 use state::task_at;

@@ -7,7 +7,7 @@ use Rattle.arith.specs.Need.{need}
 use Rattle.arith.specs.Divisor.{gcd, lcm}
 use Rattle.plan.specs.Times.{timeOf, worn}
 use Rattle.schedule.specs.PlainSchedule.{moreUrgent}
-use Rattle.reclaiming.specs.Cases.{baseLevels, benchBlock}
+use Rattle.worked_cases.specs.Cases.{baseLevels, benchBlock}
 use Rattle.transcript.specs.Listing.{listing}
 
 -- 01's speeds, then "the plan (10, 400), (10, 400), (30, 600), then hex 8001 8007 8002 8004 8004 0002"

@@ -1,0 +1,25 @@
+-- 01, "The bench program": its example, computed from the definitions.
+-- Assumes nothing.
+use mathlib.Core.Path.{_≡_, refl}
+use mathlib.Core.Bool.{true}
+use Rattle.arith.specs.Need.{need}
+use Rattle.arith.specs.Divisor.{gcd, lcm}
+use Rattle.plan.specs.Times.{timeOf, worn}
+use Rattle.plan.specs.Answers.{readBlock}
+use Rattle.schedule.specs.PlainSchedule.{moreUrgent}
+use Rattle.reclaiming.specs.StateBlock.{stateLength}
+use Rattle.reclaiming.specs.Calls.{isOrder, startReply}
+use Rattle.worked_cases.specs.Cases.{baseLevels, benchBlock, benchJudged, benchLines, listedLines}
+
+pub bench-plan : readBlock baseLevels benchBlock ≡ benchJudged
+unfolding need timeOf worn lcm gcd moreUrgent
+bench-plan = refl
+
+pub bench-listing : benchLines ≡ listedLines
+unfolding need timeOf worn lcm gcd moreUrgent
+bench-listing = refl
+
+-- the hypothesis of demand 3 holds of it
+pub bench-started : isOrder (startReply baseLevels benchBlock stateLength) ≡ true
+unfolding need timeOf worn lcm gcd moreUrgent
+bench-started = refl

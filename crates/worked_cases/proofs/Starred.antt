@@ -1,0 +1,32 @@
+-- 01, "On each side of the edge": every starred case of the table holds. 02, No. 1: so does every case of level blocks.
+-- Assumes nothing.
+use mathlib.Core.Path.{_≡_, refl}
+use mathlib.Core.Bool.{true}
+use mathlib.Core.List.{List}
+use Rattle.arith.specs.Need.{need}
+use Rattle.arith.specs.Divisor.{gcd, lcm}
+use Rattle.plan.specs.Times.{timeOf, worn}
+use Rattle.schedule.specs.PlainSchedule.{moreUrgent}
+use Rattle.schedule.specs.Feasibility.{In}
+use Rattle.schedule.proofs.Members.{every-in}
+use Rattle.worked_cases.specs.Cases.{Case, starred, boards, matches, agrees}
+use Rattle.reclaiming.proofs.StateCodec.{same-bytes}
+
+-- the table's test, computed
+starred-agree : agrees starred ≡ true
+unfolding need timeOf worn lcm gcd moreUrgent
+starred-agree = refl
+
+boards-agree : agrees boards ≡ true
+unfolding need timeOf worn lcm gcd moreUrgent
+boards-agree = refl
+
+-- so each of its rows holds
+row-holds : (cases : List Case) → agrees cases ≡ true → (c : Case) → In c cases → c .found ≡ c .wanted
+row-holds cases h c m = same-bytes (c .found) (c .wanted) (every-in matches cases h c m)
+
+pub starred-cases : (c : Case) → In c starred → c .found ≡ c .wanted
+starred-cases = row-holds starred starred-agree
+
+pub board-cases : (c : Case) → In c boards → c .found ≡ c .wanted
+board-cases = row-holds boards boards-agree
