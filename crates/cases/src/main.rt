@@ -1,8 +1,7 @@
-// Runs the cases of document 01 that are not starred, with 01's speeds loaded, and cases of level blocks, and prints what each call gives.
+// Runs the cases of document 01 that are not starred, with 01's speeds loaded, and prints what each call gives.
 use dispatcher_calls::kilmstra_pass;
 use dispatcher_calls::kilmstra_show;
 use dispatcher_calls::kilmstra_start;
-use plan_calls::kilmstra_levels_read;
 use plan_calls::kilmstra_plan_copy;
 use plan_calls::kilmstra_plan_read;
 use state::STATE_LENGTH;
@@ -83,51 +82,10 @@ fn the_example_block(levels: &[u8]) {
     io::write_all(1, b"\n");
 }
 
-// A line of a level block: the count of its levels, or a refusal.
-fn tell_levels(what: &[u8], answer: u64) {
-    io::write_all(1, what);
-    if answer < 256 {
-        io::write_all(1, b": refused ");
-        io::print_decimal(1, answer);
-        io::write_all(1, b"\n");
-        return;
-    }
-    io::write_all(1, b": levels ");
-    io::print_decimal(1, answer / 256);
-    io::write_all(1, b"\n");
-}
-
-// 02, No. 1: level blocks on each side of 18, 19 and 20.
-fn the_level_blocks(levels: &[u8]) {
-    tell_levels(b"01's speeds", kilmstra_levels_read(levels));
-    tell_levels(b"count 0", kilmstra_levels_read(&[0u8, 0]));
-    tell_levels(b"count 9", kilmstra_levels_read(&[144u8, 0]));
-    tell_levels(b"a closing bit", kilmstra_levels_read(&[16u8, 5]));
-    tell_levels(b"a byte too long", kilmstra_levels_read(&[16u8, 4, 0]));
-    tell_levels(b"speed 0", kilmstra_levels_read(&[16u8, 0]));
-    tell_levels(b"speed 1", kilmstra_levels_read(&[16u8, 4]));
-    tell_levels(b"speed 1,000", kilmstra_levels_read(&[31u8, 160]));
-    tell_levels(b"speed 1,001", kilmstra_levels_read(&[31u8, 164]));
-    tell_levels(b"speeds 5, 5", kilmstra_levels_read(&[32u8, 20, 5]));
-}
-
-// One level alone, of speed 1,000: a job of 1,000 units takes the whole of its period of 1 tick.
-fn one_level_alone() {
-    let block = [16u8, 128, 0, 128, 31, 64];
-    let mut state = [0u8; STATE_LENGTH];
-    tell(
-        b"one level, start",
-        kilmstra_start(&[31u8, 160], &block, &mut state),
-    );
-    tell(b"one level, tick 1", kilmstra_pass(&mut state, 1, 1));
-}
-
 fn main() {
     let levels = [128u8, 40, 20, 7, 130, 128, 200, 60, 20, 6, 64];
     let block = [17u8, 128, 5, 0, 12, 128, 0, 80, 0, 200, 0, 15, 0, 18, 192];
     at_the_start(&levels, &block);
     along_the_listing(&levels, &block);
     the_example_block(&levels);
-    the_level_blocks(&levels);
-    one_level_alone();
 }

@@ -1,4 +1,6 @@
 // The bench program's library: the listing of an input.
+use cutting::level_cut;
+use cutting::plan_cut;
 use lines::plan_line;
 use lines::refused_line;
 use lines::reply_line;
@@ -12,65 +14,8 @@ ghost use Prim.Native.Nat.{_+_, _≤_};
 ghost use lib.ListN.{length, take, drop};
 ghost use Rattle.arith.specs.Asking.{numberOf};
 ghost use Rattle.plan.specs.Answers.{verdictAnswer};
-ghost use Rattle.transcript.specs.Listing.{cutEdition, levelCut, planCut, startedLines, planListing, listing};
+ghost use Rattle.transcript.specs.Listing.{startedLines, planListing, listing};
 ghost use Rattle.lines.specs.Stores.{Put};
-
-// The edition that an input is cut by: one that is not 1 is refused whatever is cut.
-fn cut_edition(edition: u32) -> u32
-    ensures { λ r. ⌜ r ≡ cutEdition edition ⌝ }
-{
-    if edition == 1 {
-        return edition;
-    }
-    1
-}
-
-// How many bytes of the input its level block is given: as many as the count needs, or all there are if fewer, or if the count is bad.
-pub fn level_cut(input: &[u8]) -> usize
-    ensures { λ r. ⌜ r ≡ levelCut (now (input .entry)) ⌝ }
-    ensures { λ r. ⌜ r ≤ length (now (input .entry)) ⌝ }
-{
-    let n = input.len();
-    if n < 1 {
-        return n;
-    }
-    let count = numeric::bits_at(input, 0, 4) as usize;
-    if count < 1 {
-        return n;
-    }
-    if count > 8 {
-        return n;
-    }
-    let size = levels::level_length(count);
-    if size < n {
-        return size;
-    }
-    n
-}
-
-// How many bytes of the input the reader is given: as many as the count needs, or all there are if fewer, or if the count is bad.
-pub fn plan_cut(input: &[u8]) -> usize
-    ensures { λ r. ⌜ r ≡ planCut (now (input .entry)) ⌝ }
-    ensures { λ r. ⌜ r ≤ length (now (input .entry)) ⌝ }
-{
-    let n = input.len();
-    if n < 2 {
-        return n;
-    }
-    let edition = cut_edition(numeric::bits_at(input, 0, 4));
-    let count = numeric::bits_at(input, 4, 5) as usize;
-    if count < 1 {
-        return n;
-    }
-    if count > 16 {
-        return n;
-    }
-    let wanted = plan_reading::block_length(edition, count);
-    if wanted < n {
-        return wanted;
-    }
-    n
-}
 
 // The number of a refusal, 0 where there is none.
 fn refusal_of(v: Verdict) -> u32

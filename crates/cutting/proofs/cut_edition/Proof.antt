@@ -1,8 +1,8 @@
 -- `cut_edition` meets its contract.
 -- Assumes nothing.
-use Rattle.listing.proofs.Cuts.{edition-known, edition-unknown}
-use Rattle.listing.proofs.cut_edition.Statement.{statement}
-use Rattle.listing.proofs.cut_edition.Tie as tie
+use Rattle.cutting.proofs.Cuts.{edition-known, edition-unknown}
+use Rattle.cutting.proofs.cut_edition.Statement.{statement}
+use Rattle.cutting.proofs.cut_edition.Tie as tie
 
 returns : tie.Need-returns
 returns c = edition-known (c .before .args .edition) (c .if1 .taken)

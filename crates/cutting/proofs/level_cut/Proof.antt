@@ -4,9 +4,9 @@ use Prim.Native.Nat.{ℕ}
 use mathlib.Core.List.{List}
 use native.Mathlib.Omega.{arith}
 use borrow.Author.Needs.{needs}
-use Rattle.listing.proofs.Cuts.{levels-none, levels-low, levels-high, levels-part, levels-whole}
-use Rattle.listing.proofs.level_cut.Statement.{statement}
-use Rattle.listing.proofs.level_cut.Tie as tie
+use Rattle.cutting.proofs.Cuts.{levels-none, levels-low, levels-high, levels-part, levels-whole}
+use Rattle.cutting.proofs.level_cut.Statement.{statement}
+use Rattle.cutting.proofs.level_cut.Tie as tie
 
 abbrev input : tie.After-bits-at → List ℕ
 input c = c .before .before .before .args .input .now

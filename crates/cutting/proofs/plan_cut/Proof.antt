@@ -3,10 +3,10 @@
 use Prim.Native.Nat.{ℕ}
 use mathlib.Core.List.{List}
 use native.Mathlib.Omega.{arith}
-use Rattle.listing.proofs.Cuts.{Header, Wanted, header, cut-short, cut-low, cut-high, cut-part, cut-whole}
+use Rattle.cutting.proofs.Cuts.{Header, Wanted, header, cut-short, cut-low, cut-high, cut-part, cut-whole}
 use borrow.Author.Needs.{needs}
-use Rattle.listing.proofs.plan_cut.Statement.{statement}
-use Rattle.listing.proofs.plan_cut.Tie as tie
+use Rattle.cutting.proofs.plan_cut.Statement.{statement}
+use Rattle.cutting.proofs.plan_cut.Tie as tie
 
 abbrev input : tie.Else1 → List ℕ
 input c = c .before .before .args .input .now
