@@ -56,20 +56,16 @@ fn input_of_length(random: &mut Random, levels: &Levels, tasks: &[Task], length:
     input
 }
 
-/// Would catch a wrong line, one missing or one too many, for runs with early ends and refused
-/// passes at every level; a refused pass that ends the listing or moves the clock.
-#[test]
-fn runs_at_every_level() {
-    let levels = Levels::base();
-    let mut both = Both::new();
-    let mut random = Random::new(2_101);
-    for round in 0..800 {
-        let plan = some_plan(&mut random, &levels, round % levels.count(), round);
-        let passes = random.between(0, 120) as usize;
-        let listed = both.list(&bench_input(&mut random, &levels, &plan, passes));
-        assert!(listed.lines().count() >= 2 + passes);
-    }
-    both.saw("runs at every level", 800);
+/// A run of a plan that a level of the table admits, with up to 120 passes.
+fn one_run(both: &mut Both, random: &mut Random, levels: &Levels, level: usize, round: usize) {
+    let plan = some_plan(random, levels, level, round);
+    let passes = random.between(0, 120) as usize;
+    let listed = both.list(&bench_input(random, levels, &plan, passes));
+    assert!(listed.lines().count() >= 2 + passes);
+}
+
+/// Lines of every kind came up, and often.
+fn saw_every_line(both: &Both) {
     both.wants("plan", 800);
     both.wants("run", 20_000);
     both.wants("idle", 2_000);
@@ -78,6 +74,21 @@ fn runs_at_every_level() {
     }
     both.wants("refused 13", 50);
     both.wants("refused 16", 60);
+}
+
+/// Would catch a wrong line, one missing or one too many, for runs with early ends and refused
+/// passes at every level; a refused pass that ends the listing or moves the clock.
+#[test]
+fn runs_at_every_level() {
+    let levels = Levels::base();
+    let mut both = Both::new();
+    let mut random = Random::new(2_101);
+    for round in 0..800 {
+        let level = round % levels.count();
+        one_run(&mut both, &mut random, &levels, level, round);
+    }
+    both.saw("runs at every level", 800);
+    saw_every_line(&both);
 }
 
 /// The same with the speeds of other boards: would catch a program that has 01's for all, or cuts the
@@ -89,20 +100,10 @@ fn runs_with_any_table() {
     for round in 0..800 {
         let levels = levels_of_count(&mut random, 1 + round % 8);
         let level = random.place(levels.count());
-        let plan = some_plan(&mut random, &levels, level, round);
-        let passes = random.between(0, 120) as usize;
-        let listed = both.list(&bench_input(&mut random, &levels, &plan, passes));
-        assert!(listed.lines().count() >= 2 + passes);
+        one_run(&mut both, &mut random, &levels, level, round);
     }
     both.saw("runs with any table", 800);
-    both.wants("plan", 800);
-    both.wants("run", 20_000);
-    both.wants("idle", 2_000);
-    for number in [11, 12, 14] {
-        both.wants(&format!("refused {number}"), 500);
-    }
-    both.wants("refused 13", 50);
-    both.wants("refused 16", 60);
+    saw_every_line(&both);
 }
 
 /// Would catch an input read past its end or short of it, a level block that is given the plan too, a

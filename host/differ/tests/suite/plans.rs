@@ -4,6 +4,7 @@ use crate::both::{Both, Call, ACCEPTED};
 use crate::made::{loose_plan, nearby, numbers_of, put_tasks, some_room};
 use sim::block::{block_bytes, Edition};
 use sim::levels::{Levels, MOST_LEVELS};
+use sim::plan::Task;
 use sim::random::plans::{
     edge_count_and_entries, full_plan, plan_above_largest_hyperperiod, plan_at_largest_hyperperiod,
     plan_at_level, plan_one_over, plan_one_unit_over,
@@ -92,6 +93,29 @@ fn plans_around_the_largest_hyperperiod() {
     both.wants(Call::Judge, 7, 1_500);
 }
 
+/// A plan that fills its hyperperiod at a level, one a tick over and one a unit over; returns the last.
+fn around_the_full_sum(
+    both: &mut Both,
+    random: &mut Random,
+    levels: &Levels,
+    level: usize,
+) -> Vec<Task> {
+    let full = full_plan(random, levels, level);
+    let judged = put_tasks(both, random, &full);
+    assert!(judged.map_or(false, |judged| judged.level <= level as u64));
+    let over = plan_one_over(random, levels, level);
+    let judged = put_tasks(both, random, &over);
+    assert_ne!(judged.map(|judged| judged.level), Ok(level as u64));
+    let unit = plan_one_unit_over(random, levels, level);
+    let judged = put_tasks(both, random, &unit);
+    if level == levels.top() {
+        assert_eq!(judged, Err(8));
+    } else {
+        assert_eq!(judged.map(|judged| judged.level), Ok(level as u64 + 1));
+    }
+    unit
+}
+
 /// Would catch an admission sum that is off by one or is cut, a time needed that is rounded down,
 /// and a speed that is wrong at one level.
 #[test]
@@ -101,19 +125,7 @@ fn plans_around_the_full_sum() {
     let mut random = Random::new(103);
     for level in 0..levels.count() {
         for _ in 0..400 {
-            let full = full_plan(&mut random, &levels, level);
-            let judged = put_tasks(&mut both, &mut random, &full);
-            assert!(judged.map_or(false, |judged| judged.level <= level as u64));
-            let over = plan_one_over(&mut random, &levels, level);
-            let judged = put_tasks(&mut both, &mut random, &over);
-            assert_ne!(judged.map(|judged| judged.level), Ok(level as u64));
-            let unit = plan_one_unit_over(&mut random, &levels, level);
-            let judged = put_tasks(&mut both, &mut random, &unit);
-            if level == levels.top() {
-                assert_eq!(judged, Err(8));
-            } else {
-                assert_eq!(judged.map(|judged| judged.level), Ok(level as u64 + 1));
-            }
+            let _ = around_the_full_sum(&mut both, &mut random, &levels, level);
         }
     }
     both.saw("full sum", 38_000);
@@ -130,19 +142,7 @@ fn plans_around_the_full_sum_of_any_table() {
         let levels = levels_of_count(&mut random, 1 + round % MOST_LEVELS as usize);
         both.load(&levels);
         let level = random.place(levels.count());
-        let full = full_plan(&mut random, &levels, level);
-        let judged = put_tasks(&mut both, &mut random, &full);
-        assert!(judged.map_or(false, |judged| judged.level <= level as u64));
-        let over = plan_one_over(&mut random, &levels, level);
-        let judged = put_tasks(&mut both, &mut random, &over);
-        assert_ne!(judged.map(|judged| judged.level), Ok(level as u64));
-        let unit = plan_one_unit_over(&mut random, &levels, level);
-        let judged = put_tasks(&mut both, &mut random, &unit);
-        if level == levels.top() {
-            assert_eq!(judged, Err(8));
-        } else {
-            assert_eq!(judged.map(|judged| judged.level), Ok(level as u64 + 1));
-        }
+        let unit = around_the_full_sum(&mut both, &mut random, &levels, level);
         // The same plan where every speed is a unit faster.
         let near: Vec<u64> = levels.speeds().iter().map(|speed| speed + 1).collect();
         if let Some(near) = Levels::of(&near) {
