@@ -1,9 +1,9 @@
 /* A firmware's main loop over the dispatcher, with the hardware played by a few functions: a timer,
  * a processor with seven levels, and jobs that mostly end before their worst case.
  *
- * It packs the speeds of its board and the bench plan, starts the plan, does what the orders say
- * through two hyperperiods, and prints a listing like the bench program's, with the level block in
- * front and the queue at the end. */
+ * It packs the speeds of its board and a plan of three tasks (the valve, the angle, the gait), starts
+ * the plan, does what the orders say through two hyperperiods, and prints a listing like the bench
+ * program's, with the level block in front and the queue at the end. */
 
 #include "kilmstra.h"
 
@@ -15,8 +15,15 @@ enum { TASKS = 3, LEVELS = 7, UNTIL = 60 };
 /* The units of work that the processor of this board does in a tick, level by level, as measured. */
 static const uint32_t speeds[LEVELS] = {13, 27, 41, 55, 69, 83, 111};
 
-/* The plan: a period and a worst case for each task. */
-static const uint32_t plan[2 * TASKS] = {10, 400, 10, 400, 30, 600};
+/* The plan: what each task has, number by number. The angle's job begins with a conversion in the
+ * sensor, which takes two ticks however fast the processor is. */
+enum { PERIOD, WORST, FIXED, NUMBERS };
+
+static const uint32_t plan[NUMBERS * TASKS] = {
+    10, 400, 0, /* the valve */
+    10, 200, 2, /* the angle */
+    30, 600, 0, /* the gait */
+};
 
 /* What the dispatcher keeps lives here, with the firmware. */
 static uint8_t state[KILMSTRA_STATE_BYTES];
@@ -25,7 +32,9 @@ static uint8_t state[KILMSTRA_STATE_BYTES];
 
 static uint32_t now;
 
-/* The work that each job will really take, which nobody knows beforehand. */
+/* The fixed ticks that each job has still to wait, and the work that it will really take after them,
+ * which nobody knows beforehand. */
+static uint32_t fixed[TASKS];
 static uint32_t work[TASKS];
 
 /* A small generator: the same numbers in every run. */
@@ -36,13 +45,15 @@ static uint32_t random_below(uint32_t limit)
     return (seed >> 8) % limit;
 }
 
-/* One job in four takes its worst case, the others anything up to it. */
+/* One job in four takes its worst case, the others anything up to it. All take their fixed ticks. */
 static void let_jobs_arrive(void)
 {
     for (int task = 0; task < TASKS; task++) {
-        uint32_t worst = plan[2 * task + 1];
-        if (now % plan[2 * task] == 0) {
+        const uint32_t *numbers = &plan[NUMBERS * task];
+        if (now % numbers[PERIOD] == 0) {
+            uint32_t worst = numbers[WORST];
             work[task] = random_below(4) == 0 ? worst : 1 + random_below(worst);
+            fixed[task] = numbers[FIXED];
         }
     }
 }
@@ -51,13 +62,14 @@ static void let_jobs_arrive(void)
 static uint32_t run_job(unsigned task, unsigned level, uint32_t hold, bool *finished)
 {
     uint32_t speed = speeds[level];
-    uint32_t needed = (work[task] + speed - 1) / speed;
+    uint32_t needed = fixed[task] + (work[task] + speed - 1) / speed;
     *finished = needed <= hold;
     if (*finished) {
-        work[task] = 0;
         return needed;
     }
-    work[task] -= hold * speed;
+    uint32_t waited = hold < fixed[task] ? hold : fixed[task];
+    fixed[task] -= waited;
+    work[task] -= (hold - waited) * speed;
     return hold;
 }
 
@@ -124,7 +136,7 @@ static uint64_t start(void)
     print_levels(levels, size);
     uint8_t block[KILMSTRA_BLOCK_BYTES];
     uint64_t written = accepted(
-        kilmstra_plan_write(levels, size, TASKS, plan, 2 * TASKS, block, sizeof block));
+        kilmstra_plan_write(levels, size, TASKS, plan, NUMBERS * TASKS, block, sizeof block));
     size_t length = kilmstra_byte_count(written);
     uint64_t judged = accepted(kilmstra_plan_read(levels, size, block, length));
     printf("plan %d %u %lu\n", TASKS, kilmstra_nominal_level(judged),

@@ -10,6 +10,12 @@
  * in units of work per tick, 1 to 1,000, and above the speed before it. Every call that takes a plan
  * takes a level block before it. The state keeps the speeds, so the calls on a state take none.
  *
+ * A task may have fixed ticks: ticks that its job takes at every level alike, such as those of an
+ * angle sensor's conversion. All else in a job is work, which is done faster at a higher level. A job
+ * uses its fixed ticks first. The time that it needs at a level is its fixed ticks left, plus its work
+ * left divided by the speed, rounded up, and every order, hold and question counts with that time. So
+ * the worst case, which is in units of work, leaves the fixed ticks out.
+ *
  * What holds for every call:
  * - It answers with one number, a reply. The functions at the end of this file take it apart.
  * - A reply is a refusal, with a number of enum kilmstra_refusal, or else what the call says below.
@@ -41,7 +47,7 @@ enum {
     KILMSTRA_LEVELS = 8,             /* a level block has at most so many */
     KILMSTRA_STATE_BYTES = 217,      /* a state has exactly so many */
     KILMSTRA_LEVEL_BLOCK_BYTES = 11, /* enough for every level block */
-    KILMSTRA_BLOCK_BYTES = 74,       /* enough for every plan block */
+    KILMSTRA_BLOCK_BYTES = 96,       /* enough for every plan block */
     KILMSTRA_QUEUE_BYTES = 48        /* enough for every queue */
 };
 
@@ -59,11 +65,13 @@ enum kilmstra_refusal {
     KILMSTRA_WRONG_LEVEL_LENGTH = 19, /* its length is not its count's, or its closing bits are set */
     KILMSTRA_WRONG_SPEED = 20,        /* a speed not 1 to 1,000, or not above the one before it */
     KILMSTRA_SHORT_BLOCK = 1,         /* the plan block has fewer than 2 bytes */
-    KILMSTRA_WRONG_EDITION = 2,       /* the edition is not 1 */
+    KILMSTRA_WRONG_EDITION = 2,       /* the edition is not 1 or 2 */
     KILMSTRA_WRONG_COUNT = 3,         /* there are not 1 to 16 tasks */
-    KILMSTRA_WRONG_LENGTH = 4,        /* the plan block's length is not its count's */
-    KILMSTRA_CLOSING_BITS = 5,        /* bits after the last task are set */
-    KILMSTRA_OUT_OF_RANGE = 6,        /* a period not 1 to 65,535, a worst case not 1 to 1,048,575 */
+    KILMSTRA_WRONG_LENGTH = 4,        /* the plan block's length is not its edition's and count's */
+    KILMSTRA_CLOSING_BITS = 5,        /* bits after the last task, or spare bits of a task, are set */
+    KILMSTRA_OUT_OF_RANGE = 6,        /* a period not 1 to 65,535, a worst case not 1 to 1,048,575,
+                                         fixed ticks above 255 */
+    KILMSTRA_NO_ADDITION = 21,        /* a plan block of edition 2 in which no task has fixed ticks */
     KILMSTRA_LONG_HYPERPERIOD = 7,    /* the least common multiple of all periods is over 1,000,000 */
     KILMSTRA_OVERLOAD = 8,            /* the plan is too much for the highest level */
     KILMSTRA_SHORT_BUFFER = 9,        /* what is to be written does not fit the lent buffer */
@@ -71,22 +79,25 @@ enum kilmstra_refusal {
     KILMSTRA_NO_TICK = 11,            /* d is 0 */
     KILMSTRA_PAST_ARRIVAL = 12,       /* d goes past the next arrival */
     KILMSTRA_NOTHING_RUNS = 13,       /* finished, though the order is to stay idle */
-    KILMSTRA_PAST_WORST_CASE = 14,    /* the running job would have used up more than its worst case */
+    KILMSTRA_PAST_WORST_CASE = 14,    /* the running job would have used up more than its fixed ticks
+                                         and its worst case */
     KILMSTRA_PAST_LARGEST_CLOCK = 15, /* the clock would go past 4,000,000,000 */
     KILMSTRA_ODD_BYTE = 16            /* the bench program alone: a byte is left at the end */
 };
 
-/* A task in a list: its period in ticks and its worst case in units of work. */
+/* A task in a list: its period in ticks, its worst case in units of work, and its fixed ticks, 0 to
+ * 255. */
 struct kilmstra_task {
     uint32_t period;
     uint32_t worst;
+    uint32_t fixed;
 };
 
 /* Starts a plan over the speeds of a level block at tick 0, where a job of every task arrives, and
  * answers with the first order.
  * Writes the first 217 bytes of state; bytes past them stay as they were.
- * Refuses with 18 to 20, then with 1 to 8, as reading the two blocks does, then with 9 if state has
- * fewer than 217 bytes. */
+ * Refuses with 18 to 20, then with 1 to 6, 21, 7, 8, as reading the two blocks does, then with 9 if
+ * state has fewer than 217 bytes. */
 uint64_t kilmstra_start(const uint8_t *levels, size_t levels_len,
                         const uint8_t *block, size_t block_len, uint8_t *state, size_t state_len);
 
@@ -115,21 +126,22 @@ uint64_t kilmstra_judge_list(const uint8_t *levels, size_t levels_len,
                              const struct kilmstra_task *tasks, size_t count);
 
 /* Judges a plan of so many tasks over the speeds of a level block and answers with the nominal level
- * and the hyperperiod. The numbers are a period and a worst case for each task in turn; one that is
- * not there is 0, and one past the count is not looked at. Writes nothing.
+ * and the hyperperiod. The numbers are three for each task in turn, its period, its worst case and its
+ * fixed ticks; one that is not there is 0, and one past the count is not looked at. Writes nothing.
  * Refuses with 18 to 20, then with 3, 6, 7, 8. */
 uint64_t kilmstra_plan_judge(const uint8_t *levels, size_t levels_len,
                              size_t count, const uint32_t *numbers, size_t numbers_len);
 
 /* Reads a plan block over the speeds of a level block and answers with the nominal level and the
  * hyperperiod. Writes nothing.
- * Refuses with 18 to 20, then with 1 to 8. */
+ * Refuses with 18 to 20, then with 1 to 6, 21, 7, 8. */
 uint64_t kilmstra_plan_read(const uint8_t *levels, size_t levels_len,
                             const uint8_t *block, size_t block_len);
 
-/* Writes the block of a plan, which is given as for judging, and answers with the count of bytes:
- * 6 for one task, 74 for sixteen. The speeds are not in it: they only say whether the plan is
- * accepted.
+/* Writes the block of a plan, which is given as for judging, and answers with the count of bytes.
+ * Where no task has fixed ticks, the block is of edition 1: 6 bytes for one task, 74 for sixteen. Else
+ * it is of edition 2: 7 bytes for one task, 96 for sixteen; a library that has edition 1 alone refuses
+ * to read it with 2. The speeds are not in it: they only say whether the plan is accepted.
  * Leaves the bytes of buffer past those written as they were.
  * Refuses with 18 to 20, then with 3, 6, 7, 8, then with 9 if the block does not fit. */
 uint64_t kilmstra_plan_write(const uint8_t *levels, size_t levels_len,
@@ -139,7 +151,7 @@ uint64_t kilmstra_plan_write(const uint8_t *levels, size_t levels_len,
 /* Reads a plan block, as kilmstra_plan_read does, writes its plan again, which gives the same bytes,
  * and answers with their count.
  * Leaves the bytes of buffer past those written as they were.
- * Refuses with 18 to 20, then with 1 to 8, then with 9 if the block does not fit. */
+ * Refuses with 18 to 20, then with 1 to 6, 21, 7, 8, then with 9 if the block does not fit. */
 uint64_t kilmstra_plan_copy(const uint8_t *levels, size_t levels_len,
                             const uint8_t *block, size_t block_len,
                             uint8_t *buffer, size_t buffer_len);

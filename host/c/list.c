@@ -16,12 +16,12 @@ static void print_base_speeds(void)
     const uint8_t *levels = kilmstra_base_levels;
     size_t length = sizeof kilmstra_base_levels;
     printf("%u levels:", kilmstra_level_count(kilmstra_levels_read(levels, length)));
-    uint32_t task[2] = {1, 1};
-    uint64_t reply = kilmstra_plan_judge(levels, length, 1, task, 2);
+    uint32_t task[3] = {1, 1, 0};
+    uint64_t reply = kilmstra_plan_judge(levels, length, 1, task, 3);
     while (!kilmstra_is_refused(reply)) {
         unsigned level = kilmstra_nominal_level(reply);
         uint32_t worst = task[1]++;
-        reply = kilmstra_plan_judge(levels, length, 1, task, 2);
+        reply = kilmstra_plan_judge(levels, length, 1, task, 3);
         if (kilmstra_is_refused(reply) || kilmstra_nominal_level(reply) != level) {
             printf(" %lu", (unsigned long)worst);
         }
@@ -41,10 +41,24 @@ static void print_judged(const char *what, size_t count)
     }
 }
 
-static void set(size_t place, uint32_t period, uint32_t worst)
+static void set(size_t place, uint32_t period, uint32_t worst, uint32_t fixed)
 {
     tasks[place].period = period;
     tasks[place].worst = worst;
+    tasks[place].fixed = fixed;
+}
+
+/* 255 fixed ticks leave one tick of 256 for the work, at whichever level. */
+static void print_fixed_ticks(void)
+{
+    set(0, 256, 10, 255);
+    print_judged("the most fixed ticks", 1);
+    set(0, 256, 100, 255);
+    print_judged("with as much work as a tick can do", 1);
+    set(0, 255, 10, 255);
+    print_judged("with no tick for the work", 1);
+    set(0, 65535, 10, 256);
+    print_judged("one fixed tick too many", 1);
 }
 
 int main(void)
@@ -52,26 +66,31 @@ int main(void)
     print_base_speeds();
     print_judged("no task", 0);
 
-    set(0, 10, 400);
-    set(1, 10, 400);
-    set(2, 30, 600);
+    set(0, 10, 400, 0);
+    set(1, 10, 400, 0);
+    set(2, 30, 600, 0);
     print_judged("the bench plan", 3);
-    set(2, 30, 601);
+    set(2, 30, 601, 0);
     print_judged("with one unit more", 3);
-    set(2, 30, 0);
+    set(2, 30, 600, 1);
+    print_judged("with one fixed tick", 3);
+    set(2, 30, 0, 0);
     print_judged("with no work", 3);
+    set(2, 30, 0, 6);
+    print_judged("with fixed ticks alone", 3);
 
-    set(0, 15625, 1);
-    set(1, 64, 1);
+    set(0, 15625, 1, 0);
+    set(1, 64, 1, 0);
     print_judged("the largest hyperperiod", 2);
-    set(0, 1000, 1);
-    set(1, 1001, 1);
+    set(0, 1000, 1, 0);
+    set(1, 1001, 1, 0);
     print_judged("a larger one", 2);
 
     for (size_t place = 0; place < MOST; place++) {
-        set(place, 1000, 1200);
+        set(place, 1000, 1200, 0);
     }
     print_judged("sixteen tasks", 16);
     print_judged("seventeen tasks", 17);
+    print_fixed_ticks();
     return 0;
 }

@@ -17,7 +17,8 @@ static void fail_safe(unsigned refusal);
 
 enum { TASKS = 3, MOST_ORDERS = 20 };
 
-static const uint32_t plan[2 * TASKS] = {10, 400, 10, 400, 30, 600};
+/* A period, a worst case and fixed ticks for each task. */
+static const uint32_t plan[3 * TASKS] = {10, 400, 0, 10, 400, 0, 30, 600, 0};
 
 /* The ticks that each job takes, in the order in which they run; one with 0 never ends. */
 static const uint32_t taken[MOST_ORDERS] = {1, 7, 2, 4, 4, 5};
@@ -67,7 +68,7 @@ int main(void)
     size_t size = sizeof kilmstra_base_levels;
     uint8_t block[KILMSTRA_BLOCK_BYTES];
     uint64_t written =
-        kilmstra_plan_write(levels, size, TASKS, plan, 2 * TASKS, block, sizeof block);
+        kilmstra_plan_write(levels, size, TASKS, plan, 3 * TASKS, block, sizeof block);
     if (kilmstra_is_refused(written)) {
         return 1;
     }

@@ -46,8 +46,13 @@ period-high t h = simp (lt-leb (t .period) 65535 h, both-false)
 pub worst-low : (t : Task) → 1 ≤ t .period → t .period ≤ 65535 → t .worst < 1 → false ≡ inRange t
 worst-low t a b h = simp (le-leb 1 (t .period) a, le-leb (t .period) 65535 b, lt-leb 1 (t .worst) h)
 
-pub worst-high : (t : Task) → 1 ≤ t .period → t .period ≤ 65535 → 1 ≤ t .worst → leb (t .worst) 1048575 ≡ inRange t
-worst-high t a b h = simp (le-leb 1 (t .period) a, le-leb (t .period) 65535 b, le-leb 1 (t .worst) h)
+pub worst-high : (t : Task) → 1 ≤ t .period → t .period ≤ 65535 → 1048575 < t .worst → false ≡ inRange t
+worst-high t a b h = simp (le-leb 1 (t .period) a, le-leb (t .period) 65535 b, lt-leb (t .worst) 1048575 h, both-false)
+
+pub fixed-high :
+    (t : Task) → 1 ≤ t .period → t .period ≤ 65535 → 1 ≤ t .worst → t .worst ≤ 1048575 → leb (t .fixed) 255 ≡ inRange t
+fixed-high t a b l h =
+    simp (le-leb 1 (t .period) a, le-leb (t .period) 65535 b, le-leb 1 (t .worst) l, le-leb (t .worst) 1048575 h)
 
 -- a plan as the code holds it
 pub record Held (p : Plan) : Type 0 where
@@ -145,7 +150,7 @@ pub record Asked (p : Plan) (jobs : List ℕ) (speed : ℕ) : Type 0 where
 pub record Summed (p : Plan) (jobs : List ℕ) (speed total i : ℕ) : Type 0 where
   pub within : i ≤ p .count
   pub sum : total ≡ sumTo i (jobsTime speed p jobs)
-  pub small : total ≤ 1048575000000 * i
+  pub small : total ≤ 1048830000000 * i
 
 pub summed-all :
     {p : Plan} {jobs : List ℕ} {speed total i : ℕ} →
@@ -163,10 +168,11 @@ pub record Added (p : Plan) (jobs : List ℕ) (speed i ticks : ℕ) : Type 0 whe
   pub needed : ticks ≡ taskTime speed (getD (p .tasks) i noTask)
 
 module _ {p : Plan} {jobs : List ℕ} {speed i ticks : ℕ} (a : Added p jobs speed i ticks) where
-  pub added-small : ticks * getD jobs i 0 ≤ 1048575000000
+  pub added-small : ticks * getD jobs i 0 ≤ 1048830000000
   added-small =
       let t : Task = getD (p .tasks) i noTask in
-      let short : ticks ≤ 1048575 = omega (arith, a .needed, time-short speed (whole t) (a .asked .positive), task-at (a .asked .plan) i (a .below) .worst-high) in
+      let range : InRange t = task-at (a .asked .plan) i (a .below) in
+      let short : ticks ≤ 1048830 = omega (arith, a .needed, time-short speed (whole t) (a .asked .positive), range .worst-high, range .fixed-high) in
       mul-le-mul short (a .asked .few i (a .below))
 
   pub summed-more : {total : ℕ} → Summed p jobs speed total i → Summed p jobs speed (total + ticks * getD jobs i 0) (i + 1)

@@ -31,10 +31,13 @@ fn task_in_range(t: Task) -> bool
     if t.worst < 1 {
         return false;
     }
-    t.worst <= 1048575
+    if t.worst > 1048575 {
+        return false;
+    }
+    t.fixed <= 255
 }
 
-// Question 6: whether each period and worst case is in its range.
+// Question 6: whether each task's period, worst case and fixed ticks are in their range.
 pub fn in_range(p: Plan) -> bool
     requires { ⌜ p .count ≤ 16 ⌝ }
     ensures { λ r. ⌜ r ≡ rangeQuestion (tasksOf p) .reply ⌝ }

@@ -1,5 +1,5 @@
--- A block is laid out exactly if the zero bytes in front of the entries, past the numbers of each entry, and past the entries are zero, and
--- the speeds past the count of levels.
+-- A block is laid out exactly if the zero byte in front of the entries is zero, and so are the bytes past the entries and the speeds past
+-- the count of levels.
 -- Assumes nothing.
 use Prim.Native.Nat.{ℕ, zero, suc, _+_, _-_, _*_, _<_, _≤_}
 use mathlib.Core.Path.{_≡_, refl, sym, ap, ap₂, _∙_}
@@ -19,12 +19,12 @@ use Rattle.arith.specs.Digits.{number, digits}
 use Rattle.arith.proofs.Tests.{same-test}
 use Rattle.arith.proofs.DigitLaws.{length-digits, number-digits, digits-number}
 use Rattle.reclaiming.specs.Fields.{Field, field, zeros, fieldsBytes, fieldsLength, offsetOf, readField}
-use Rattle.reclaiming.specs.StateBlock.{State, headFields, zeroField, entryFields, pairField, tailFields, places, headLength, entryLength, tailAt, stateLength}
+use Rattle.reclaiming.specs.StateBlock.{State, headFields, zeroField, entryFields, tailFields, places, headLength, entryLength, tailAt, stateLength}
 use Rattle.reclaiming.specs.StateBlock.{levelPlaces, speedField, speedIn, entryBytes, entriesBytes, encode, entryFrom, entriesFrom, stateCount, decode, sameBytes, laidOut}
-use Rattle.state.specs.Code.{entryAt, numberIn, zerosIn, pairsZero, unusedZero}
+use Rattle.state.specs.Code.{entryAt, unusedZero}
 use Rattle.reclaiming.proofs.StateCodec.{pastHead, speed-back, length-entriesFrom, same-bytes, bytes-same}
 use Rattle.state.proofs.TailLaws.{levels-in, speed-small, speeds-same, same-unused}
-use Rattle.state.proofs.BlockLaws.{count-in, byte-field, field-in, bytes-past}
+use Rattle.state.proofs.BlockLaws.{count-in, byte-field, bytes-past}
 
 -- two tests, of which the second passes, or of which there are three
 both-yes : (b : Bool) → both b true ≡ b
@@ -34,47 +34,6 @@ both-yes false = refl
 both-assoc : (a b c : Bool) → both a (both b c) ≡ both (both a b) c
 both-assoc true b c = refl
 both-assoc false b c = refl
-
--- a loop over the zero bytes of the entries: those of the first i entries are zero
-pub record PairsTo (bytes : List ℕ) (count i : ℕ) : Type 0 where
-  pub below : i ≤ count
-  pub left : pairsZero (count - i) (drop (entryAt i) bytes) ≡ pairsZero count (drop headLength bytes)
-
-pub pairs-none : (bytes : List ℕ) (count : ℕ) → PairsTo bytes count 0
-pairs-none bytes count =
-    let n : count - 0 ≡ count = omega arith in
-    record { below = omega arith; left = ap (λ (k : ℕ). pairsZero k (drop headLength bytes)) n }
-
-module _ {bytes : List ℕ} {count i : ℕ} (so-far : PairsTo bytes count i) where
-  pub pairs-all : count ≤ i → true ≡ pairsZero count (drop headLength bytes)
-  pairs-all h =
-      let n : count - i ≡ 0 = omega arith in
-      sym (ap (λ (k : ℕ). pairsZero k (drop (entryAt i) bytes)) n) ∙ so-far .left
-
-  -- the zero bytes of entry i, as a number
-  module _ (h : i < count) {x : ℕ} (read : x ≡ numberIn bytes pairField i) where
-    abbrev after : Bool
-    after = pairsZero (count - (i + 1)) (drop (entryAt (i + 1)) bytes)
-
-    pairs-cons : both (eqb x 0) after ≡ pairsZero count (drop headLength bytes)
-    pairs-cons =
-        let n : count - i ≡ suc (count - (i + 1)) = omega arith in
-        let b : entryAt i + entryLength ≡ entryAt (i + 1) = omega arith in
-        sym
-        (ap (λ (k : ℕ). pairsZero k (drop (entryAt i) bytes)) n
-        ∙ ap₂ (λ (t : Bool) (l : List ℕ). both t (pairsZero (count - (i + 1)) l))
-        (both-yes (eqb (readField entryFields pairField (drop (entryAt i) bytes)) 0) ∙ ap (λ (y : ℕ). eqb y 0) (sym (read ∙ field-in bytes pairField i)))
-        (drop-drop entryLength (entryAt i) bytes ∙ ap (λ (k : ℕ). drop k bytes) b))
-        ∙ so-far .left
-
-    pub pairs-not : (x ≡ 0 → ⊥) → false ≡ pairsZero count (drop headLength bytes)
-    pairs-not z = sym (ap (λ (t : Bool). both t after) (ne-eqb x 0 z)) ∙ pairs-cons
-
-    pub pairs-more : x ≡ 0 → PairsTo bytes count (i + 1)
-    pairs-more z = record {
-      below = omega arith;
-      left = sym (ap (λ (t : Bool). both t after) (eq-eqb x 0 z)) ∙ pairs-cons;
-    }
 
 -- the sum of bytes
 abbrev byteSum : List ℕ → ℕ
@@ -177,6 +136,12 @@ numbersAt [] at bytes = []
 numbersAt (field n value ∷ fs) at bytes = number 256 n (drop at bytes) ∷ numbersAt fs (at + n) bytes
 numbersAt (zeros n ∷ fs) at bytes = numbersAt fs (at + n) bytes
 
+-- whether the zero bytes among some fields are zero, where the fields begin at a place
+abbrev zerosIn : {X : Type 0} → List (Field X) → ℕ → List ℕ → Bool
+zerosIn [] at bytes = true
+zerosIn (field n value ∷ fs) at bytes = zerosIn fs (at + n) bytes
+zerosIn (zeros n ∷ fs) at bytes = both (eqb (number 256 n (drop at bytes)) 0) (zerosIn fs (at + n) bytes)
+
 -- bytes are those of the numbers read off them exactly if the zero bytes are zero
 module _ {X : Type 0} (x : X) (l rest : List ℕ) (small : (k : ℕ) → getD l k 0 < 256) where
   same-fields :
@@ -217,7 +182,7 @@ same-entries :
     entryLength * n + m ≤ length l →
     ((k : ℕ) → getD l k 0 < 256) →
     sameBytes (entriesBytes (entriesFrom n l) ++ (replicate m 0 ++ rest)) l
-    ≡ both (pairsZero n l) (both (every (eqb 0) (take m (drop (entryLength * n) l))) (sameBytes rest (drop (entryLength * n + m) l)))
+    ≡ both (every (eqb 0) (take m (drop (entryLength * n) l))) (sameBytes rest (drop (entryLength * n + m) l))
 same-entries zero m l rest h b =
     let z : m ≡ entryLength * 0 + m = omega arith in
     same-front m (replicate m 0) rest l (length-replicate m 0) (omega arith)
@@ -225,18 +190,14 @@ same-entries zero m l rest h b =
 same-entries (suc n) m l rest h b =
     let d : List ℕ = drop entryLength l in
     let after : List ℕ = entriesBytes (entriesFrom n d) ++ (replicate m 0 ++ rest) in
-    let zeros-here : Bool = zerosIn entryFields 0 l in
     let p : entryLength + entryLength * n ≡ entryLength * suc n = omega arith in
     let q : entryLength + (entryLength * n + m) ≡ entryLength * suc n + m = omega arith in
     ap (λ (y : List ℕ). sameBytes y l) (append-assoc (entryBytes (entryFrom l)) (entriesBytes (entriesFrom n d)) (replicate m 0 ++ rest))
     ∙ same-fields (entryFrom l) l after b entryFields 0 (omega arith) refl
-    ∙ ap (λ (t : Bool). both zeros-here t)
-    (same-entries n m d rest (omega (arith, length-drop entryLength l)) (bytes-past entryLength l b)
-    ∙ ap₂ (λ (x y : List ℕ). both (pairsZero n d) (both (every (eqb 0) (take m x)) (sameBytes rest y)))
+    ∙ same-entries n m d rest (omega (arith, length-drop entryLength l)) (bytes-past entryLength l b)
+    ∙ ap₂ (λ (x y : List ℕ). both (every (eqb 0) (take m x)) (sameBytes rest y))
     (drop-drop (entryLength * n) entryLength l ∙ ap (λ (k : ℕ). drop k l) p)
-    (drop-drop (entryLength * n + m) entryLength l ∙ ap (λ (k : ℕ). drop k l) q))
-    ∙ both-assoc zeros-here (pairsZero n d)
-    (both (every (eqb 0) (take m (drop (entryLength * suc n) l))) (sameBytes rest (drop (entryLength * suc n + m) l)))
+    (drop-drop (entryLength * n + m) entryLength l ∙ ap (λ (k : ℕ). drop k l) q)
 
 -- a part of a list, cut off in front or behind first
 drop-take : (a m : ℕ) (l : List ℕ) → a + m ≤ length l → drop a (take (a + m) l) ≡ take m (drop a l)
@@ -244,9 +205,6 @@ drop-take a m l h =
     ap (λ (x : List ℕ). drop a x) (take-add a m l) ∙ drop-at (take a l) (take m (drop a l)) a (length-take-le a l (omega arith))
 
 -- the tests of a block past its head
-abbrev pairsIn : List ℕ → Bool
-pairsIn block = pairsZero (stateCount block) (drop headLength block)
-
 abbrev zerosPast : List ℕ → Bool
 zerosPast block = every (eqb 0) (drop (entryAt (stateCount block)) (take tailAt block))
 
@@ -298,7 +256,7 @@ module _ {block : List ℕ} (known : BlockBytes block) where
   tail-same : sameBytes (fieldsBytes tailFields s) tail ≡ unusedZero block
   tail-same = same-test (sameBytes (fieldsBytes tailFields s) tail) (unusedZero block) tail-read tail-written
 
-  entries-same : sameBytes (pastHead s) (drop headLength block) ≡ both (pairsIn block) (both (zerosPast block) (unusedZero block))
+  entries-same : sameBytes (pastHead s) (drop headLength block) ≡ both (zerosPast block) (unusedZero block)
   entries-same =
       let n : ℕ = stateCount block in
       let m : ℕ = entryLength * (places - n) in
@@ -309,14 +267,14 @@ module _ {block : List ℕ} (known : BlockBytes block) where
       ap (λ (k : ℕ). sameBytes (entriesBytes (entriesFrom n l) ++ (replicate (entryLength * (places - k)) 0 ++ last)) l) (count-in block)
       ∙ same-entries n m l last (omega (arith, length-drop headLength block, known .size, known .few))
       (bytes-past headLength block (known .bytes))
-      ∙ ap₂ (λ (x y : List ℕ). both (pairsIn block) (both (every (eqb 0) x) (sameBytes last y)))
+      ∙ ap₂ (λ (x y : List ℕ). both (every (eqb 0) x) (sameBytes last y))
       (ap (λ (x : List ℕ). take m x) (drop-drop (entryLength * n) headLength block)
       ∙ sym (drop-take (entryAt n) m block (omega (arith, known .size)))
       ∙ ap (λ (k : ℕ). drop (entryAt n) (take k block)) q)
       (drop-drop (entryLength * n + m) headLength block ∙ ap (λ (k : ℕ). drop k block) p)
-      ∙ ap (λ (t : Bool). both (pairsIn block) (both (zerosPast block) t)) tail-same
+      ∙ ap (λ (t : Bool). both (zerosPast block) t) tail-same
 
-  layout : laidOut block ≡ both (zerosIn headFields 0 block) (both (pairsIn block) (both (zerosPast block) (unusedZero block)))
+  layout : laidOut block ≡ both (zerosIn headFields 0 block) (both (zerosPast block) (unusedZero block))
   layout =
       ap (λ (t : Bool). both t (sameBytes (encode s) block)) (eq-eqb (length block) stateLength (known .size))
       ∙ same-fields s block (pastHead s) (known .bytes) headFields 0 (omega (arith, known .size)) (simp length-entriesFrom)
@@ -331,32 +289,19 @@ module _ {block : List ℕ} (known : BlockBytes block) where
 
     pub zero-not : (z ≡ 0 → ⊥) → false ≡ laidOut block
     zero-not f =
-        sym
-        (layout
-        ∙ ap (λ (t : Bool). both t (both (pairsIn block) (both (zerosPast block) (unusedZero block)))) (head-is ∙ ne-eqb z 0 f))
+        sym (layout ∙ ap (λ (t : Bool). both t (both (zerosPast block) (unusedZero block))) (head-is ∙ ne-eqb z 0 f))
 
-    module _ (zero-byte : z ≡ 0) {count : ℕ} (counted : count ≡ stateCount block) {x : Bool} (paired : x ≡ pairsZero count (drop headLength block)) where
-      abbrev past : Bool
-      past = both (zerosPast block) (unusedZero block)
+    module _ (zero-byte : z ≡ 0) {count : ℕ} (counted : count ≡ stateCount block)
+        {y : Bool} (cleared : y ≡ every (eqb 0) (drop (entryAt count) (take tailAt block))) where
+      places-are : y ≡ zerosPast block
+      places-are = cleared ∙ ap (λ (n : ℕ). every (eqb 0) (drop (entryAt n) (take tailAt block))) counted
 
-      head-zero : laidOut block ≡ both x past
+      head-zero : laidOut block ≡ both y (unusedZero block)
       head-zero =
-          layout
-          ∙ ap₂ (λ (s t : Bool). both s (both t past)) (head-is ∙ eq-eqb z 0 zero-byte)
-          (sym (paired ∙ ap (λ (n : ℕ). pairsZero n (drop headLength block)) counted))
+          layout ∙ ap₂ (λ (s t : Bool). both s (both t (unusedZero block))) (head-is ∙ eq-eqb z 0 zero-byte) (sym places-are)
 
-      pub pairs-decide : x ≡ false → false ≡ laidOut block
-      pairs-decide f = sym (head-zero ∙ ap (λ (t : Bool). both t past) f)
+      pub zeros-decide : y ≡ false → false ≡ laidOut block
+      zeros-decide f = sym (head-zero ∙ ap (λ (t : Bool). both t (unusedZero block)) f)
 
-      module _ (pairs : x ≡ true) {y : Bool} (cleared : y ≡ every (eqb 0) (drop (entryAt count) (take tailAt block))) where
-        places-are : y ≡ zerosPast block
-        places-are = cleared ∙ ap (λ (n : ℕ). every (eqb 0) (drop (entryAt n) (take tailAt block))) counted
-
-        pairs-zero : laidOut block ≡ both y (unusedZero block)
-        pairs-zero = head-zero ∙ ap₂ (λ (t u : Bool). both t (both u (unusedZero block))) pairs (sym places-are)
-
-        pub zeros-decide : y ≡ false → false ≡ laidOut block
-        zeros-decide f = sym (pairs-zero ∙ ap (λ (t : Bool). both t (unusedZero block)) f)
-
-        pub unused-decide : {u : Bool} → y ≡ true → u ≡ unusedZero block → u ≡ laidOut block
-        unused-decide f found = found ∙ sym (pairs-zero ∙ ap (λ (t : Bool). both t (unusedZero block)) f)
+      pub unused-decide : {u : Bool} → y ≡ true → u ≡ unusedZero block → u ≡ laidOut block
+      unused-decide f found = found ∙ sym (head-zero ∙ ap (λ (t : Bool). both t (unusedZero block)) f)

@@ -1,9 +1,7 @@
-// Whether a state block is laid out as a state is: its zero bytes, the places past its count, and the speeds past its count of levels.
+// Whether a state block is laid out as a state is: its zero byte, the places past its count, and the speeds past its count of levels.
 use state::ENTRY_LENGTH;
 use state::HEAD_LENGTH;
 use state::LEVEL_PLACES;
-use state::PAIR_AT;
-use state::PAIR_WIDTH;
 use state::TAIL_AT;
 use state::ZERO_AT;
 use state::count_at;
@@ -14,8 +12,8 @@ ghost use Prim.Native.Nat.{_≤_};
 ghost use lib.Dec.{eqb};
 ghost use lib.ListN.{length, take, drop};
 ghost use Rattle.arith.specs.Choice.{every};
-ghost use Rattle.reclaiming.specs.StateBlock.{places, headLength, stateLength, tailAt, stateCount, laidOut};
-ghost use Rattle.state.specs.Code.{pairsZero, unusedZero};
+ghost use Rattle.reclaiming.specs.StateBlock.{places, stateLength, tailAt, stateCount, laidOut};
+ghost use Rattle.state.specs.Code.{unusedZero};
 
 // Whether every speed past the count of levels is zero.
 fn unused_zero(block: &[u8]) -> bool
@@ -28,21 +26,6 @@ fn unused_zero(block: &[u8]) -> bool
             return false;
         }
         k += 1;
-    }
-    true
-}
-
-// Whether the two bytes past the fields of each of so many entries are zero.
-fn pairs_zero(block: &[u8], count: usize) -> bool
-    requires { ⌜ (count ≤ places) × (length (now block) ≡ stateLength) ⌝ }
-    ensures { λ r. ⌜ r ≡ pairsZero count (drop headLength (now (block .entry))) ⌝ }
-{
-    let mut i: usize = 0;
-    while i < count {
-        if numeric::get_number(block, PAIR_AT + ENTRY_LENGTH * i, PAIR_WIDTH) != 0 {
-            return false;
-        }
-        i += 1;
     }
     true
 }
@@ -70,9 +53,6 @@ pub fn laid_out(block: &[u8]) -> bool
         return false;
     }
     let count = count_at(block);
-    if !pairs_zero(block, count) {
-        return false;
-    }
     if !zero_from(block, HEAD_LENGTH + ENTRY_LENGTH * count) {
         return false;
     }

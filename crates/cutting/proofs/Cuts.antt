@@ -5,13 +5,12 @@ use mathlib.Core.Bool.{Bool, true, false}
 use mathlib.Core.Path.{_≡_, refl, sym, ap, ap₂, _∙_}
 use mathlib.Core.List.{List}
 use native.Mathlib.Omega.{arith}
-use borrow.Author.Tests.{eq-eqb, ne-eqb}
 use lib.ListN.{length}
 use Rattle.arith.specs.Choice.{pick}
 use Rattle.plan.specs.LevelBlocks.{levelCountIn, levelLength}
 use Rattle.plan.specs.Blocks.{editionIn, countIn, blockLength}
 use Rattle.arith.specs.Asking.{within}
-use Rattle.arith.proofs.QuestionLaws.{within-low, within-true, within-under, within-over}
+use Rattle.arith.proofs.QuestionLaws.{within-low, within-high, within-true, within-under, within-over}
 use Rattle.plan.proofs.BlockBits.{blockLength-least}
 use Rattle.transcript.specs.Listing.{levelCut, cutEdition, planCut}
 
@@ -37,11 +36,16 @@ module _ (most wanted k n : ℕ) where
   good-at a b = sym (ap (λ (t : Bool). pick t (min wanted n) n) (within-true 1 most k a b))
 
 -- the edition that is cut by
-pub edition-known : (edition : ℕ) → edition ≡ 1 → edition ≡ cutEdition edition
-edition-known edition h = simp (eq-eqb edition 1 h)
+pub edition-two : (edition : ℕ) → edition ≡ 2 → 2 ≡ cutEdition edition
+edition-two edition h = sym (ap cutEdition h)
 
-pub edition-unknown : (edition : ℕ) → (edition ≡ 1 → ⊥) → 1 ≡ cutEdition edition
-edition-unknown edition h = simp (ne-eqb edition 1 h)
+pub edition-else : (edition : ℕ) → (edition ≡ 2 → ⊥) → 1 ≡ cutEdition edition
+edition-else edition h =
+    only (within 1 2 edition) (λ b. omega (arith, h, within-low 1 2 edition b, within-high 1 2 edition b))
+  where
+    only : (b : Bool) → (b ≡ true → edition ≡ 1) → 1 ≡ pick b edition 1
+    only true e = sym (e refl)
+    only false e = refl
 
 -- what the cut is, and that it lies within the input
 abbrev Cut : List ℕ → ℕ → Type 0

@@ -4,12 +4,12 @@ ghost use Prim.Native.Nat.{_≤_};
 ghost use lib.ListN.{length};
 ghost use Rattle.transcript.specs.Listing.{cutEdition, levelCut, planCut};
 
-// The edition that an input is cut by: one that is not 1 is refused whatever is cut.
+// The edition that an input is cut by: one that is neither 1 nor 2 is refused whatever is cut, and is cut as 1.
 fn cut_edition(edition: u32) -> u32
     ensures { λ r. ⌜ r ≡ cutEdition edition ⌝ }
 {
-    if edition == 1 {
-        return edition;
+    if edition == 2 {
+        return 2;
     }
     1
 }

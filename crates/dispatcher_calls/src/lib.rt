@@ -10,7 +10,7 @@ ghost use Rattle.plan.specs.Numbers.{writtenNumber};
 ghost use Rattle.reclaiming.specs.Calls.{startReply, startBuffer, passReply, passBytes, showReply, showBuffer};
 ghost use Rattle.reclaiming.specs.Numbers.{replyNumber, isYes};
 
-// Starts a plan's block over a level block into a state of 217 bytes: 18 to 20, then 1 to 9, is a refusal's number; else the order.
+// Starts a plan's block over a level block into a state of 217 bytes: 18 to 20, 1 to 9 or 21 is a refusal's number; else the order.
 #[no_mangle]
 pub extern "C" fn kilmstra_start(levels: &[u8], block: &[u8], state: &mut [u8]) -> u64
     ensures { λ r. ⌜ r ≡ replyNumber (startReply (now (levels .entry)) (now (block .entry)) (length (now (state .entry)))) ⌝ }

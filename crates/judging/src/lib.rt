@@ -23,6 +23,7 @@ pub fn empty_plan() -> Plan
         tasks: [Task {
             period: 0,
             worst: 0,
+            fixed: 0,
         }; 16],
     }
 }

@@ -63,7 +63,7 @@ pub fn level_for(
 
 // A run order of task i, with the time that is left of its job.
 fn running_order(speeds: &[u32; 8], levels: usize, i: usize, level: usize, rest: Rest) -> Choice
-    requires { ⌜ Table (now speeds) levels × (i < places) × (level < levels) × (rest .work < 16777216) ⌝ }
+    requires { ⌜ Table (now speeds) levels × (i < places) × (level < levels) × (rest .fixed < 256) × (rest .work < 16777216) ⌝ }
     ensures { λ r. ⌜ r ≡ runOf (loaded (now (speeds .entry)) levels) i level rest ⌝ }
 {
     let time = times::time_of(speeds[level], rest);

@@ -1,28 +1,40 @@
 -- The plan block bit by bit, in any edition: how long it is, what stands at each place, and what is read from each place.
 -- Assumes nothing.
 use Prim.Native.Nat.{ℕ, zero, suc, _+_, _-_, _*_, _/_, _%_, _^_, _<_, _≤_}
-use mathlib.Core.Path.{_≡_, refl, sym, subst, ap, _∙_}
+use mathlib.Core.Path.{_≡_, refl, sym, subst, ap, ap₂, _∙_}
+use mathlib.Core.Bool.{Bool, true, false}
 use mathlib.Core.List.{List, [], _∷_, _++_}
-use native.Mathlib.Nat.{not-suc-le-zero, mul-le-mul, mul-le-mul-left, mul-suc}
+use native.Mathlib.Nat.{zero-div, not-suc-le-zero, mul-le-mul, mul-le-mul-left, mul-suc}
 use native.Mathlib.Omega.{arith}
+use lib.Dec.{eqb}
 use lib.ListN.{length, getD, drop, length-append, List·getD-eq-default}
 use lib.Seq.{drop-at, drop-drop, getD-drop}
+use Rattle.arith.specs.Choice.{pick}
 use Rattle.arith.specs.Need.{need}
 use Rattle.arith.specs.Digits.{number, digits}
-use Rattle.arith.specs.Bits.{fieldsBits}
+use Rattle.arith.specs.Bits.{widthOf, fieldsBits}
+use Rattle.arith.proofs.Tests.{passed, failed, tested}
 use Rattle.arith.proofs.ListLaws.{getD-early}
 use Rattle.arith.proofs.BitLaws.{length-packed, packed-at}
 use Rattle.arith.proofs.FieldLaws.{Below, below-append, digits-below, field-bit, field-past, length-fields, fields-below}
 use Rattle.plan.specs.declared.Task.{Task}
-use Rattle.plan.specs.Blocks.{taskWidths, taskNumbers, taskWidth, taskBits, tasksBits, planBits, editionOf, planBlock, bitCount, blockLength, editionIn, countIn, taskFrom, tasksFrom, noTask}
+use Rattle.plan.specs.Blocks.{widthsBy, taskWidths, taskNumbers, taskWidth, taskBits, tasksBits, planBits, editionOf, planBlock, bitCount, blockLength, editionIn, countIn, taskFrom, tasksFrom, noTask}
+
+-- where there is a bit past the worst case, the edition is 2
+added-are : (second : Bool) (r : ℕ) → 36 ≤ r → r < widthOf (widthsBy second) → pick {A = List ℕ} second (8 ∷ 3 ∷ []) [] ≡ 8 ∷ 3 ∷ []
+added-are true r low high = refl
+added-are false r low high = absurd (omega arith)
+
+zero-bit : (n : ℕ) → 0 / 2 ^ n % 2 ≡ 0
+zero-bit n = ap (λ (x : ℕ). x % 2) (zero-div (2 ^ n))
 
 module _ (edition : ℕ) where
-  -- how wide a task is: it has its period and its worst case, and sixteen fit 1,024 bits with their header
+  -- how wide a task is: it has its period and its worst case, and in edition 2 its additions
   pub width-least : 36 ≤ taskWidth edition
   width-least = omega arith
 
-  pub width-most : taskWidth edition ≤ 62
-  width-most = omega arith
+  pub width-most : taskWidth edition ≤ 47
+  width-most = elim (tested (eqb edition 2)) as (λ b _. widthOf (widthsBy b) ≤ 47) [ passed ↦ omega arith | failed ↦ omega arith ]
 
   -- a task more
   pub bitCount-more : (i : ℕ) → bitCount edition (i + 1) ≡ bitCount edition i + taskWidth edition
@@ -31,17 +43,17 @@ module _ (edition : ℕ) where
   pub bitCount-mono : (m n : ℕ) → m ≤ n → bitCount edition m ≤ bitCount edition n
   bitCount-mono m n h = omega (arith, mul-le-mul-left (taskWidth edition) h)
 
-  pub width-times : (n : ℕ) {w : ℕ} → w ≡ taskWidth edition → n ≤ 16 → w * n ≤ 992
-  width-times n e h = subst (λ (k : ℕ). k * n ≤ 62 * 16) (sym e) (mul-le-mul width-most h)
+  pub width-times : (n : ℕ) {w : ℕ} → w ≡ taskWidth edition → n ≤ 16 → w * n ≤ 752
+  width-times n e h = subst (λ (k : ℕ). k * n ≤ 47 * 16) (sym e) (mul-le-mul width-most h)
 
-  pub bitCount-most : (n : ℕ) → n ≤ 16 → bitCount edition n ≤ 1001
+  pub bitCount-most : (n : ℕ) → n ≤ 16 → bitCount edition n ≤ 761
   bitCount-most n h = omega (arith, width-times n refl h)
 
-  -- a task that stands within so many bits has room for its period and its worst case, at a place that is read
-  pub bitCount-room : (i bits : ℕ) → i < 16 → bitCount edition (i + 1) ≤ bits → (bitCount edition i ≤ 1001) × (bitCount edition i + 36 ≤ bits)
+  -- a task that stands within so many bits has room for its fields, at a place that is read
+  pub bitCount-room : (i bits : ℕ) → i < 16 → bitCount edition (i + 1) ≤ bits → (bitCount edition i ≤ 761) × (bitCount edition i + taskWidth edition ≤ bits)
   bitCount-room i bits h l =
       let more : bitCount edition (i + 1) ≡ bitCount edition i + taskWidth edition = bitCount-more i in
-      (omega (arith, bitCount-most i (omega arith)), omega (arith, width-least))
+      (omega (arith, bitCount-most i (omega arith)), omega arith)
 
   -- how many bits there are
   pub length-taskBits : (t : Task) → length (taskBits edition t) ≡ taskWidth edition
@@ -126,6 +138,33 @@ module _ (edition : ℕ) where
           ∙ field-past 16 (t .period) (fieldsBits (drop 1 (taskWidths edition)) (drop 1 (taskNumbers t))) r low
           ∙ field-bit 20 (t .worst) (fieldsBits (drop 2 (taskWidths edition)) (drop 2 (taskNumbers t))) (r - 16) (omega arith) (omega arith)
 
+      -- past its worst case stand the fields that edition 2 adds
+      planBits-added :
+          36 ≤ r →
+          r < taskWidth edition →
+          getD (planBits edition ts) k 0 ≡ getD (fieldsBits (8 ∷ 3 ∷ []) (drop 2 (taskNumbers (getD ts i noTask)))) (r - 36) 0
+      planBits-added low high =
+          let t : Task = getD ts i noTask in
+          let e : r - 16 - 20 ≡ r - 36 = omega arith in
+          planBits-task high
+          ∙ field-past 16 (t .period) (fieldsBits (drop 1 (taskWidths edition)) (drop 1 (taskNumbers t))) r (omega arith)
+          ∙ field-past 20 (t .worst) (fieldsBits (drop 2 (taskWidths edition)) (drop 2 (taskNumbers t))) (r - 16) (omega arith)
+          ∙ ap₂ (λ (ws : List ℕ) (j : ℕ). getD (fieldsBits ws (drop 2 (taskNumbers t))) j 0) (added-are (eqb edition 2) r low high) e
+
+      pub planBits-fixed :
+          36 ≤ r → r < 44 → r < taskWidth edition → getD (planBits edition ts) k 0 ≡ getD ts i noTask .fixed / 2 ^ (43 - r) % 2
+      planBits-fixed low high l =
+          let t : Task = getD ts i noTask in
+          planBits-added low l ∙ field-bit 8 (t .fixed) (fieldsBits (3 ∷ []) (0 ∷ [])) (r - 36) (omega arith) (omega arith)
+
+      pub planBits-spare : 44 ≤ r → r < taskWidth edition → getD (planBits edition ts) k 0 ≡ 0
+      planBits-spare low l =
+          let t : Task = getD ts i noTask in
+          planBits-added (omega arith) l
+          ∙ field-past 8 (t .fixed) (fieldsBits (3 ∷ []) (0 ∷ [])) (r - 36) (omega arith)
+          ∙ field-bit 3 0 [] (r - 36 - 8) (omega (arith, width-most)) refl
+          ∙ zero-bit (3 - suc (r - 36 - 8))
+
   -- the tasks that bits are read as
   pub length-tasksFrom : (n : ℕ) (bits : List ℕ) → length (tasksFrom edition n bits) ≡ n
   length-tasksFrom zero bits = refl
@@ -151,7 +190,7 @@ module _ (edition : ℕ) where
     unfolding need
     blockLength-is = omega arith
 
-    pub blockLength-most : n ≤ 16 → blockLength edition n ≤ 126
+    pub blockLength-most : n ≤ 16 → blockLength edition n ≤ 96
     blockLength-most h = omega (arith, blockLength-is, bitCount-most n h)
 
     pub blockLength-covers : bitCount edition n ≤ 8 * blockLength edition n
@@ -172,6 +211,15 @@ blockLength-one = refl
 pub blockLength-sixteen : blockLength 1 16 ≡ 74
 unfolding need
 blockLength-sixteen = refl
+
+-- in edition 2
+pub blockLength-one-2 : blockLength 2 1 ≡ 7
+unfolding need
+blockLength-one-2 = refl
+
+pub blockLength-sixteen-2 : blockLength 2 16 ≡ 96
+unfolding need
+blockLength-sixteen-2 = refl
 
 module _ (ts : List Task) where
   pub length-planBlock : length (planBlock ts) ≡ blockLength (editionOf ts) (length ts)

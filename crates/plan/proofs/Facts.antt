@@ -2,24 +2,24 @@
 -- Assumes nothing.
 use Prim.Native.Nat.{ℕ, suc, _<_, _≤_}
 use mathlib.Core.Path.{_≡_, refl}
-use mathlib.Core.Bool.{true}
+use mathlib.Core.Bool.{Bool, true}
 use mathlib.Core.List.{List}
 use native.Mathlib.Omega.{arith}
 use borrow.Author.Tests.{leb-true, le-leb, eqb-true, eq-eqb}
-use lib.Dec.{eqb}
+use lib.Dec.{leb, eqb}
 use lib.ListN.{length, getD, drop}
-use Rattle.arith.specs.Choice.{every}
+use Rattle.arith.specs.Choice.{both, every}
 use Rattle.arith.specs.Bits.{unpacked}
 use Rattle.arith.specs.Asking.{firstNo, within}
-use Rattle.arith.proofs.Tests.{both-left, both-right}
+use Rattle.arith.proofs.Tests.{both-left, both-right, both-true}
 use Rattle.arith.proofs.ListLaws.{every-at}
 use Rattle.arith.proofs.QuestionLaws.{within-high, within-low, within-true, Yes, yes-all, replyTo, replied}
 use lib.Seq.{length-take-le}
 use Rattle.plan.specs.declared.Task.{Task}
 use Rattle.plan.specs.declared.Plan.{Plan}
 use Rattle.plan.specs.Levels.{hyperperiod, nominal}
-use Rattle.plan.specs.Blocks.{editionIn, countIn, tasksIn, blockLength, closingBits, noTask, tasksOf}
-use Rattle.plan.specs.Questions.{inRange, rangeQuestion, spanQuestion, levelQuestion, taskQuestions, judging, reading}
+use Rattle.plan.specs.Blocks.{editionIn, countIn, tasksIn, sparesIn, blockLength, closingBits, noTask, tasksOf}
+use Rattle.plan.specs.Questions.{inRange, rangeQuestion, additionQuestion, spanQuestion, levelQuestion, taskQuestions, judging, reading}
 use Rattle.plan.proofs.BlockBits.{length-tasksFrom}
 
 -- a task in range
@@ -28,16 +28,22 @@ pub record InRange (t : Task) : Type 0 where
   pub period-high : t .period ≤ 65535
   pub worst-low : 1 ≤ t .worst
   pub worst-high : t .worst ≤ 1048575
+  pub fixed-high : t .fixed ≤ 255
 
 pub in-range : (t : Task) → inRange t ≡ true → InRange t
 in-range t h =
-    let p : within 1 65535 (t .period) ≡ true = both-left (within 1 65535 (t .period)) (within 1 1048575 (t .worst)) h in
-    let w : within 1 1048575 (t .worst) ≡ true = both-right (within 1 65535 (t .period)) (within 1 1048575 (t .worst)) h in
+    let period : Bool = within 1 65535 (t .period) in
+    let worst : Bool = within 1 1048575 (t .worst) in
+    let fixed : Bool = leb (t .fixed) 255 in
+    let p : period ≡ true = both-left period (both worst fixed) h in
+    let rest : both worst fixed ≡ true = both-right period (both worst fixed) h in
+    let w : worst ≡ true = both-left worst fixed rest in
     record {
       period-low = within-low 1 65535 (t .period) p;
       period-high = within-high 1 65535 (t .period) p;
       worst-low = within-low 1 1048575 (t .worst) w;
       worst-high = within-high 1 1048575 (t .worst) w;
+      fixed-high = leb-true (t .fixed) 255 (both-right worst fixed rest);
     }
 
 pub range-at : (ts : List Task) (i : ℕ) → every inRange ts ≡ true → i < length ts → InRange (getD ts i noTask)
@@ -113,24 +119,30 @@ list-yes speeds count ts f =
 -- a block that reading answers with no refusal
 pub record FineBlock (speeds block : List ℕ) : Type 0 where
   pub long : 2 ≤ length block
-  pub edition : editionIn block ≡ 1
+  pub edition-low : 1 ≤ editionIn block
+  pub edition-high : editionIn block ≤ 2
   pub count-low : 1 ≤ countIn block
   pub count-high : countIn block ≤ 16
   pub size : length block ≡ blockLength (editionIn block) (countIn block)
+  pub spares : every (eqb 0) (sparesIn block) ≡ true
   pub closing : every (eqb 0) (closingBits block) ≡ true
   pub tasks : FineTasks speeds (tasksIn block)
+  pub additions : additionQuestion (editionIn block) (tasksIn block) .reply ≡ true
 
 pub fine-block : (speeds block : List ℕ) → firstNo (reading speeds block) ≡ 0 → FineBlock speeds block
 fine-block speeds block h =
     let told : (n : ℕ) → replyTo n (reading speeds block) ≡ true = replied (reading speeds block) refl h in
     record {
       long = leb-true 2 (length block) (told 1);
-      edition = eqb-true (editionIn block) 1 (told 2);
+      edition-low = within-low 1 2 (editionIn block) (told 2);
+      edition-high = within-high 1 2 (editionIn block) (told 2);
       count-low = within-low 1 16 (countIn block) (told 3);
       count-high = within-high 1 16 (countIn block) (told 3);
       size = eqb-true (length block) (blockLength (editionIn block) (countIn block)) (told 4);
-      closing = told 5;
+      spares = both-left (every (eqb 0) (sparesIn block)) (every (eqb 0) (closingBits block)) (told 5);
+      closing = both-right (every (eqb 0) (sparesIn block)) (every (eqb 0) (closingBits block)) (told 5);
       tasks = tasks-fine speeds (tasksIn block) (told 6) (told 7) (told 8);
+      additions = told 21;
     }
 
 pub block-yes : (speeds block : List ℕ) → FineBlock speeds block → firstNo (reading speeds block) ≡ 0
@@ -138,12 +150,12 @@ block-yes speeds block f =
     yes-all (reading speeds block) (
       le-leb 2 (length block) (f .long),
       (
-        eq-eqb (editionIn block) 1 (f .edition),
+        within-true 1 2 (editionIn block) (f .edition-low) (f .edition-high),
         (
           within-true 1 16 (countIn block) (f .count-low) (f .count-high),
           (
             eq-eqb (length block) (blockLength (editionIn block) (countIn block)) (f .size),
-            (f .closing, fine-yes speeds (tasksIn block) (f .tasks)),
+            (both-true (f .spares) (f .closing), (f .tasks .ranges, (f .additions, fine-yes speeds (tasksIn block) (f .tasks) .1))),
           ),
         ),
       ),

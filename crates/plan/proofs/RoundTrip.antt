@@ -3,79 +3,172 @@
 -- Assumes nothing.
 use Prim.Native.Nat.{ℕ, zero, suc, _+_, _-_, _*_, _≤_}
 use mathlib.Core.Path.{_≡_, refl, sym, subst, ap, ap₂, _∙_}
-use mathlib.Core.Bool.{true, true≢false}
-use mathlib.Core.List.{List, [], _∷_, _++_}
+use mathlib.Core.Bool.{Bool, true, false, not, true≢false}
+use mathlib.Core.List.{List, [], _∷_, _++_, map}
 use native.Mathlib.Nat.{mul-suc}
 use native.Mathlib.Decide.{decLe}
 use native.Mathlib.Omega.{arith}
-use borrow.Author.Tests.{eq-eqb}
+use borrow.Author.Tests.{eq-eqb, eqb-true, not-true}
 use lib.Dec.{eqb}
 use lib.ListN.{length, getD, take, drop, replicate, length-drop, length-take, List·getD-eq-default}
 use lib.Seq.{getD-drop, getD-take, drop-at, drop-drop, take-add, length-take-le, take-append-seam}
-use Rattle.arith.specs.Choice.{every}
+use Rattle.arith.specs.Choice.{both, every}
 use Rattle.arith.specs.Need.{need}
 use Rattle.arith.specs.Digits.{digits}
-use Rattle.arith.specs.Bits.{unpacked, packedTo, packed}
-use Rattle.arith.specs.Asking.{isAccepted, firstNo}
-use Rattle.arith.proofs.Tests.{both-left, both-right}
+use Rattle.arith.specs.Bits.{widthOf, fieldsBits, fieldsFrom, unpacked, packedTo, packed}
+use Rattle.arith.specs.Asking.{isAccepted, firstNo, within}
+use Rattle.arith.proofs.Tests.{both-left, both-right, both-true, eq-yes, eq-not, testEq}
 use Rattle.arith.proofs.ListLaws.{at-every, zero-at}
 use Rattle.arith.proofs.Needs.{need-covers}
-use Rattle.arith.proofs.QuestionLaws.{yes-before, yes-of, yes-after}
+use Rattle.arith.proofs.QuestionLaws.{within-low, within-high, yes-before, yes-of, yes-after}
 use Rattle.arith.proofs.DigitLaws.{number-digits, number-drop-same, digits-number}
 use Rattle.arith.proofs.BitLaws.{length-unpacked, unpacked-packed, unpacked-below, packed-same, packed-unpacked}
 use Rattle.arith.proofs.FieldLaws.{Same, Below, same-drop, below-drop, fields-read, fields-bits, fields-same}
 use Rattle.plan.specs.declared.Task.{Task}
 use Rattle.plan.specs.declared.Plan.{Plan}
-use Rattle.plan.specs.Blocks.{taskWidths, taskNumbers, taskOf, taskWidth, taskBits, tasksBits, planBits, editionOf, planBlock, bitCount, blockLength}
-use Rattle.plan.specs.Blocks.{editionIn, countIn, taskFrom, tasksFrom, tasksIn, closingBits, tasksOf, planOf, noTask}
+use Rattle.plan.specs.Blocks.{widthsBy, taskWidths, taskNumbers, taskOf, spareOf, addsNothing, taskWidth, taskBits, tasksBits, planBits, editionBy, editionOf, planBlock, bitCount, blockLength}
+use Rattle.plan.specs.Blocks.{editionIn, countIn, eachFrom, tasksFrom, tasksIn, sparesFrom, sparesIn, closingBits, tasksOf, planOf, noTask}
 use Rattle.plan.specs.LevelBlocks.{loading, speedsIn}
-use Rattle.plan.specs.Questions.{inRange, judging, reading}
+use Rattle.plan.specs.Questions.{inRange, additionQuestion, judging, reading}
 use Rattle.plan.specs.Answers.{verdictAnswer, answered, judgedBy}
 use Rattle.plan.specs.Laws.{Bytes, WrittenReadsBack, AcceptedWritesBack}
 use Rattle.plan.proofs.BlockBits.{length-taskBits, length-planBits, planBits-below, planBits-past, length-planBlock, blockLength-covers, blockLength-least, used}
 use Rattle.plan.proofs.Facts.{InRange, in-range, FineTasks, FineList, FineBlock, fine-list, fine-block, block-yes, list-yes, block-list, length-tasksIn}
 
--- a task's numbers fit their fields, so that they are read back
-task-back : (edition : ℕ) (t : Task) (rest : List ℕ) → InRange t → taskFrom edition (taskBits edition t ++ rest) ≡ t
-task-back edition t rest r =
-    ap taskOf (fields-read (taskWidths edition) (taskNumbers t) rest (omega arith) (omega arith, (omega arith, tt)))
+-- what a task's fields are read as, by whether its edition is 2
+module _ (t : Task) where
+  -- its numbers fit their fields, so that they are read back
+  numbers-back :
+      (second : Bool) (rest : List ℕ) →
+      InRange t →
+      fieldsFrom (widthsBy second) (fieldsBits (widthsBy second) (taskNumbers t) ++ rest) ≡ take (length (widthsBy second)) (taskNumbers t)
+  numbers-back true rest r =
+      fields-read (widthsBy true) (taskNumbers t) rest (omega arith) (omega arith, (omega arith, (omega arith, (omega arith, tt))))
+  numbers-back false rest r = fields-read (widthsBy false) (taskNumbers t) rest (omega arith) (omega arith, (omega arith, tt))
 
-pub tasks-back : (edition : ℕ) (ts : List Task) → every inRange ts ≡ true → tasksFrom edition (length ts) (tasksBits edition ts) ≡ ts
-tasks-back edition [] h = refl
-tasks-back edition (t ∷ ts) h =
-    ap₂ (λ (x : Task) (l : List Task). x ∷ l)
-    (task-back edition t (tasksBits edition ts) (in-range t (both-left (inRange t) (every inRange ts) h)))
-    (ap (λ (b : List ℕ). tasksFrom edition (length ts) b)
-    (drop-at (taskBits edition t) (tasksBits edition ts) (taskWidth edition) (length-taskBits edition t))
-    ∙ tasks-back edition ts (both-right (inRange t) (every inRange ts) h))
+  -- they are the whole task where the edition has a field for what it adds, or it adds nothing
+  task-kept : (second : Bool) → (second ≡ false → addsNothing t ≡ true) → taskOf (take (length (widthsBy second)) (taskNumbers t)) ≡ t
+  task-kept true h = refl
+  task-kept false h =
+      let none : t .fixed ≡ 0 = eqb-true (t .fixed) 0 (h refl) in
+      λ i. record { period = t .period; worst = t .worst; fixed = sym none i }
 
--- and the bits that a task is read from are its bits
-task-again : (edition : ℕ) (bits : List ℕ) → taskWidth edition ≤ length bits → Below bits → taskBits edition (taskFrom edition bits) ≡ take (taskWidth edition) bits
-task-again edition bits l h = fields-bits (taskWidths edition) bits l h
+  spare-kept : (second : Bool) → spareOf (take (length (widthsBy second)) (taskNumbers t)) ≡ 0
+  spare-kept true = refl
+  spare-kept false = refl
+
+-- the fields of each task are read back
+module _ {A : Type 0} (says : List ℕ → A) (edition : ℕ) where
+  pub each-back :
+      (ts : List Task) →
+      every inRange ts ≡ true →
+      eachFrom says edition (length ts) (tasksBits edition ts)
+      ≡ map (λ (t : Task). says (take (length (taskWidths edition)) (taskNumbers t))) ts
+  each-back [] h = refl
+  each-back (t ∷ ts) h =
+      ap₂ (λ (x : A) (l : List A). x ∷ l)
+      (ap says (numbers-back t (eqb edition 2) (tasksBits edition ts) (in-range t (both-left (inRange t) (every inRange ts) h))))
+      (ap (λ (b : List ℕ). eachFrom says edition (length ts) b)
+      (drop-at (taskBits edition t) (tasksBits edition ts) (taskWidth edition) (length-taskBits edition t))
+      ∙ each-back ts (both-right (inRange t) (every inRange ts) h))
+
+  -- reading looks only at the bits
+  each-same : (n : ℕ) (xs ys : List ℕ) → Same xs ys → eachFrom says edition n xs ≡ eachFrom says edition n ys
+  each-same zero xs ys h = refl
+  each-same (suc n) xs ys h =
+      let w : ℕ = taskWidth edition in
+      ap₂ (λ (x : A) (l : List A). x ∷ l) (ap says (fields-same (taskWidths edition) xs ys h))
+      (each-same n (drop w xs) (drop w ys) (same-drop w xs ys h))
+
+-- so tasks are read back in an edition that has a field for what they add, and their spare bits are zero
+module _ (edition : ℕ) where
+  tasks-kept :
+      (ts : List Task) →
+      (eqb edition 2 ≡ false → every addsNothing ts ≡ true) →
+      map (λ (t : Task). taskOf (take (length (taskWidths edition)) (taskNumbers t))) ts ≡ ts
+  tasks-kept [] c = refl
+  tasks-kept (t ∷ ts) c =
+      ap₂ (λ (x : Task) (l : List Task). x ∷ l)
+      (task-kept t (eqb edition 2) (λ h. both-left (addsNothing t) (every addsNothing ts) (c h)))
+      (tasks-kept ts (λ h. both-right (addsNothing t) (every addsNothing ts) (c h)))
+
+  pub tasks-back :
+      (ts : List Task) →
+      every inRange ts ≡ true →
+      (eqb edition 2 ≡ false → every addsNothing ts ≡ true) →
+      tasksFrom edition (length ts) (tasksBits edition ts) ≡ ts
+  tasks-back ts h c = each-back taskOf edition ts h ∙ tasks-kept ts c
+
+  spares-kept :
+      (ts : List Task) →
+      every (eqb 0) (map (λ (t : Task). spareOf (take (length (taskWidths edition)) (taskNumbers t))) ts) ≡ true
+  spares-kept [] = refl
+  spares-kept (t ∷ ts) =
+      both-true (ap (eqb 0) (spare-kept t (eqb edition 2))) (spares-kept ts)
+
+  pub spares-back :
+      (ts : List Task) → every inRange ts ≡ true → every (eqb 0) (sparesFrom edition (length ts) (tasksBits edition ts)) ≡ true
+  spares-back ts h = ap (every (eqb 0)) (each-back spareOf edition ts h) ∙ spares-kept ts
+
+-- and the bits that a task is read from are its bits, where the spare ones are zero
+again-by :
+    (second : Bool) (bits : List ℕ) →
+    widthOf (widthsBy second) ≤ length bits →
+    Below bits →
+    spareOf (fieldsFrom (widthsBy second) bits) ≡ 0 →
+    fieldsBits (widthsBy second) (taskNumbers (taskOf (fieldsFrom (widthsBy second) bits))) ≡ take (widthOf (widthsBy second)) bits
+again-by true bits l h z =
+    let t : Task = taskOf (fieldsFrom (widthsBy true) bits) in
+    ap (λ (spare : ℕ). fieldsBits (widthsBy true) (t .period ∷ t .worst ∷ t .fixed ∷ spare ∷ [])) (sym z)
+    ∙ fields-bits (widthsBy true) bits l h
+again-by false bits l h z = fields-bits (widthsBy false) bits l h
 
 pub tasks-again :
     (edition n : ℕ) (bits : List ℕ) →
     taskWidth edition * n ≤ length bits →
     Below bits →
+    every (eqb 0) (sparesFrom edition n bits) ≡ true →
     tasksBits edition (tasksFrom edition n bits) ≡ take (taskWidth edition * n) bits
-tasks-again edition zero bits l h =
+tasks-again edition zero bits l h z =
     let e : 0 ≡ taskWidth edition * 0 = omega arith in
     ap (λ (k : ℕ). take k bits) e
-tasks-again edition (suc n) bits l h =
+tasks-again edition (suc n) bits l h z =
     let w : ℕ = taskWidth edition in
     let e : w + w * n ≡ w * suc n = omega (arith, mul-suc w n) in
-    ap₂ (λ (x y : List ℕ). x ++ y) (task-again edition bits (omega arith) h)
-    (tasks-again edition n (drop w bits) (simp length-drop (omega arith)) (below-drop w bits h))
+    let spare : ℕ = spareOf (fieldsFrom (taskWidths edition) bits) in
+    let rest : List ℕ = sparesFrom edition n (drop w bits) in
+    ap₂ (λ (x y : List ℕ). x ++ y)
+    (again-by (eqb edition 2) bits (omega arith) h (sym (eqb-true 0 spare (both-left (eqb 0 spare) (every (eqb 0) rest) z))))
+    (tasks-again edition n (drop w bits) (simp length-drop (omega arith)) (below-drop w bits h)
+    (both-right (eqb 0 spare) (every (eqb 0) rest) z))
     ∙ sym (take-add w (w * n) bits)
     ∙ ap (λ (k : ℕ). take k bits) e
 
--- reading looks only at the bits
-tasks-same : (edition n : ℕ) (xs ys : List ℕ) → Same xs ys → tasksFrom edition n xs ≡ tasksFrom edition n ys
-tasks-same edition zero xs ys h = refl
-tasks-same edition (suc n) xs ys h =
-    let w : ℕ = taskWidth edition in
-    ap₂ (λ (x : Task) (l : List Task). x ∷ l) (ap taskOf (fields-same (taskWidths edition) xs ys h))
-    (tasks-same edition n (drop w xs) (drop w ys) (same-drop w xs ys h))
+-- the edition that tasks are written in is 1 or 2, has a field for what they add, and is not 2 where they add nothing
+edition-fits : (plain : Bool) → within 1 2 (editionBy plain) ≡ true
+edition-fits true = refl
+edition-fits false = refl
+
+carries-by : (plain : Bool) → eqb (editionBy plain) 2 ≡ false → plain ≡ true
+carries-by true h = refl
+carries-by false h = absurd (true≢false h)
+
+adds-by : (plain : Bool) → not (both (eqb (editionBy plain) 2) plain) ≡ true
+adds-by true = refl
+adds-by false = refl
+
+module _ (ts : List Task) where
+  pub edition-low : 1 ≤ editionOf ts
+  edition-low = within-low 1 2 (editionOf ts) (edition-fits (every addsNothing ts))
+
+  pub edition-high : editionOf ts ≤ 2
+  edition-high = within-high 1 2 (editionOf ts) (edition-fits (every addsNothing ts))
+
+  edition-carries : eqb (editionOf ts) 2 ≡ false → every addsNothing ts ≡ true
+  edition-carries = carries-by (every addsNothing ts)
+
+  pub edition-adds : additionQuestion (editionOf ts) ts .reply ≡ true
+  edition-adds = adds-by (every addsNothing ts)
 
 -- what a block written is read as
 module _ (ts : List Task) (high : length ts ≤ 16) (ranges : every inRange ts ≡ true) where
@@ -89,20 +182,29 @@ module _ (ts : List Task) (high : length ts ≤ 16) (ranges : every inRange ts �
   block-edition : editionIn (planBlock ts) ≡ editionOf ts
   block-edition =
       number-drop-same 2 4 0 (unpacked (planBlock ts)) (planBits (editionOf ts) ts) block-bits
-      ∙ number-digits 2 4 (editionOf ts) (digits 2 5 (length ts) ++ tasksBits (editionOf ts) ts) (omega arith) (omega arith)
+      ∙ number-digits 2 4 (editionOf ts) (digits 2 5 (length ts) ++ tasksBits (editionOf ts) ts) (omega arith)
+      (omega (arith, edition-high ts))
 
   block-count : countIn (planBlock ts) ≡ length ts
   block-count =
       number-drop-same 2 5 4 (unpacked (planBlock ts)) (planBits (editionOf ts) ts) block-bits
       ∙ number-digits 2 5 (length ts) (tasksBits (editionOf ts) ts) (omega arith) (omega arith)
 
-  pub block-reads : tasksIn (planBlock ts) ≡ ts
-  block-reads =
+  block-each :
+      {A : Type 0} (says : List ℕ → A) →
+      eachFrom says (editionIn (planBlock ts)) (countIn (planBlock ts)) (drop 9 (unpacked (planBlock ts)))
+      ≡ eachFrom says (editionOf ts) (length ts) (tasksBits (editionOf ts) ts)
+  block-each says =
       let u : List ℕ = unpacked (planBlock ts) in
       let bits : List ℕ = planBits (editionOf ts) ts in
-      ap₂ (λ (e n : ℕ). tasksFrom e n (drop 9 u)) block-edition block-count
-      ∙ tasks-same (editionOf ts) (length ts) (drop 9 u) (drop 9 bits) (same-drop 9 u bits block-bits)
-      ∙ tasks-back (editionOf ts) ts ranges
+      ap₂ (λ (e n : ℕ). eachFrom says e n (drop 9 u)) block-edition block-count
+      ∙ each-same says (editionOf ts) (length ts) (drop 9 u) (drop 9 bits) (same-drop 9 u bits block-bits)
+
+  pub block-reads : tasksIn (planBlock ts) ≡ ts
+  block-reads = block-each taskOf ∙ tasks-back (editionOf ts) ts ranges (edition-carries ts)
+
+  block-spares : every (eqb 0) (sparesIn (planBlock ts)) ≡ true
+  block-spares = ap (every (eqb 0)) (block-each spareOf) ∙ spares-back (editionOf ts) ts ranges
 
   -- past its tasks they are zero
   block-closing : every (eqb 0) (closingBits (planBlock ts)) ≡ true
@@ -123,12 +225,15 @@ module _ (ts : List Task) (high : length ts ≤ 16) (ranges : every inRange ts �
   block-fine speeds low fine =
       record {
         long = omega (arith, length-planBlock ts, blockLength-least (editionOf ts) (length ts) low);
-        edition = block-edition;
+        edition-low = omega (arith, block-edition, edition-low ts);
+        edition-high = omega (arith, block-edition, edition-high ts);
         count-low = omega (arith, block-count);
         count-high = omega (arith, block-count);
         size = length-planBlock ts ∙ sym (ap₂ (λ (e n : ℕ). blockLength e n) block-edition block-count);
+        spares = block-spares;
         closing = block-closing;
         tasks = subst (λ (l : List Task). FineTasks speeds l) (sym block-reads) fine;
+        additions = ap₂ (λ (e : ℕ) (l : List Task). additionQuestion e l .reply) block-edition block-reads ∙ edition-adds ts;
       }
 
 -- a verdict is no refusal exactly if no question was answered no
@@ -162,10 +267,41 @@ written-reads-back levels p len accepted =
     all
     (block-reads ts high (f .tasks .ranges))
 
+-- tasks that are read in an edition without a field for it add nothing
+plain-by : (second : Bool) (bits : List ℕ) → second ≡ false → addsNothing (taskOf (fieldsFrom (widthsBy second) bits)) ≡ true
+plain-by true bits h = absurd (true≢false h)
+plain-by false bits h = refl
+
+pub plain-from : (edition n : ℕ) (bits : List ℕ) → eqb edition 2 ≡ false → every addsNothing (tasksFrom edition n bits) ≡ true
+plain-from edition zero bits h = refl
+plain-from edition (suc n) bits h =
+    both-true (plain-by (eqb edition 2) bits h) (plain-from edition n (drop (taskWidth edition) bits) h)
+
+-- an edition of 1 or 2 in which tasks add nothing exactly if it is 1 is the one that they are written in
+pub edition-by :
+    (edition : ℕ) (plain : Bool) →
+    1 ≤ edition →
+    edition ≤ 2 →
+    (eqb edition 2 ≡ false → plain ≡ true) →
+    not (both (eqb edition 2) plain) ≡ true →
+    editionBy plain ≡ edition
+edition-by edition plain low high one two =
+    elim (testEq edition 2) as (λ b _. (b ≡ false → plain ≡ true) → not (both b plain) ≡ true → editionBy plain ≡ edition) [
+      | eq-yes e ↦ λ one two. ap editionBy (not-true plain two) ∙ sym e
+      | eq-not ne ↦ λ one two. ap editionBy (one refl) ∙ last ne
+    ]
+    one two
+  where
+    last : (edition ≡ 2 → ⊥) → 1 ≡ edition
+    last ne = omega arith
+
 -- an accepted block: its tasks are written in the edition that it names, and their bits are the block's
 module _ (speeds block : List ℕ) (f : FineBlock speeds block) where
   edition-kept : editionOf (tasksIn block) ≡ editionIn block
-  edition-kept = sym (f .edition)
+  edition-kept =
+      edition-by (editionIn block) (every addsNothing (tasksIn block)) (f .edition-low) (f .edition-high)
+      (plain-from (editionIn block) (countIn block) (drop 9 (unpacked block)))
+      (f .additions)
 
   -- the header's bits, then the tasks'
   accepted-bits : planBits (editionIn block) (tasksIn block) ≡ take (used block) (unpacked block)
@@ -180,7 +316,7 @@ module _ (speeds block : List ℕ) (f : FineBlock speeds block) where
       ∙ ap₂ (λ (x y : List ℕ). x ++ y) (digits-number 2 4 u (omega arith) (λ k l. unpacked-below block k))
       (ap₂ (λ (x y : List ℕ). x ++ y)
       (digits-number 2 5 (drop 4 u) (simp length-drop (omega arith)) (λ k l. below-drop 4 u (unpacked-below block) k))
-      (tasks-again e n (drop 9 u) (simp length-drop (omega arith)) (below-drop 9 u (unpacked-below block))
+      (tasks-again e n (drop 9 u) (simp length-drop (omega arith)) (below-drop 9 u (unpacked-below block)) (f .spares)
       ∙ ap (λ (x : List ℕ). take m x) (sym (drop-drop 5 4 u))))
       ∙ ap (λ (x : List ℕ). take 4 u ++ x) (sym (take-add 5 m (drop 4 u)))
       ∙ sym (take-add 4 (5 + m) u)

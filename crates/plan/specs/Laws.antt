@@ -1,14 +1,17 @@
 -- What is promised of plans as a whole, each as a type that a proof has. What is asked of a level block is that the call accepted it.
 -- Assumes nothing.
-use Prim.Native.Nat.{ℕ, _<_, _≤_, _∣_}
+use Prim.Native.Nat.{ℕ, _-_, _*_, _<_, _≤_, _∣_}
 use mathlib.Core.Path.{_≡_}
 use mathlib.Core.Bool.{true}
 use mathlib.Core.List.{List}
 use mathlib.Core.Logic.{_↔_}
 use lib.ListN.{length, getD}
+use Rattle.arith.specs.Need.{need}
 use Rattle.arith.specs.Asking.{isAccepted, firstNo}
 use Rattle.plan.specs.declared.Task.{Task}
 use Rattle.plan.specs.declared.Plan.{Plan}
+use Rattle.plan.specs.declared.Rest.{Rest}
+use Rattle.plan.specs.Times.{timeOf, worn}
 use Rattle.plan.specs.Levels.{speedOf, hyperperiod, admits, nominal}
 use Rattle.plan.specs.LevelBlocks.{levelBlock, speedsIn, tableGood, loading}
 use Rattle.plan.specs.Blocks.{noTask, tasksOf, planBlock}
@@ -41,6 +44,16 @@ TableLoads =
     (speeds : List ℕ) →
     tableGood speeds ≡ true →
     (firstNo (loading (levelBlock speeds)) ≡ 0) × (speedsIn (levelBlock speeds) ≡ speeds)
+
+-- 02, No. 2: "Edition 1 means no fixed ticks.": without them a job's time, and what d ticks leave of it, are what 01 says; all else is
+-- said of these two
+abbrev pub PlainTimes : Type 0
+PlainTimes =
+    (speed d : ℕ) (r : Rest) →
+    r .fixed ≡ 0 →
+    (timeOf speed r ≡ need speed (r .work))
+    × (worn speed d r .fixed ≡ 0)
+    × (worn speed d r .work ≡ r .work - d * speed)
 
 -- a level admits exactly from the nominal one up
 abbrev pub AdmitsFromNominal : List ℕ → Type 0

@@ -13,9 +13,13 @@ use Rattle.plan.specs.declared.Verdict.the-variants as verdict
 use Rattle.plan.specs.declared.Written.{Written}
 use Rattle.plan.specs.declared.Written.the-variants as written
 
--- task i of a list of numbers: a period, then a worst case, for each task; past the list's end they are 0
+-- task i of a list of numbers: a period, then a worst case, then fixed ticks, for each task; past the list's end they are 0
 abbrev pub taskAt : List ℕ → ℕ → Task
-taskAt numbers i = record { period = getD numbers (2 * i) 0; worst = getD numbers (2 * i + 1) 0 }
+taskAt numbers i = record {
+  period = getD numbers (3 * i) 0;
+  worst = getD numbers (3 * i + 1) 0;
+  fixed = getD numbers (3 * i + 2) 0;
+}
 
 abbrev pub planFrom : ℕ → List ℕ → Plan
 planFrom count numbers = record { count = count; tasks = listTo 16 (taskAt numbers) }

@@ -1,7 +1,7 @@
 -- 01, "Questions put to every call": those put to a plan, in their order, with their numbers.
 -- Assumes nothing.
 use Prim.Native.Nat.{ℕ}
-use mathlib.Core.Bool.{Bool}
+use mathlib.Core.Bool.{Bool, not}
 use mathlib.Core.List.{List, [], _∷_, _++_}
 use lib.Dec.{leb, ltb, eqb}
 use lib.ListN.{length}
@@ -10,11 +10,11 @@ use Rattle.arith.specs.Asking.{Question, ask, within}
 use Rattle.plan.specs.declared.Task.{Task}
 use Rattle.plan.specs.declared.Plan.{Plan}
 use Rattle.plan.specs.Levels.{hyperperiod, nominal}
-use Rattle.plan.specs.Blocks.{editionIn, countIn, tasksIn, tasksOf, planBlock, blockLength, closingBits}
+use Rattle.plan.specs.Blocks.{addsNothing, editionIn, countIn, tasksIn, sparesIn, tasksOf, planBlock, blockLength, closingBits}
 
--- 01: "A task has a period (1 to 65,535 ticks) and a worst case (1 to 1,048,575 units of work)."
+-- 01: "A task has a period (1 to 65,535 ticks) and a worst case (1 to 1,048,575 units of work)."; 02, No. 2: "fixed ticks (0 to 255)"
 abbrev pub inRange : Task → Bool
-inRange t = both (within 1 65535 (t .period)) (within 1 1048575 (t .worst))
+inRange t = both (within 1 65535 (t .period)) (both (within 1 1048575 (t .worst)) (leb (t .fixed) 255))
 
 -- "Is the count 1 to 16? 3"
 abbrev pub countQuestion : ℕ → Question
@@ -32,6 +32,10 @@ spanQuestion ts = ask 7 (leb (hyperperiod ts) 1000000)
 abbrev pub levelQuestion : List ℕ → List Task → Question
 levelQuestion speeds ts = ask 8 (ltb (nominal speeds ts) (length speeds))
 
+-- "21 an edition 2 block whose additions are all zero; put after 6 in reading"
+abbrev pub additionQuestion : ℕ → List Task → Question
+additionQuestion edition ts = ask 21 (not (both (eqb edition 2) (every addsNothing ts)))
+
 -- those put to the tasks of a plan
 abbrev pub taskQuestions : List ℕ → List Task → List Question
 taskQuestions speeds ts = rangeQuestion ts ∷ spanQuestion ts ∷ levelQuestion speeds ts ∷ []
@@ -40,15 +44,19 @@ taskQuestions speeds ts = rangeQuestion ts ∷ spanQuestion ts ∷ levelQuestion
 abbrev pub judging : List ℕ → ℕ → List Task → List Question
 judging speeds count ts = countQuestion count ∷ taskQuestions speeds ts
 
--- 01: "Reading a plan"
+-- 01: "Reading a plan"; 02, No. 2: "question 2 accepts 1 or 2", and the spare bits are "tested with the closing bits under 5"
 abbrev pub reading : List ℕ → List ℕ → List Question
 reading speeds block =
     ask 1 (leb 2 (length block))
-    ∷ ask 2 (eqb (editionIn block) 1)
+    ∷ ask 2 (within 1 2 (editionIn block))
     ∷ countQuestion (countIn block)
     ∷ ask 4 (eqb (length block) (blockLength (editionIn block) (countIn block)))
-    ∷ ask 5 (every (eqb 0) (closingBits block))
-    ∷ taskQuestions speeds (tasksIn block)
+    ∷ ask 5 (both (every (eqb 0) (sparesIn block)) (every (eqb 0) (closingBits block)))
+    ∷ rangeQuestion (tasksIn block)
+    ∷ additionQuestion (editionIn block) (tasksIn block)
+    ∷ spanQuestion (tasksIn block)
+    ∷ levelQuestion speeds (tasksIn block)
+    ∷ []
 
 -- 01: "is the lent buffer long enough? 9"
 abbrev pub roomQuestion : ℕ → ℕ → Question

@@ -1,14 +1,16 @@
 // Plans as values. What is right of them, and how they are judged, read and written, is in specs/ and proofs/.
 
-// A task: its period in ticks and its worst case in units of work.
+// A task: its period in ticks, its worst case in units of work, and the fixed ticks that its job takes at every level.
 #[repr(C)]
 pub struct Task {
     pub period: u32,
     pub worst: u32,
+    pub fixed: u32,
 }
 
-// What is left of a job: its work.
+// What is left of a job: its fixed ticks, and its work.
 pub struct Rest {
+    pub fixed: u32,
     pub work: u32,
 }
 

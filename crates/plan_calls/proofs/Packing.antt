@@ -33,18 +33,9 @@ pub record Put (numbers : List ℕ) (count : ℕ) (q : Plan) (i : ℕ) : Type 0 
   pub tasks : q .tasks ≡ padded 16 noTask (listTo i (taskAt numbers))
 
 module _ {numbers : List ℕ} {count : ℕ} {q : Plan} {i : ℕ} (at : Put numbers count q i) where
-  pub put-more :
-      {p w : ℕ} →
-      i < 16 →
-      p ≡ taskAt numbers i .period →
-      w ≡ taskAt numbers i .worst →
-      Put numbers count (record { count = q .count; tasks = set (q .tasks) i (record { period = p; worst = w }) }) (i + 1)
-  put-more h a b =
-      record {
-        within = omega arith;
-        counted = at .counted;
-        tasks = values-more 16 noTask (taskAt numbers) (q .tasks) i _ h (at .tasks) (λ j. record { period = a j; worst = b j });
-      }
+  pub put-more : {t : Task} → i < 16 → t ≡ taskAt numbers i → Put numbers count (record { count = q .count; tasks = set (q .tasks) i t }) (i + 1)
+  put-more h e =
+      record { within = omega arith; counted = at .counted; tasks = values-more 16 noTask (taskAt numbers) (q .tasks) i _ h (at .tasks) e }
 
   pub put-all : 16 ≤ i → q ≡ planFrom count numbers
   put-all h =

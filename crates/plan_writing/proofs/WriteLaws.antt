@@ -27,7 +27,7 @@ use Rattle.admission.proofs.Admissions.{Held, count-is}
 use Rattle.judging.proofs.Judgements.{count-low, count-high, count-good}
 use Rattle.plan.proofs.Facts.{fine-block}
 use Rattle.arith.proofs.QuestionLaws.{ask-no, ask-yes, no-before, yes-before, yes-of, yes-after}
-use Rattle.plan.proofs.BlockBits.{planBits-edition, planBits-count, planBits-period, planBits-worst, planBits-past}
+use Rattle.plan.proofs.BlockBits.{planBits-edition, planBits-count, planBits-period, planBits-worst, planBits-fixed, planBits-spare, planBits-past}
 use Rattle.plan.proofs.BlockBits.{width-least, bitCount-mono, length-planBlock, planBlock-at}
 use Rattle.plan.proofs.RoundTrip.{written-reads-back, none-accepted, accepted-block, tasksOf-planOf, read-judged}
 use Rattle.plan.proofs.AnswerLaws.{Refusal, told-refused, told-admitted, told-written, Leaves, leaves-refused, leaves-written}
@@ -99,6 +99,17 @@ module _ {p : Plan} {edition k i r : ℕ} (b : AtTask p edition k i r) where
         e
         ∙ sym (ap (λ (t : Task). t .worst / 2 ^ (35 - r) % 2) here)
         ∙ sym (planBits-worst edition (tasksOf p) k i r (b .place) inside low high)
+
+    -- past the worst case, where the edition has such a bit
+    module _ (within : r < taskWidth edition) where
+      pub bit-fixed : {x : ℕ} → 36 ≤ r → r < 44 → x ≡ getD (p .tasks) i noTask .fixed / 2 ^ (43 - r) % 2 → x ≡ getD (planBits edition (tasksOf p)) k 0
+      bit-fixed low high e =
+          e
+          ∙ sym (ap (λ (t : Task). t .fixed / 2 ^ (43 - r) % 2) here)
+          ∙ sym (planBits-fixed edition (tasksOf p) k i r (b .place) inside low high within)
+
+      pub bit-spare : 44 ≤ r → 0 ≡ getD (planBits edition (tasksOf p)) k 0
+      bit-spare low = sym (planBits-spare edition (tasksOf p) k i r (b .place) inside low within)
 
 -- bytes stored from the front, one a turn
 pub record Stored (bytes buffer m : List ℕ) (j : ℕ) : Type 0 where

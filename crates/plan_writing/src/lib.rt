@@ -8,6 +8,7 @@ use plan::Plan;
 use plan::Verdict;
 use plan::Written;
 use plan_reading::block_length;
+use plan_reading::edition_of;
 use plan_reading::read;
 use plan_reading::task_width;
 ghost use mathlib.Core.Path.{_≡_};
@@ -29,13 +30,6 @@ fn bit_of(x: u32, k: usize) -> u32
     (x >> k) % 2
 }
 
-// The edition that a plan is written in.
-fn edition_of(p: Plan) -> u32
-    ensures { λ r. ⌜ r ≡ editionOf (tasksOf p) ⌝ }
-{
-    1
-}
-
 // Bit k of a plan's block, past the edition and the count.
 fn task_bit(p: Plan, edition: u32, k: usize) -> u32
     requires { ⌜ (p .count ≤ 16) × (9 ≤ k) × (k < 1024) ⌝ }
@@ -52,7 +46,13 @@ fn task_bit(p: Plan, edition: u32, k: usize) -> u32
     if r < 16 {
         return bit_of(t.period, 15 - r);
     }
-    bit_of(t.worst, 35 - r)
+    if r < 36 {
+        return bit_of(t.worst, 35 - r);
+    }
+    if r < 44 {
+        return bit_of(t.fixed, 43 - r);
+    }
+    0
 }
 
 // Bit k of a plan's block.

@@ -6,7 +6,7 @@ use mathlib.Core.Bool.{Bool, true, false}
 use mathlib.Core.List.{List}
 use lib.ListN.{length, getD}
 use Rattle.plan.specs.declared.Task.{Task}
-use Rattle.plan.specs.Times.{noRest, timeOf}
+use Rattle.plan.specs.Times.{whole, noRest, Within, timeOf}
 use Rattle.plan.specs.Levels.{speedOf, nominal}
 use Rattle.plan.specs.Blocks.{noTask}
 use Rattle.schedule.specs.PlainSchedule.{Timing}
@@ -21,7 +21,8 @@ nominalSpeed speeds ts = speedOf speeds (nominal speeds ts)
 -- a state's plan and entries, as those of a sound one, whatever its clock; its order is not looked at
 pub record FineEntries (speeds : List ℕ) (ts : List Task) (s : State) : Type 0 where
   pub plan : planIn s ≡ ts
-  pub work : (i : ℕ) → i < length ts → workOf s i ≤ getD ts i noTask .worst
+  pub left : (i : ℕ) → i < length ts → Within (restOf s i) (whole (getD ts i noTask))
+  pub closed : (i : ℕ) → i < length ts → workOf s i ≡ 0 → restOf s i .fixed ≡ 0
   pub remaining : (i : ℕ) → i < length ts → remainingOf s i ≤ timing speeds ts .allotment i
   pub ahead : (i : ℕ) → i < length ts → timeOf (nominalSpeed speeds ts) (restOf s i) ≤ remainingOf s i
 
@@ -33,7 +34,7 @@ pub closed-none :
     i < length ts →
     workOf s i ≡ 0 →
     restOf s i ≡ noRest
-closed-none f i h e = λ k. record { work = e k }
+closed-none f i h e = λ k. record { fixed = f .closed i h e k; work = e k }
 
 -- a sound state of a plan
 pub record Fine (speeds : List ℕ) (ts : List Task) (s : State) : Type 0 where

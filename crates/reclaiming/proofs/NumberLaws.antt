@@ -37,7 +37,7 @@ order-most : (s : State) (hold : ℕ) → s .task < 256 → s .level < 256 → h
 order-most s hold t l h =
     elim (viewOrder s hold) as (λ r _. replyNumber r < 2 ^ 64) [ is-idle e ↦ omega arith | is-run e ↦ omega arith ]
 
-reply-most : (n : ℕ) (order : Reply) → n ≤ 20 → (n ≡ 0 → replyNumber order < 2 ^ 64) → replyNumber (repliedBy n order) < 2 ^ 64
+reply-most : (n : ℕ) (order : Reply) → n ≤ 255 → (n ≡ 0 → replyNumber order < 2 ^ 64) → replyNumber (repliedBy n order) < 2 ^ 64
 reply-most zero order h f = f refl
 reply-most (suc n) order h f = omega arith
 
@@ -65,7 +65,7 @@ pub start-most : (levels block : List ℕ) (room : ℕ) (r : Reply) → r ≡ st
 start-most levels block room r e =
     subst (λ (x : Reply). replyNumber x < 2 ^ 64) (sym e)
     (reply-most (startNumber levels block room) (startOrder speeds (startState speeds (tasksIn block)))
-    (firstNo-most 20 (starting levels block room) refl) order)
+    (firstNo-most 255 (starting levels block room) refl) order)
   where
     speeds : List ℕ
     speeds = speedsIn levels
@@ -83,7 +83,7 @@ pub pass-most : (bytes : List ℕ) (d : ℕ) (finished : Bool) (r : Reply) → r
 pass-most bytes d finished r e =
     subst (λ (x : Reply). replyNumber x < 2 ^ 64) (sym e)
     (reply-most (passNumber bytes d finished) (passOrder speeds (decode bytes) d finished)
-    (omega (arith, firstNo-most 15 (passing bytes d finished) refl)) order)
+    (firstNo-most 255 (passing bytes d finished) refl) order)
   where
     speeds : List ℕ
     speeds = decode bytes .speeds

@@ -18,10 +18,11 @@ use Rattle.arith.proofs.RangeLaws.{length-listTo, getD-listTo, no-none}
 use Rattle.arith.proofs.Searches.{first-le, first-passes}
 use Rattle.plan.specs.declared.Task.{Task}
 use Rattle.plan.specs.declared.Rest.{Rest}
-use Rattle.plan.specs.Times.{noRest, timeOf, worn}
+use Rattle.plan.specs.Times.{whole, noRest, Within, timeOf, worn}
 use Rattle.plan.specs.Levels.{Rising, speedOf, nominal}
 use Rattle.plan.specs.Blocks.{noTask}
-use Rattle.plan.proofs.Facts.{FineList}
+use Rattle.plan.proofs.Facts.{FineList, range-at}
+use Rattle.plan.proofs.TimeLaws.{within-self, within-trans}
 use Rattle.plan.proofs.LevelLaws.{Positive, range-positive}
 use Rattle.schedule.specs.PlainSchedule.{Timing, Job, Pending, moreUrgent, latest}
 use Rattle.schedule.proofs.Urgency.{MoreUrgent}
@@ -35,7 +36,7 @@ use Rattle.reclaiming.proofs.Fine.{nominalSpeed, FineEntries, Fine, Acc
 use Rattle.reclaiming.proofs.OrderFacts.{Runs, Ordered, idles, runs, facts-order, head-below}
 use Rattle.reclaiming.proofs.NextArrival.{next-positive, next-quiet, not-next, next-on}
 use Rattle.reclaiming.proofs.Allowances.{allowed, allowance-is}
-use Rattle.reclaiming.proofs.Worked.{worked-mine, worked-less, worked-was, worked-open, drained-less, drained-allowance}
+use Rattle.reclaiming.proofs.Worked.{worked-mine, worked-within, worked-less, worked-closed, worked-was, worked-open, drained-less, drained-allowance}
 use Rattle.reclaiming.proofs.Worked.{runs-running, ordered, time-positive, runs-on, stays-ahead}
 
 -- the order that is chosen where every task is ahead
@@ -71,7 +72,7 @@ module _ (speeds : List ℕ) (ts : List Task) (admitted : nominal speeds ts < le
 
 -- another order leaves the entries as they are
 with-order : {speeds : List ℕ} {ts : List Task} {s : State} (task level : ℕ) → FineEntries speeds ts s → FineEntries speeds ts (withOrder s task level)
-with-order task level f = record { plan = f .plan; work = f .work; remaining = f .remaining; ahead = f .ahead }
+with-order task level f = record { plan = f .plan; left = f .left; closed = f .closed; remaining = f .remaining; ahead = f .ahead }
 
 -- so choosing an order makes a sound state
 pub fine-chosen :
@@ -105,7 +106,8 @@ start-fine speeds ts plan rising =
     (record { clock = 0; task = 255; level = 0; entries = listTo (length ts) new; speeds = speeds })
     (record {
       plan = plan-listTo ts new (λ i h. refl);
-      work = λ i h. at (λ e. e .work ≤ getD ts i noTask .worst) i h (omega arith);
+      left = λ i h. at (λ e. Within (restIn e) (whole (getD ts i noTask))) i h (within-self (whole (getD ts i noTask)));
+      closed = λ i h. at (λ e. e .work ≡ 0 → e .unspent ≡ 0) i h (λ e. absurd (omega (arith, range-at ts i (plan .tasks .ranges) h .worst-low)));
       remaining = λ i h. at (λ e. e .remaining ≤ timing speeds ts .allotment i) i h (omega arith);
       ahead = λ i h. at (λ e. timeOf (nominalSpeed speeds ts) (restIn e) ≤ e .remaining) i h (omega arith);
     })
@@ -161,8 +163,13 @@ module _ (speeds : List ℕ) (rising : Rising speeds) (ts : List Task) (plan : F
     pub moved-fine : FineEntries speeds ts moved
     moved-fine = record {
       plan = plan-listTo ts entry (λ i h. after-is (λ e. taskOf e ≡ getD ts i noTask) i refl (same-task i));
-      work = λ i h.
-          moved-is (λ e. e .work ≤ getD ts i noTask .worst) i h (omega arith) (omega (arith, worked-less speeds s d finished i, fine .entries .work i h));
+      left = λ i h.
+          moved-is (λ e. Within (restIn e) (whole (getD ts i noTask))) i h (within-self (whole (getD ts i noTask)))
+          (within-trans (worked-within speeds s d finished i) (fine .entries .left i h));
+      closed = λ i h.
+          moved-is (λ e. e .work ≡ 0 → e .unspent ≡ 0) i h
+          (λ e. absurd (omega (arith, range-at ts i (plan .tasks .ranges) h .worst-low)))
+          (worked-closed speeds rising ts plan s fine d finished pass i h);
       remaining = λ i h.
           moved-is (λ e. e .remaining ≤ τ .allotment i) i h (omega arith)
           (omega (arith, drained-less τ s d i h, fine .entries .remaining i h));

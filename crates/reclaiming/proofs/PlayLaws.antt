@@ -108,7 +108,7 @@ module _ (bytes : List ℕ) (d : ℕ) (finished : Bool) where
   pass-small : Small (passReply bytes d finished)
   pass-small =
       replied-small (passNumber bytes d finished) (passOrder held before d finished)
-      (omega (arith, firstNo-most 15 (passing bytes d finished) refl))
+      (omega (arith, firstNo-most 255 (passing bytes d finished) refl))
       (λ e. order-small next (passedHold held (timing held (planIn before)) before d finished) (next-small e))
 
 -- so the replies that stand in a lent block are those of the run
@@ -151,7 +151,7 @@ module _ (levels : List ℕ) where
     start-small : Small (startReply levels block (length buffer))
     start-small =
         replied-small (startNumber levels block (length buffer)) (startOrder speeds begun)
-        (omega (arith, firstNo-most 20 (starting levels block (length buffer)) refl))
+        (omega (arith, firstNo-most 255 (starting levels block (length buffer)) refl))
         (λ e. order-small begun begun-hold (small (start-facts levels block (length buffer) e)))
       where
         small : Starts levels block (length buffer) → (begun .task < 256) × (begun .level < 256)

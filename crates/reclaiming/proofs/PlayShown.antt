@@ -62,7 +62,7 @@ module _ (levels : List ℕ) where
       where
         none : (n : ℕ) → startNumber levels block (length state) ≡ n → startNumber levels block (length state) ≡ 0
         none zero e = e
-        none (suc n) e = absurd (omega (arith, first-by (suc n) e, e, firstNo-most 20 (starting levels block (length state)) refl))
+        none (suc n) e = absurd (omega (arith, first-by (suc n) e, e, firstNo-most 255 (starting levels block (length state)) refl))
 
   module _ {block state : List ℕ} {passes : List Pass} {found : List ℕ} {number : ℕ} {m replies : List ℕ}
       (r : Ran levels block state passes found number m replies) (lent : List ℕ) where

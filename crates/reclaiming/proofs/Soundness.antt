@@ -15,7 +15,7 @@ use Rattle.arith.proofs.Tests.{both-left, both-right, both-true, only-if, if-so
 use Rattle.arith.proofs.ListLaws.{every-at, at-every}
 use Rattle.arith.proofs.QuestionLaws.{Yes, all-yes, yes-all, ask-yes, yes-before, yes-of, yes-after}
 use Rattle.plan.specs.declared.Task.{Task}
-use Rattle.plan.specs.Times.{timeOf, taskTime}
+use Rattle.plan.specs.Times.{whole, Within, timeOf, taskTime}
 use Rattle.plan.specs.Levels.{Rising, nominal}
 use Rattle.plan.specs.LevelBlocks.{tableGood, loading, speedsIn}
 use Rattle.plan.specs.Blocks.{noTask, tasksIn}
@@ -23,9 +23,9 @@ use Rattle.plan.specs.Questions.{judging, reading, roomQuestion}
 use Rattle.plan.proofs.LevelBlockLaws.{FineTable, fine-table, loaded-table}
 use Rattle.plan.proofs.Facts.{FineList, InRange, fine-list, list-yes, fine-block, block-list}
 use Rattle.reclaiming.specs.declared.Entry.{Entry}
-use Rattle.reclaiming.specs.StateBlock.{State, noEntry, workOf, remainingOf, restIn, taskOf, planIn, timing, decode, laidOut, stateLength}
+use Rattle.reclaiming.specs.StateBlock.{State, noEntry, restOf, remainingOf, restIn, taskOf, planIn, timing, decode, laidOut, stateLength}
 use Rattle.reclaiming.specs.Orders.{nextArrival, openJobs, runningTime}
-use Rattle.reclaiming.specs.Questions.{largestClock, entrySound, orderSound, stateSound, inTime, soundAt, sound, starting, running, stepQuestions, passQuestions}
+use Rattle.reclaiming.specs.Questions.{largestClock, fixedSound, entrySound, orderSound, stateSound, inTime, soundAt, sound, starting, running, stepQuestions, passQuestions}
 use Rattle.reclaiming.proofs.Fine.{nominalSpeed, FineEntries, Fine, Accepted}
 use Rattle.reclaiming.proofs.Plans.{task-range, allotment-short}
 use Rattle.reclaiming.proofs.StateCodec.{StorableEntry, StorableTable, Storable}
@@ -44,25 +44,38 @@ fine-length {s = s} f = sym (length-planIn s) ∙ ap length (f .plan)
 
 -- an entry
 pub record FineEntry (speed : ℕ) (e : Entry) : Type 0 where
-  pub work : e .work ≤ e .worst
+  pub left : Within (restIn e) (whole (taskOf e))
+  pub closed : e .work ≡ 0 → e .unspent ≡ 0
   pub remaining : e .remaining ≤ taskTime speed (taskOf e)
   pub ahead : timeOf speed (restIn e) ≤ e .remaining
 
 fine-entry : (speed : ℕ) (e : Entry) → entrySound speed e ≡ true → FineEntry speed e
 fine-entry speed e h =
-    let a : Bool = leb (e .work) (e .worst) in
+    let w : Bool = leb (e .work) (e .worst) in
+    let u : Bool = leb (e .unspent) (e .fixed) in
+    let z : Bool = pick (eqb (e .work) 0) (eqb (e .unspent) 0) true in
+    let a : Bool = both w (fixedSound e) in
     let b : Bool = leb (e .remaining) (taskTime speed (taskOf e)) in
     let c : Bool = leb (timeOf speed (restIn e)) (e .remaining) in
+    let j : a ≡ true = both-left a (both b c) h in
+    let l : fixedSound e ≡ true = both-right w (fixedSound e) j in
     let k : both b c ≡ true = both-right a (both b c) h in
     record {
-      work = leb-true (e .work) (e .worst) (both-left a (both b c) h);
+      left = record {
+        fixed = leb-true (e .unspent) (e .fixed) (both-left u z l);
+        work = leb-true (e .work) (e .worst) (both-left w (fixedSound e) j);
+      };
+      closed = λ n. eqb-true (e .unspent) 0 (if-so (eqb (e .work) 0) (eqb (e .unspent) 0) (both-right u z l) (eq-eqb (e .work) 0 n));
       remaining = leb-true (e .remaining) (taskTime speed (taskOf e)) (both-left b c k);
       ahead = leb-true (timeOf speed (restIn e)) (e .remaining) (both-right b c k);
     }
 
 entry-sound : (speed : ℕ) (e : Entry) → FineEntry speed e → entrySound speed e ≡ true
 entry-sound speed e f =
-    both-true (le-leb (e .work) (e .worst) (f .work))
+    both-true
+    (both-true (le-leb (e .work) (e .worst) (f .left .work))
+    (both-true (le-leb (e .unspent) (e .fixed) (f .left .fixed))
+    (only-if (eqb (e .work) 0) (eqb (e .unspent) 0) (λ n. eq-eqb (e .unspent) 0 (f .closed (eqb-true (e .work) 0 n))))))
     (both-true (le-leb (e .remaining) (taskTime speed (taskOf e)) (f .remaining)) (le-leb (timeOf speed (restIn e)) (e .remaining) (f .ahead)))
 
 -- a sound state's plan is accepted, and the state is fine
@@ -84,7 +97,8 @@ sound-fine speeds s h =
       record {
         entries = record {
           plan = refl;
-          work = λ i q. subst (λ (t : Task). workOf s i ≤ t .worst) (sym (planIn-at s i)) (entry i q .work);
+          left = λ i q. subst (λ (t : Task). Within (restOf s i) (whole t)) (sym (planIn-at s i)) (entry i q .left);
+          closed = λ i q. entry i q .closed;
           remaining = λ i q. subst (λ (t : Task). remainingOf s i ≤ taskTime (nominalSpeed speeds ts) t) (sym (planIn-at s i)) (entry i q .remaining);
           ahead = λ i q. entry i q .ahead;
         };
@@ -112,7 +126,8 @@ fine-sound speeds ts s l f =
         (at-every (entrySound v) (s .entries) noEntry
         (λ i q. entry-sound v (getD (s .entries) i noEntry)
         (record {
-          work = subst (λ (t : Task). workOf s i ≤ t .worst) (planIn-at s i) (f .entries .work i (omega arith));
+          left = subst (λ (t : Task). Within (restOf s i) (whole t)) (planIn-at s i) (f .entries .left i (omega arith));
+          closed = f .entries .closed i (omega arith);
           remaining = subst (λ (t : Task). remainingOf s i ≤ taskTime v t) (planIn-at s i) (f .entries .remaining i (omega arith));
           ahead = f .entries .ahead i (omega arith);
         })))
@@ -275,10 +290,13 @@ fine-storable speeds ts s l rising few f late table =
     entry : (i : ℕ) → i < length ts → StorableEntry (getD (s .entries) i noEntry)
     entry i k =
         let r : InRange (taskOf (getD (s .entries) i noEntry)) = subst InRange (same i) (task-range speeds ts l rising i k) in
-        let w : getD ts i noTask .worst ≡ getD (s .entries) i noEntry .worst = ap (λ (t : Task). t .worst) (same i) in
+        let left : Within (restOf s i) (whole (taskOf (getD (s .entries) i noEntry))) =
+        subst (λ (t : Task). Within (restOf s i) (whole t)) (same i) (f .entries .left i k) in
         record {
           period = omega (arith, r .period-high);
           worst = omega (arith, r .worst-high);
-          work = omega (arith, r .worst-high, f .entries .work i k);
+          work = omega (arith, r .worst-high, left .work);
           remaining = omega (arith, f .entries .remaining i k, allotment-short speeds ts l rising i k);
+          fixed = omega (arith, r .fixed-high);
+          unspent = omega (arith, r .fixed-high, left .fixed);
         }

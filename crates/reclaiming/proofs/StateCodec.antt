@@ -16,7 +16,7 @@ use Rattle.reclaiming.specs.declared.Entry.{Entry}
 use Rattle.reclaiming.specs.Fields.{Field, zeros, width, valueIn, fieldsBytes, fieldAt, widthOf, readField}
 use Rattle.reclaiming.specs.StateBlock.{State, noEntry, headFields, clockField, taskField, levelField, countField, tailFields, places}
 use Rattle.reclaiming.specs.StateBlock.{levelPlaces, speedRow, levelsField, speedField, tailAt, levelCount, speedIn}
-use Rattle.reclaiming.specs.StateBlock.{entryFields, periodField, worstField, workField, remainingField, headLength, entryLength, stateLength}
+use Rattle.reclaiming.specs.StateBlock.{entryFields, periodField, worstField, workField, remainingField, fixedField, unspentField, headLength, entryLength, stateLength}
 use Rattle.reclaiming.specs.StateBlock.{entryBytes, entriesBytes, unusedBytes, encode, entryFrom, entriesFrom, stateCount, decode, sameBytes, laidOut}
 use Rattle.reclaiming.proofs.FieldLaws.{length-fields, read-field}
 
@@ -36,6 +36,8 @@ pub record StorableEntry (e : Entry) : Type 0 where
   pub worst : e .worst < 256 ^ widthOf entryFields worstField
   pub work : e .work < 256 ^ widthOf entryFields workField
   pub remaining : e .remaining < 256 ^ widthOf entryFields remainingField
+  pub fixed : e .fixed < 256 ^ widthOf entryFields fixedField
+  pub unspent : e .unspent < 256 ^ widthOf entryFields unspentField
 
 -- a table of speeds that does: at most eight, of two bytes each
 pub record StorableTable (speeds : List ℕ) : Type 0 where
@@ -69,6 +71,8 @@ entry-back e rest h =
       worst = read-field entryFields worstField e rest (h .worst) i;
       work = read-field entryFields workField e rest (h .work) i;
       remaining = read-field entryFields remainingField e rest (h .remaining) i;
+      fixed = read-field entryFields fixedField e rest (h .fixed) i;
+      unspent = read-field entryFields unspentField e rest (h .unspent) i;
     }
 
 entries-back :

@@ -1,7 +1,7 @@
 -- A pass keeps the dispatcher ahead of the plain schedule: after it, each task's work left needs no more than its plain ticks left.
 -- Assumes nothing.
 use Prim.Native.Nat.{ℕ, _+_, _-_, _≤_, _<_}
-use mathlib.Core.Path.{_≡_, refl, sym, ap, subst}
+use mathlib.Core.Path.{_≡_, refl, sym, ap, subst, _∙_}
 use mathlib.Core.Bool.{Bool, true, false, not}
 use mathlib.Core.List.{List}
 use mathlib.Core.Logic.{_≢_}
@@ -12,7 +12,7 @@ use lib.Dec.{eqb}
 use lib.ListN.{length}
 use Rattle.arith.specs.Choice.{pick}
 use Rattle.arith.specs.Sum.{sumTo}
-use Rattle.arith.proofs.Tests.{passed, failed, tested}
+use Rattle.arith.proofs.Tests.{Tested, passed, failed, tested}
 use Rattle.plan.specs.declared.Task.{Task}
 use Rattle.plan.specs.declared.Rest.{Rest}
 use Rattle.plan.specs.Times.{noRest, Within, timeOf, worn}
@@ -117,6 +117,27 @@ module _ (speeds : List ℕ) (rising : Rising speeds) (ts : List Task) (plan : F
         go (runs r) (yes x) =
             subst (λ (j : ℕ). 0 < workedOf speeds s d finished j .work) (sym x) (rw (worked-mine speeds s d finished, f) (some-left r))
         go (runs r) (no x) = subst (λ (r : Rest). 0 < r .work) (sym (worked-other speeds s d finished i x)) k
+
+    -- of a job without work no fixed ticks are left
+    pub worked-closed : (i : ℕ) → i < length ts → workedOf speeds s d finished i .work ≡ 0 → workedOf speeds s d finished i .fixed ≡ 0
+    worked-closed i h e =
+        elim (decLe 1 (workOf s i)) [
+          | no l ↦ omega (arith, worked-within speeds s d finished i .fixed, fine .entries .closed i h (omega arith))
+          | yes l ↦ went-on l (tested finished) refl
+        ]
+      where
+        other : 1 ≤ workOf s i → i ≢ s .task → ⊥
+        other l x = omega (arith, e, l, ap (λ (r : Rest). r .work) (worked-other speeds s d finished i x))
+
+        went-on : 1 ≤ workOf s i → {b : Bool} → Tested b → finished ≡ b → workedOf speeds s d finished i .fixed ≡ 0
+        went-on l failed f = absurd (omega (arith, e, worked-open f i h l))
+        went-on l passed f =
+            elim (ℕ-discrete i (s .task)) [
+              | yes x ↦
+                  ap (λ (j : ℕ). workedOf speeds s d finished j .fixed) x
+                  ∙ ap (λ (r : Rest). r .fixed) (worked-mine speeds s d finished ∙ ap (λ (b : Bool). pick b noRest rest) f)
+              | no x ↦ absurd (other l x)
+            ]
 
     -- the running job
     ahead-mine : Runs speeds τ (nominal speeds ts) s → timeOf (nominalSpeed speeds ts) (pick finished noRest rest) ≤ drainedOf τ s d (s .task)

@@ -6,7 +6,7 @@ use lib.Dec.{eqb}
 use Rattle.reclaiming.specs.declared.Reply.{Reply}
 use Rattle.reclaiming.specs.declared.Reply.the-variants as reply
 
--- a refusal is its number, 1 to 17; else the kind (1 to run, 2 to stay idle) stands from bit 8 on, the task from bit 16 on, the level from
+-- a refusal is its number, below 256; else the kind (1 to run, 2 to stay idle) stands from bit 8 on, the task from bit 16 on, the level from
 -- bit 24 on and the hold from bit 32 on
 abbrev pub replyNumber : Reply → ℕ
 replyNumber (reply.Run task level hold) = 256 + 65536 * task + 16777216 * level + 4294967296 * hold

@@ -21,11 +21,15 @@ use Rattle.reclaiming.specs.Passes.{clockAfter}
 abbrev pub largestClock : ℕ
 largestClock = 4000000000
 
+-- 02, No. 2: "Soundness requires these left to be no more than the fixed ticks, and zero in a finished job."
+abbrev pub fixedSound : Entry → Bool
+fixedSound e = both (leb (e .unspent) (e .fixed)) (pick (eqb (e .work) 0) (eqb (e .unspent) 0) true)
+
 -- 01: "for each task, work left at most the worst case, plain ticks left at most the allotment, and the time needed for the work left
 -- at the nominal level at most the plain ticks left"
 abbrev pub entrySound : ℕ → Entry → Bool
 entrySound speed e =
-    both (leb (e .work) (e .worst))
+    both (both (leb (e .work) (e .worst)) (fixedSound e))
     (both (leb (e .remaining) (taskTime speed (taskOf e))) (leb (timeOf speed (restIn e)) (e .remaining)))
 
 -- 01: "an idle order exactly if no job is open, else the most urgent open job at a level no higher than nominal that meets its allowance"

@@ -25,9 +25,9 @@ pub record State : Type 0 where
   pub speeds : List ℕ
 
 abbrev pub noEntry : Entry
-noEntry = record { period = 0; worst = 0; work = 0; remaining = 0 }
+noEntry = record { period = 0; worst = 0; work = 0; remaining = 0; fixed = 0; unspent = 0 }
 
--- of task i's job: the work left, "0 once finished", and the plain ticks left
+-- of task i's job: the work left, "0 once finished", and the plain ticks left; an entry's fixed ticks left are called unspent
 abbrev pub workOf : State → ℕ → ℕ
 workOf s i = getD (s .entries) i noEntry .work
 
@@ -36,21 +36,28 @@ remainingOf s i = getD (s .entries) i noEntry .remaining
 
 -- what is left of task i's job, by which its time is told
 abbrev pub restIn : Entry → Rest
-restIn e = record { work = e .work }
+restIn e = record { fixed = e .unspent; work = e .work }
 
 abbrev pub restOf : State → ℕ → Rest
 restOf s i = restIn (getD (s .entries) i noEntry)
 
 -- the plan in a state
 abbrev pub taskOf : Entry → Task
-taskOf e = record { period = e .period; worst = e .worst }
+taskOf e = record { period = e .period; worst = e .worst; fixed = e .fixed }
 
 abbrev pub planIn : State → List Task
 planIn s = map taskOf (s .entries)
 
 -- an entry: its task, what is left of its job, and the plain ticks left
 abbrev pub entryWith : Task → Rest → ℕ → Entry
-entryWith t r remaining = record { period = t .period; worst = t .worst; work = r .work; remaining = remaining }
+entryWith t r remaining = record {
+  period = t .period;
+  worst = t .worst;
+  work = r .work;
+  remaining = remaining;
+  fixed = t .fixed;
+  unspent = r .fixed;
+}
 
 -- what the plain schedule sees of a plan: periods, and the worst cases' times at a speed as allotments
 abbrev pub timingAt : ℕ → List Task → Timing
@@ -90,7 +97,8 @@ countField = 3
 abbrev pub zeroField : ℕ
 zeroField = 4
 
--- 01: "sixteen entries of 12 bytes: period (2), worst case (3), work left (3; 0 once finished), plain ticks left (2), two zero bytes"
+-- 01: "sixteen entries of 12 bytes: period (2), worst case (3), work left (3; 0 once finished), plain ticks left (2), two zero bytes"; 02, No. 2:
+-- "the two zero bytes become fixed ticks and fixed ticks left"
 abbrev pub places : ℕ
 places = 16
 
@@ -100,7 +108,8 @@ entryFields =
     ∷ field 3 (λ e. e .worst)
     ∷ field 3 (λ e. e .work)
     ∷ field 2 (λ e. e .remaining)
-    ∷ zeros 2
+    ∷ field 1 (λ e. e .fixed)
+    ∷ field 1 (λ e. e .unspent)
     ∷ []
 
 abbrev pub periodField : ℕ
@@ -115,8 +124,11 @@ workField = 2
 abbrev pub remainingField : ℕ
 remainingField = 3
 
-abbrev pub pairField : ℕ
-pairField = 4
+abbrev pub fixedField : ℕ
+fixedField = 4
+
+abbrev pub unspentField : ℕ
+unspentField = 5
 
 -- 02, No. 1: "at its end the count and eight speeds of two bytes, unused ones zero"
 abbrev pub levelPlaces : ℕ
@@ -168,6 +180,8 @@ entryFrom bytes = record {
   worst = readField entryFields worstField bytes;
   work = readField entryFields workField bytes;
   remaining = readField entryFields remainingField bytes;
+  fixed = readField entryFields fixedField bytes;
+  unspent = readField entryFields unspentField bytes;
 }
 
 abbrev pub entriesFrom : ℕ → List ℕ → List Entry

@@ -1,7 +1,7 @@
 -- What a sound state has, and what a sound block has.
 -- Assumes nothing.
 use Prim.Native.Nat.{ℕ, _-_, _%_, _<_, _≤_}
-use mathlib.Core.Path.{_≡_, ap, subst}
+use mathlib.Core.Path.{_≡_, subst}
 use mathlib.Core.Bool.{true}
 use mathlib.Core.List.{List}
 use native.Mathlib.Omega.{arith}
@@ -10,10 +10,10 @@ use Rattle.arith.specs.Choice.{both}
 use Rattle.arith.proofs.Tests.{both-left}
 use Rattle.plan.specs.declared.Task.{Task}
 use Rattle.plan.specs.Levels.{Rising, nominal}
-use Rattle.plan.specs.Blocks.{noTask}
 use Rattle.arith.specs.Asking.{firstNo}
 use Rattle.plan.specs.Questions.{taskQuestions}
 use Rattle.plan.proofs.Facts.{FineList, InRange, tasks-yes}
+use Rattle.plan.specs.Times.{whole, Within}
 use Rattle.state.specs.Code.{Holds, FitTask, FitRest}
 use Rattle.schedule.specs.PlainSchedule.{Timing}
 use Rattle.reclaiming.specs.StateBlock.{State, noEntry, taskOf, remainingOf, restOf, planIn, timing, encode, decode, laidOut, stateLength, stateCount, places}
@@ -67,12 +67,13 @@ module _ (speeds : List ℕ) (rising : Rising speeds) (s : State) (ok : stateSou
         subst (λ (t : Task). InRange t) (planIn-at s i) (task-range speeds (planIn s) sound-plan rising i within-plan)
 
     pub task-fits : FitTask (taskOf (getD (s .entries) i noEntry))
-    task-fits = record { period = range-of .period-high; worst = omega (arith, range-of .worst-high) }
+    task-fits = record { period = range-of .period-high; worst = omega (arith, range-of .worst-high); fixed = range-of .fixed-high }
 
     pub rest-fits : FitRest (restOf s i)
     rest-fits =
-        let e : getD (planIn s) i noTask .worst ≡ getD (s .entries) i noEntry .worst = ap (λ (t : Task). t .worst) (planIn-at s i) in
-        record { work = omega (arith, sound-facts .entries .work i within-plan, task-fits .worst) }
+        let left : Within (restOf s i) (whole (taskOf (getD (s .entries) i noEntry))) =
+        subst (λ (t : Task). Within (restOf s i) (whole t)) (planIn-at s i) (sound-facts .entries .left i within-plan) in
+        record { fixed = omega (arith, left .fixed, task-fits .fixed); work = omega (arith, left .work, task-fits .worst) }
 
     pub remaining-most : remainingOf s i ≤ 65535
     remaining-most =

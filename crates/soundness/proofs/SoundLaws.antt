@@ -34,7 +34,7 @@ use Rattle.reclaiming.specs.Orders.{allowance, openJobs, runningTime}
 use Rattle.reclaiming.specs.Questions.{largestClock, inTime, entrySound, orderSound, stateSound, soundAt}
 use Rattle.state.specs.Code.{Holds, entryIn, timingIn}
 use Rattle.urgency.specs.Code.{Keyed, latestKey, keysIn, noKey}
-use Rattle.soundness.specs.Code.{Good, orderIn, timedSound, testedBy}
+use Rattle.soundness.specs.Code.{Good, restSound, orderIn, timedSound, testedBy}
 use Rattle.levels.specs.Code.{loaded, Table}
 use Rattle.levels.proofs.Tables.{levels-are, speed-is, speed-positive, speed-most}
 use Rattle.soundness.proofs.SoundFacts.{sound-holds, sound-plan-yes}
@@ -74,6 +74,24 @@ module _ {b : List ℕ} {count : ℕ} {p : Plan} {i : ℕ} (now : Copying b coun
 pub plan-few : {b : List ℕ} → Holds b → {p : Plan} → p ≡ planOf (planIn (decode b)) → p .count ≤ places
 plan-few {b} holds e = subst (λ (q : Plan). q .count ≤ places) (sym e) (omega (arith, holds .few, timing-count b))
 
+-- what is left of a job, beside a whole one: each test as the code makes it
+module _ (rest full : Rest) where
+  pub work-over : full .work < rest .work → false ≡ restSound rest full
+  work-over h = simp (lt-leb (rest .work) (full .work) h)
+
+  module _ (work : rest .work ≤ full .work) where
+    pub fixed-over : full .fixed < rest .fixed → false ≡ restSound rest full
+    fixed-over h = simp (le-leb (rest .work) (full .work) work, lt-leb (rest .fixed) (full .fixed) h)
+
+    module _ (fixed : rest .fixed ≤ full .fixed) where
+      pub finished-fixed : rest .work ≡ 0 → eqb (rest .fixed) 0 ≡ restSound rest full
+      finished-fixed z =
+          simp (le-leb (rest .work) (full .work) work, le-leb (rest .fixed) (full .fixed) fixed, eq-eqb (rest .work) 0 z)
+
+      pub open-fixed : (rest .work ≡ 0 → ⊥) → true ≡ restSound rest full
+      open-fixed n =
+          simp (le-leb (rest .work) (full .work) work, le-leb (rest .fixed) (full .fixed) fixed, ne-eqb (rest .work) 0 n)
+
 -- what is left of an entry's job, and a whole job of its task, as they are read, at a speed
 pub record Compared (b : List ℕ) (i speed : ℕ) (rest full : Rest) : Type 0 where
   pub rest-in : rest ≡ restIn (entryIn b i)
@@ -88,25 +106,25 @@ module _ {b : List ℕ} {i speed : ℕ} {rest full : Rest} (k : Compared b i spe
       (remaining : ℕ) →
       remaining ≡ entry .remaining →
       entrySound speed entry
-      ≡ both (leb (rest .work) (full .work)) (both (leb remaining (timeOf speed full)) (leb (timeOf speed rest) remaining))
+      ≡ both (restSound rest full) (both (leb remaining (timeOf speed full)) (leb (timeOf speed rest) remaining))
   entry-tests remaining d =
       sym
-      (ap₂ both (ap₂ (λ (x y : Rest). leb (x .work) (y .work)) (k .rest-in) (k .whole-in))
+      (ap₂ both (ap₂ restSound (k .rest-in) (k .whole-in))
       (ap₂ both
       (ap₂ (λ (n : ℕ) (y : Rest). leb n (timeOf speed y)) d (k .whole-in))
       (ap₂ (λ (x : Rest) (n : ℕ). leb (timeOf speed x) n) (k .rest-in) d)))
 
-  pub work-high : full .work < rest .work → false ≡ entrySound speed entry
-  work-high h =
+  pub rest-high : {found : Bool} → found ≡ restSound rest full → found ≡ false → false ≡ entrySound speed entry
+  rest-high f e =
       sym
       (entry-tests (entry .remaining) refl
       ∙ ap (λ (t : Bool). both t (both (leb (entry .remaining) (timeOf speed full)) (leb (timeOf speed rest) (entry .remaining))))
-      (lt-leb (rest .work) (full .work) h))
+      (sym f ∙ e))
 
 -- and its plain ticks left, of which it was found whether they are within the time of a whole job
 pub record Measured (b : List ℕ) (i speed : ℕ) (rest full : Rest) (remaining : ℕ) (found : Bool) : Type 0 where
   pub compared : Compared b i speed rest full
-  pub low : rest .work ≤ full .work
+  pub low : restSound rest full ≡ true
   pub remaining-in : remaining ≡ entryIn b i .remaining
   pub found-is : found ≡ leb remaining (timeOf speed full)
 
@@ -115,7 +133,7 @@ module _ {b : List ℕ} {i speed : ℕ} {rest full : Rest} {remaining : ℕ} {fo
   last-test t e =
       sym
       (entry-tests (k .compared) remaining (k .remaining-in)
-      ∙ ap₂ (λ (u v : Bool). both u (both v (leb (timeOf speed rest) remaining))) (le-leb (rest .work) (full .work) (k .low))
+      ∙ ap₂ (λ (u v : Bool). both u (both v (leb (timeOf speed rest) remaining))) (k .low)
       (sym (k .found-is) ∙ e))
 
   pub remaining-high : found ≡ false → false ≡ entrySound speed (entryIn b i)

@@ -2,6 +2,7 @@
 use block_layout::laid_out;
 use clock::Clock;
 use plan::Plan;
+use plan::Rest;
 use plan::Verdict;
 use state::COUNT_AT;
 use state::LEVEL_AT;
@@ -33,7 +34,7 @@ ghost use Rattle.reclaiming.specs.StateBlock.{planIn, places, stateLength, stat
 ghost use Rattle.reclaiming.specs.Questions.{largestClock, entrySound, stateSound, soundAt};
 ghost use Rattle.state.specs.Code.{Holds, entryIn, timingIn};
 ghost use Rattle.urgency.specs.Code.{Keyed};
-ghost use Rattle.soundness.specs.Code.{orderIn, timedSound, testedBy};
+ghost use Rattle.soundness.specs.Code.{restSound, orderIn, timedSound, testedBy};
 
 // A block that was tested: whether it is sound and, if so, its nominal level and the keys of its jobs.
 pub struct Tested {
@@ -57,6 +58,22 @@ fn plan_of(block: &[u8], count: usize) -> Plan
     p
 }
 
+// Whether no more is left of a job than of a whole one, and no fixed ticks where it has finished.
+fn rest_sound(rest: Rest, whole: Rest) -> bool
+    ensures { λ r. ⌜ r ≡ restSound rest whole ⌝ }
+{
+    if rest.work > whole.work {
+        return false;
+    }
+    if rest.fixed > whole.fixed {
+        return false;
+    }
+    if rest.work == 0 {
+        return rest.fixed == 0;
+    }
+    true
+}
+
 // Whether what is left of task i's job and its remaining ticks are sound, at the nominal speed.
 fn entry_sound(block: &[u8], i: usize, speed: u32) -> bool
     requires { ⌜ (i < places) × (length (now block) ≡ stateLength) × (0 < speed) × (speed ≤ 1000) ⌝ }
@@ -64,7 +81,7 @@ fn entry_sound(block: &[u8], i: usize, speed: u32) -> bool
 {
     let rest = rest_at(block, i);
     let whole = times::whole_of(task_at(block, i));
-    if rest.work > whole.work {
+    if !rest_sound(rest, whole) {
         return false;
     }
     let remaining = remaining_at(block, i);

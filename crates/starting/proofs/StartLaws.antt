@@ -29,12 +29,12 @@ use Rattle.schedule.specs.PlainSchedule.{Timing}
 use Rattle.reclaiming.specs.declared.Entry.{Entry}
 use Rattle.reclaiming.specs.declared.Reply.{Reply}
 use Rattle.reclaiming.specs.declared.Reply.the-variants as reply
-use Rattle.reclaiming.specs.StateBlock.{headFields, tailFields, tailAt, entryLength, State, noEntry, remainingOf, restIn, restOf, taskOf, entryWith, timingAt, timing, planIn, taskField, countField, stateLength, stateCount, encode, decode, places}
+use Rattle.reclaiming.specs.StateBlock.{headFields, tailFields, tailAt, entryLength, State, noEntry, remainingOf, restIn, restOf, taskOf, entryWith, entryBytes, timingAt, timing, planIn, taskField, countField, stateLength, stateCount, encode, decode, places}
 use Rattle.reclaiming.specs.Fields.{fieldsBytes, fieldsLength}
 use Rattle.reclaiming.specs.Orders.{chooseOrder, holdOf, orderWith}
 use Rattle.reclaiming.specs.Passes.{newEntry, startState}
 use Rattle.reclaiming.specs.Calls.{repliedBy, startNumber, startOrder}
-use Rattle.state.specs.Code.{Holds, entryAt, entryIn, headStored, entryNumbers, timingIn}
+use Rattle.state.specs.Code.{Holds, entryAt, entryIn, headStored, timingIn}
 use Rattle.urgency.specs.Code.{latestKey, keysIn, Keyed}
 use Rattle.arith.proofs.ArrayLaws.{value-at}
 use Rattle.orders.specs.Code.{chosenIn, chosenReply, Enough}
@@ -111,7 +111,7 @@ module _ {speeds : List ℕ} {speed : ℕ} {p : Plan} {image : List ℕ} {i : �
       i < p .count →
       rest ≡ whole (getD (p .tasks) i noTask) →
       ticks ≡ taskTime speed (getD (p .tasks) i noTask) →
-      m ≡ sets image (entryAt i) (entryNumbers (entryWith (getD (p .tasks) i noTask) rest ticks)) →
+      m ≡ sets image (entryAt i) (entryBytes (entryWith (getD (p .tasks) i noTask) rest ticks)) →
       Making speeds speed p m (i + 1)
   making-more {rest} {ticks} {m} h full e s =
       let ts : List Task = tasksOf p in
@@ -124,7 +124,7 @@ module _ {speeds : List ℕ} {speed : ℕ} {p : Plan} {image : List ℕ} {i : �
       let at : f i ≡ getD es i noEntry = sym (getD-listTo (length ts) f i noEntry (omega (arith, count-is (so-far .plan)))) in
       making speeds speed (so-far .plan) (i + 1) m (omega arith)
       (stored-more (newState speeds speed ts) i image m (omega (arith, so-far .plan .most)) (omega (arith, made-are speeds speed (so-far .plan))) (so-far .bytes)
-      (s ∙ ap (λ (x : Entry). sets image (entryAt i) (entryNumbers x)) (new ∙ at)))
+      (s ∙ ap (λ (x : Entry). sets image (entryAt i) (entryBytes x)) (new ∙ at)))
 
   pub making-all : p .count ≤ i → image ≡ encode (newState speeds speed (tasksOf p))
   making-all h =

@@ -64,6 +64,8 @@ fn fresh(speeds: &[u32; 8], levels: usize, p: Plan, speed: u32) -> [u8; STATE_LE
             worst: t.worst,
             work: rest.work,
             remaining,
+            fixed: t.fixed,
+            unspent: rest.fixed,
         };
         put_entry(&mut image, i, e);
         i += 1;
@@ -92,7 +94,8 @@ fn started(speeds: &[u32; 8], levels: usize, p: Plan, highest: usize, state: &mu
     r
 }
 
-// Starting over a table of speeds whose numbers past its count are zero: the questions 1 to 8 of the block, then 9 for the 217 bytes.
+// Starting over a table of speeds whose numbers past its count are zero: those questions of the block that reading puts, then 9 for the
+// 217 bytes.
 fn start_over(speeds: &[u32; 8], levels: usize, block: &[u8], state: &mut [u8]) -> Reply
     requires { ⌜ Table (now speeds) levels × (now speeds ≡ padded 8 0 (loaded (now speeds) levels)) ⌝ }
     ensures { λ r. ⌜ r ≡ repliedBy
@@ -114,7 +117,7 @@ fn start_over(speeds: &[u32; 8], levels: usize, block: &[u8], state: &mut [u8]) 
     }
 }
 
-// Starting: the questions 18 to 20 of the level block, 1 to 8 of the plan's, then 9 for the 217 bytes.
+// Starting: the questions 18 to 20 of the level block, those of the plan's that reading puts, then 9 for the 217 bytes.
 pub fn start(levels: &[u8], block: &[u8], state: &mut [u8]) -> Reply
     ensures { λ r. ⌜ r ≡ startReply (now (levels .entry)) (now (block .entry)) (length (now (state .entry))) ⌝ }
     ensures { λ _. ⌜ now (state .exit) ≡ startBuffer (now (levels .entry)) (now (block .entry)) (now (state .entry)) ⌝ }

@@ -18,10 +18,10 @@ use Rattle.reclaiming.specs.declared.Entry.{Entry}
 use Rattle.plan.specs.declared.Rest.{Rest}
 use Rattle.reclaiming.specs.Fields.{valueIn, fieldsBytes, fieldAt, widthOf, offsetOf, readField}
 use Rattle.reclaiming.specs.StateBlock.{State, noEntry, remainingOf, restIn, restOf, taskOf, entryWith, headFields, clockField, taskField, levelField, countField, tailFields, places}
-use Rattle.reclaiming.specs.StateBlock.{entryFields, periodField, worstField, workField, remainingField, pairField, headLength, entryLength, stateLength}
+use Rattle.reclaiming.specs.StateBlock.{entryFields, periodField, worstField, workField, remainingField, fixedField, unspentField, headLength, entryLength, stateLength}
 use Rattle.reclaiming.specs.StateBlock.{entryBytes, entriesBytes, unusedBytes, encode, entryFrom, entriesFrom, stateCount, decode}
 use Rattle.reclaiming.specs.Orders.{withOrder}
-use Rattle.state.specs.Code.{entryAt, entryIn, fieldPlace, numberIn, entryStored, headStored, entryNumbers, changed, withJobs, withClock, FitTask, FitRest, restStored}
+use Rattle.state.specs.Code.{entryAt, entryIn, fieldPlace, fieldIn, numberIn, entryStored, headStored, changed, withJobs, withClock, FitTask, FitRest, restStored}
 use Rattle.reclaiming.proofs.FieldLaws.{fieldsValues, sets-past, sets-over, length-fields, read-field, fields-same, store-field, store-next}
 use Rattle.reclaiming.proofs.StateCodec.{pastHead, pastEntries, past-head, length-entriesFrom, length-entriesBytes}
 use Rattle.arith.proofs.RangeLaws.{length-listTo, getD-listTo, listTo-is, listTo-same}
@@ -84,17 +84,20 @@ pub bytes-past : (at : ℕ) (l : List ℕ) → ((k : ℕ) → getD l k 0 < 256) 
 bytes-past at l b k = subst (λ (x : ℕ). x < 256) (sym (getD-drop at l k 0)) (b (at + k))
 
 -- what is read there is in its range
+pub field-small :
+    (bytes : List ℕ) (at n i : ℕ) {r : ℕ} → ((j : ℕ) → getD bytes j 0 < 256) → r ≡ fieldIn bytes at n i → r ≤ 256 ^ n - 1
+field-small bytes at n i b h =
+    let place : ℕ = at + entryLength * i in
+    let fits : number 256 n (drop place bytes) < 256 ^ n =
+    number-below 256 n (drop place bytes) (λ j q. bytes-past place bytes b j) in
+    omega arith
+
 pub field-read :
     (bytes : List ℕ) (i k : ℕ) {r : ℕ} →
     ((j : ℕ) → getD bytes j 0 < 256) →
     r ≡ numberIn bytes k i →
     (r ≡ readField entryFields k (drop (entryAt i) bytes)) × (r ≤ 256 ^ widthOf entryFields k - 1)
-field-read bytes i k b h =
-    let at : ℕ = fieldPlace k + entryLength * i in
-    let n : ℕ = widthOf entryFields k in
-    let fits : number 256 n (drop at bytes) < 256 ^ n =
-    number-below 256 n (drop at bytes) (λ j q. bytes-past at bytes b j) in
-    (h ∙ field-in bytes k i, omega arith)
+field-read bytes i k b h = (h ∙ field-in bytes k i, field-small bytes (fieldPlace k) (widthOf entryFields k) i b h)
 
 -- the numbers of an entry, stored one after the other
 module _ (e : Entry) (i : ℕ) (l : List ℕ) where
@@ -161,7 +164,7 @@ pub stored-more :
     i < places →
     i < length (s .entries) →
     m ≡ storedTo s i →
-    n ≡ sets m (entryAt i) (entryNumbers (getD (s .entries) i noEntry)) →
+    n ≡ sets m (entryAt i) (entryBytes (getD (s .entries) i noEntry)) →
     n ≡ storedTo s (i + 1)
 stored-more s i m n h q a b =
     let e : Entry = getD (s .entries) i noEntry in
@@ -177,10 +180,9 @@ stored-more s i m n h q a b =
       length-take-le i (s .entries) (omega arith),
     ) in
     b
-    ∙ ap (λ (x : List ℕ). sets x (entryAt i) (entryNumbers e))
+    ∙ ap (λ (x : List ℕ). sets x (entryAt i) (entryBytes e))
     (a ∙ ap (λ (x : List ℕ). front ++ (p ++ x)) (free-next s i h) ∙ sym (append-assoc front p (replicate entryLength 0 ++ rest)))
-    ∙ sets-over (front ++ p) (replicate (offsetOf entryFields pairField) 0) (replicate (widthOf entryFields pairField) 0 ++ rest) (entryNumbers e) (entryAt i) size
-    (sym (length-fields (take pairField entryFields) e))
+    ∙ sets-over (front ++ p) (replicate entryLength 0) rest (entryBytes e) (entryAt i) size (sym (length-fields entryFields e))
     ∙ append-assoc front p (entryBytes e ++ rest)
     ∙ ap (λ (x : List ℕ). front ++ x) (sym (append-assoc p (entryBytes e) rest))
     ∙ ap (λ (x : List ℕ). front ++ (x ++ rest)) (sym (entriesBytes-more (s .entries) i q))
@@ -255,10 +257,14 @@ module _ (s : State) (i : ℕ) (h : i < length (s .entries)) where
   encode-task f = λ k. record {
     period = encode-field periodField (omega (arith, f .period)) k;
     worst = encode-field worstField (omega (arith, f .worst)) k;
+    fixed = encode-field fixedField (omega (arith, f .fixed)) k;
   }
 
   pub encode-rest : FitRest (restOf s i) → restIn (entryIn (encode s) i) ≡ restOf s i
-  encode-rest f = λ k. record { work = encode-field workField (omega (arith, f .work)) k }
+  encode-rest f = λ k. record {
+    fixed = encode-field unspentField (omega (arith, f .fixed)) k;
+    work = encode-field workField (omega (arith, f .work)) k;
+  }
 
   pub encode-remaining : remainingOf s i ≤ 65535 → entryIn (encode s) i .remaining ≡ remainingOf s i
   encode-remaining e = encode-field remainingField (omega arith)
@@ -319,7 +325,9 @@ pub length-entryStored : (bytes : List ℕ) (k i x : ℕ) → length (entryStore
 length-entryStored bytes k i x = length-sets bytes (fieldPlace k + entryLength * i) (digits 256 (widthOf entryFields k) x)
 
 pub length-restStored : (bytes : List ℕ) (i : ℕ) (r : Rest) → length (restStored bytes i r) ≡ length bytes
-length-restStored bytes i r = length-entryStored bytes workField i (r .work)
+length-restStored bytes i r =
+    length-entryStored (entryStored bytes workField i (r .work)) unspentField i (r .fixed)
+    ∙ length-entryStored bytes workField i (r .work)
 
 -- a number stored in field k of entry i makes that entry another
 module _ (k v : ℕ) (f : Entry) where
@@ -404,14 +412,22 @@ module _ (s : State) (left : ℕ → Rest) (remaining : ℕ → ℕ) (i : ℕ) (
       (e ∙ ap (λ (y : Entry). set (fieldsValues entryFields y) k x) (sym (jobs-entry s left remaining i h)))
       ∙ ap encode (λ j. record { clock = s .clock; task = s .task; level = s .level; entries = changed-entries f p a b j; speeds = s .speeds })
 
-  pub store-rest : (x : Rest) → restStored (encode (withJobs s left remaining)) i x ≡ encode (withJobs s (changed left i x) remaining)
-  store-rest x =
-      store-jobs (changed left i x) remaining workField (x .work) (simp (eq-eqb i i refl)) (λ j z. changed-else left i x j z) (λ j z. refl)
-
   pub store-remaining :
       (x : ℕ) → entryStored (encode (withJobs s left remaining)) remainingField i x ≡ encode (withJobs s left (changed remaining i x))
   store-remaining x =
       store-jobs left (changed remaining i x) remainingField x (simp (eq-eqb i i refl)) (λ j z. refl) (λ j z. changed-else remaining i x j z)
+
+-- storing what is left of one job: its work, then its fixed ticks
+module _ (s : State) (left : ℕ → Rest) (remaining : ℕ → ℕ) (i : ℕ) (h : i < length (s .entries)) where
+  pub store-rest : (x : Rest) → restStored (encode (withJobs s left remaining)) i x ≡ encode (withJobs s (changed left i x) remaining)
+  store-rest x =
+      let half : ℕ → Rest = changed left i (record { fixed = left i .fixed; work = x .work }) in
+      ap (λ (l : List ℕ). entryStored l unspentField i (x .fixed))
+      (store-jobs s left remaining i h half remaining workField (x .work) (simp (eq-eqb i i refl))
+      (λ j z. changed-else left i (record { fixed = left i .fixed; work = x .work }) j z) (λ j z. refl))
+      ∙ store-jobs s half remaining i h (changed left i x) remaining unspentField (x .fixed) (simp (eq-eqb i i refl))
+      (λ j z. changed-else left i x j z ∙ sym (changed-else left i (record { fixed = left i .fixed; work = x .work }) j z))
+      (λ j z. refl)
 
 -- storing the clock, and an order
 pub store-clock : (s : State) (x : ℕ) → headStored (encode s) clockField x ≡ encode (withClock s x)

@@ -1,20 +1,20 @@
 -- What the code finds in a state's bytes, as the definitions see it.
 -- Assumes nothing.
-use Prim.Native.Nat.{ℕ, zero, suc, _+_, _*_, _≤_}
+use Prim.Native.Nat.{ℕ, _+_, _*_, _≤_}
 use mathlib.Core.Path.{_≡_}
-use mathlib.Core.Bool.{Bool, true}
-use mathlib.Core.List.{List, [], _∷_}
+use mathlib.Core.Bool.{Bool}
+use mathlib.Core.List.{List}
 use lib.Dec.{eqb}
-use lib.ListN.{length, take, drop, getD}
+use lib.ListN.{length, drop, getD}
 use lib.Seq.{sets}
-use Rattle.arith.specs.Choice.{pick, both, every}
+use Rattle.arith.specs.Choice.{pick, every}
 use Rattle.arith.specs.Digits.{number, digits}
 use Rattle.schedule.specs.PlainSchedule.{Timing}
 use Rattle.reclaiming.specs.declared.Entry.{Entry}
 use Rattle.plan.specs.declared.Task.{Task}
 use Rattle.plan.specs.declared.Rest.{Rest}
-use Rattle.reclaiming.specs.Fields.{Field, field, zeros, fieldsBytes, widthOf, offsetOf}
-use Rattle.reclaiming.specs.StateBlock.{State, noEntry, headFields, entryFields, workField, pairField, places, headLength, entryLength, stateLength}
+use Rattle.reclaiming.specs.Fields.{widthOf, offsetOf}
+use Rattle.reclaiming.specs.StateBlock.{State, noEntry, headFields, entryFields, workField, unspentField, places, headLength, entryLength, stateLength}
 use Rattle.reclaiming.specs.StateBlock.{levelPlaces, taskOf, entryWith, entryFrom, stateCount, levelCount, speedIn, decode, planIn, timing}
 use Rattle.arith.specs.Ranges.{listTo}
 
@@ -49,21 +49,6 @@ entryStored bytes k i x = sets bytes (fieldPlace k + entryLength * i) (digits 25
 abbrev pub headStored : List ℕ → ℕ → ℕ → List ℕ
 headStored bytes k x = sets bytes (offsetOf headFields k) (digits 256 (widthOf headFields k) x)
 
--- the bytes of an entry without the zero bytes past its numbers
-abbrev pub entryNumbers : Entry → List ℕ
-entryNumbers e = fieldsBytes (take pairField entryFields) e
-
--- whether the zero bytes among some fields are zero, where the fields begin at a place
-abbrev pub zerosIn : {X : Type 0} → List (Field X) → ℕ → List ℕ → Bool
-zerosIn [] at bytes = true
-zerosIn (field n value ∷ fs) at bytes = zerosIn fs (at + n) bytes
-zerosIn (zeros n ∷ fs) at bytes = both (eqb (number 256 n (drop at bytes)) 0) (zerosIn fs (at + n) bytes)
-
--- whether they are in each of n entries
-abbrev pub pairsZero : ℕ → List ℕ → Bool
-pairsZero zero bytes = true
-pairsZero (suc n) bytes = both (zerosIn entryFields 0 bytes) (pairsZero n (drop entryLength bytes))
-
 -- whether every speed past the count of levels is zero
 abbrev pub unusedZero : List ℕ → Bool
 unusedZero bytes = every (eqb 0) (drop (levelCount bytes) (listTo levelPlaces (speedIn bytes)))
@@ -90,13 +75,15 @@ withJobs s left remaining = record {
 pub record FitTask (t : Task) : Type 0 where
   pub period : t .period ≤ 65535
   pub worst : t .worst ≤ 16777215
+  pub fixed : t .fixed ≤ 255
 
 pub record FitRest (r : Rest) : Type 0 where
+  pub fixed : r .fixed ≤ 255
   pub work : r .work ≤ 16777215
 
 -- a block in which something else is left of task i's job
 abbrev pub restStored : List ℕ → ℕ → Rest → List ℕ
-restStored bytes i r = entryStored bytes workField i (r .work)
+restStored bytes i r = entryStored (entryStored bytes workField i (r .work)) unspentField i (r .fixed)
 
 -- the same state at another clock
 abbrev pub withClock : State → ℕ → State

@@ -4,11 +4,11 @@ use plan::Task;
 use reclaiming::Entry;
 ghost use mathlib.Core.Path.{_≡_};
 ghost use mathlib.Core.List.{_++_};
-ghost use Prim.Native.Nat.{_<_, _≤_};
+ghost use Prim.Native.Nat.{_+_, _-_, _^_, _<_, _≤_};
 ghost use lib.ListN.{length, drop};
 ghost use lib.Seq.{sets};
-ghost use Rattle.reclaiming.specs.StateBlock.{places, levelPlaces, remainingField, stateLength, restIn, taskOf, stateCount, levelCount, speedIn, decode};
-ghost use Rattle.state.specs.Code.{Holds, entryAt, entryIn, entryStored, entryNumbers, restStored};
+ghost use Rattle.reclaiming.specs.StateBlock.{places, levelPlaces, remainingField, stateLength, restIn, taskOf, entryBytes, stateCount, levelCount, speedIn, decode};
+ghost use Rattle.state.specs.Code.{Holds, entryAt, entryIn, fieldIn, entryStored, restStored};
 
 // The fields of a block: where each begins, and its count of bytes.
 pub const CLOCK_AT: usize = 0;
@@ -50,11 +50,15 @@ pub const REMAINING_AT: usize = WORK_AT + WORK_WIDTH;
 
 pub const REMAINING_WIDTH: usize = 2;
 
-pub const PAIR_AT: usize = REMAINING_AT + REMAINING_WIDTH;
+pub const FIXED_AT: usize = REMAINING_AT + REMAINING_WIDTH;
 
-pub const PAIR_WIDTH: usize = 2;
+pub const FIXED_WIDTH: usize = 1;
 
-pub const ENTRY_LENGTH: usize = PAIR_AT + PAIR_WIDTH - HEAD_LENGTH;
+pub const UNSPENT_AT: usize = FIXED_AT + FIXED_WIDTH;
+
+pub const UNSPENT_WIDTH: usize = 1;
+
+pub const ENTRY_LENGTH: usize = UNSPENT_AT + UNSPENT_WIDTH - HEAD_LENGTH;
 
 // The places for entries, and what follows them.
 pub const PLACES: usize = 16;
@@ -98,22 +102,6 @@ pub fn period_at(block: &[u8], i: usize) -> u32
     numeric::get_number(block, PERIOD_AT + ENTRY_LENGTH * i, PERIOD_WIDTH)
 }
 
-// The worst case of task i.
-pub fn worst_at(block: &[u8], i: usize) -> u32
-    requires { ⌜ (i < places) × (length (now block) ≡ stateLength) ⌝ }
-    ensures { λ r. ⌜ (r ≡ entryIn (now (block .entry)) i .worst) × (r ≤ 16777215) ⌝ }
-{
-    numeric::get_number(block, WORST_AT + ENTRY_LENGTH * i, WORST_WIDTH)
-}
-
-// The work left of task i's job.
-pub fn work_at(block: &[u8], i: usize) -> u32
-    requires { ⌜ (i < places) × (length (now block) ≡ stateLength) ⌝ }
-    ensures { λ r. ⌜ (r ≡ entryIn (now (block .entry)) i .work) × (r ≤ 16777215) ⌝ }
-{
-    numeric::get_number(block, WORK_AT + ENTRY_LENGTH * i, WORK_WIDTH)
-}
-
 // The remaining ticks of task i's job.
 pub fn remaining_at(block: &[u8], i: usize) -> u32
     requires { ⌜ (i < places) × (length (now block) ≡ stateLength) ⌝ }
@@ -122,24 +110,34 @@ pub fn remaining_at(block: &[u8], i: usize) -> u32
     numeric::get_number(block, REMAINING_AT + ENTRY_LENGTH * i, REMAINING_WIDTH)
 }
 
+// The number in a field of entry i: any field, by where it stands in the first entry and by its count of bytes.
+fn field_at(block: &[u8], at: usize, n: usize, i: usize) -> u32
+    requires { ⌜ (i < places) × (length (now block) ≡ stateLength) × (n ≤ 4) × (at + n ≤ entryAt 1) ⌝ }
+    ensures { λ r. ⌜ (r ≡ fieldIn (now (block .entry)) at n i) × (r ≤ 256 ^ n - 1) ⌝ }
+{
+    numeric::get_number(block, at + ENTRY_LENGTH * i, n)
+}
+
 // Task i.
 pub fn task_at(block: &[u8], i: usize) -> Task
     requires { ⌜ (i < places) × (length (now block) ≡ stateLength) ⌝ }
-    ensures { λ r. ⌜ (r ≡ taskOf (entryIn (now (block .entry)) i)) × (r .worst ≤ 16777215) ⌝ }
+    ensures { λ r. ⌜ (r ≡ taskOf (entryIn (now (block .entry)) i)) × (r .worst ≤ 16777215) × (r .fixed ≤ 255) ⌝ }
 {
     Task {
         period: period_at(block, i),
-        worst: worst_at(block, i),
+        worst: field_at(block, WORST_AT, WORST_WIDTH, i),
+        fixed: field_at(block, FIXED_AT, FIXED_WIDTH, i),
     }
 }
 
 // What is left of task i's job.
 pub fn rest_at(block: &[u8], i: usize) -> Rest
     requires { ⌜ (i < places) × (length (now block) ≡ stateLength) ⌝ }
-    ensures { λ r. ⌜ (r ≡ restIn (entryIn (now (block .entry)) i)) × (r .work ≤ 16777215) ⌝ }
+    ensures { λ r. ⌜ (r ≡ restIn (entryIn (now (block .entry)) i)) × (r .work ≤ 16777215) × (r .fixed ≤ 255) ⌝ }
 {
     Rest {
-        work: work_at(block, i),
+        fixed: field_at(block, UNSPENT_AT, UNSPENT_WIDTH, i),
+        work: field_at(block, WORK_AT, WORK_WIDTH, i),
     }
 }
 
@@ -165,6 +163,12 @@ pub fn put_rest(block: &mut [u8], i: usize, rest: Rest)
     ensures { λ _. ⌜ now (block .exit) ≡ restStored (now (block .entry)) i rest ⌝ }
 {
     numeric::put_number(block, WORK_AT + ENTRY_LENGTH * i, WORK_WIDTH, rest.work);
+    numeric::put_number(
+        block,
+        UNSPENT_AT + ENTRY_LENGTH * i,
+        UNSPENT_WIDTH,
+        rest.fixed,
+    );
 }
 
 // Stores the remaining ticks of task i's job.
@@ -175,16 +179,18 @@ pub fn put_remaining(block: &mut [u8], i: usize, x: u32)
     numeric::put_number(block, REMAINING_AT + ENTRY_LENGTH * i, REMAINING_WIDTH, x);
 }
 
-// Stores the fields of an entry; the two bytes past them stay.
+// Stores an entry.
 pub fn put_entry(image: &mut [u8], i: usize, e: Entry)
     requires { ⌜ (i < places) × (length (now image) ≡ stateLength) ⌝ }
-    ensures { λ _. ⌜ now (image .exit) ≡ sets (now (image .entry)) (entryAt i) (entryNumbers e) ⌝ }
+    ensures { λ _. ⌜ now (image .exit) ≡ sets (now (image .entry)) (entryAt i) (entryBytes e) ⌝ }
 {
     let at = ENTRY_LENGTH * i;
     numeric::put_number(image, PERIOD_AT + at, PERIOD_WIDTH, e.period);
     numeric::put_number(image, WORST_AT + at, WORST_WIDTH, e.worst);
     numeric::put_number(image, WORK_AT + at, WORK_WIDTH, e.work);
     numeric::put_number(image, REMAINING_AT + at, REMAINING_WIDTH, e.remaining);
+    numeric::put_number(image, FIXED_AT + at, FIXED_WIDTH, e.fixed);
+    numeric::put_number(image, UNSPENT_AT + at, UNSPENT_WIDTH, e.unspent);
 }
 
 // Stores an image of a state at the front of a buffer.

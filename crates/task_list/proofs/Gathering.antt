@@ -17,6 +17,7 @@ use Rattle.plan.specs.LevelBlocks.{loading, speedsIn}
 use Rattle.plan.specs.Questions.{judging}
 use Rattle.plan.specs.Answers.{judgedList, judgedPlan}
 use Rattle.task_list.specs.Lists.{putTask, gatheredFrom}
+use Rattle.task_list.proofs.TaskSlices.{taskBytes}
 use Rattle.judging.proofs.Judgements.{count-high, refused-as}
 
 -- the two ways out of `put`
@@ -42,7 +43,7 @@ gathered-end p ts i h g =
     ap (λ (k : ℕ). gatheredFrom p (drop k ts)) e ∙ ap (λ (l : List Task). gatheredFrom p l) (drop-length ts)
 
 -- the offset of a place, and the next place, are machine words; the loop comes nearer to its end
-pub place-fits : (n i : ℕ) → n * 8 < 2 ^ 63 → i < n → i * 8 < 2 ^ 64
+pub place-fits : (n i : ℕ) → n * taskBytes < 2 ^ 63 → i < n → i * taskBytes < 2 ^ 64
 place-fits n i h g = omega arith
 
 pub next-fits : (n i : ℕ) → n < 2 ^ 64 → i < n → i + 1 < 2 ^ 64

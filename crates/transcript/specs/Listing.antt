@@ -39,9 +39,9 @@ abbrev pub levelCut : List ℕ → ℕ
 levelCut input =
     pick (within 1 8 (levelCountIn input)) (min (levelLength (levelCountIn input)) (length input)) (length input)
 
--- the edition that an input is cut by: one that is not 1 is refused whatever is cut, and is cut as 1
+-- 02, No. 2: "The bench cuts by edition too.": one that is neither 1 nor 2 is refused whatever is cut, and is cut as 1
 abbrev pub cutEdition : ℕ → ℕ
-cutEdition edition = pick (eqb edition 1) edition 1
+cutEdition edition = pick (within 1 2 edition) edition 1
 
 -- 01: "The reader is given as many bytes as the count needs, or all there are if fewer, or if the count is bad."
 abbrev pub planCut : List ℕ → ℕ

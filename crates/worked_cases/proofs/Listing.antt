@@ -1,4 +1,4 @@
--- 01, "The bench program": its example, computed from the definitions.
+-- 01, "The bench program": its example, computed from the definitions. 02, No. 2: a run in which fixed ticks are interrupted.
 -- Assumes nothing.
 use mathlib.Core.Path.{_≡_, refl}
 use mathlib.Core.Bool.{true}
@@ -10,6 +10,7 @@ use Rattle.schedule.specs.PlainSchedule.{moreUrgent}
 use Rattle.reclaiming.specs.StateBlock.{stateLength}
 use Rattle.reclaiming.specs.Calls.{isOrder, startReply}
 use Rattle.worked_cases.specs.Cases.{baseLevels, benchBlock, benchJudged, benchLines, listedLines}
+use Rattle.worked_cases.specs.FixedCases.{anglePlan, angleLines, wantedLines}
 
 pub bench-plan : readBlock baseLevels benchBlock ≡ benchJudged
 unfolding need timeOf worn lcm gcd moreUrgent
@@ -23,3 +24,11 @@ bench-listing = refl
 pub bench-started : isOrder (startReply baseLevels benchBlock stateLength) ≡ true
 unfolding need timeOf worn lcm gcd moreUrgent
 bench-started = refl
+
+pub angle-listing : angleLines ≡ wantedLines
+unfolding need timeOf worn lcm gcd moreUrgent
+angle-listing = refl
+
+pub angle-started : isOrder (startReply baseLevels anglePlan stateLength) ≡ true
+unfolding need timeOf worn lcm gcd moreUrgent
+angle-started = refl

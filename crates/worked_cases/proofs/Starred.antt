@@ -1,4 +1,5 @@
--- 01, "On each side of the edge": every starred case of the table holds. 02, No. 1: so does every case of level blocks.
+-- 01, "On each side of the edge": every starred case of the table holds. 02, No. 1 and 2: so does every case of level blocks and of fixed
+-- ticks.
 -- Assumes nothing.
 use mathlib.Core.Path.{_≡_, refl}
 use mathlib.Core.Bool.{true}
@@ -10,6 +11,7 @@ use Rattle.schedule.specs.PlainSchedule.{moreUrgent}
 use Rattle.schedule.specs.Feasibility.{In}
 use Rattle.schedule.proofs.Members.{every-in}
 use Rattle.worked_cases.specs.Cases.{Case, starred, boards, matches, agrees}
+use Rattle.worked_cases.specs.FixedCases.{conversions}
 use Rattle.reclaiming.proofs.StateCodec.{same-bytes}
 
 -- the table's test, computed
@@ -21,6 +23,10 @@ boards-agree : agrees boards ≡ true
 unfolding need timeOf worn lcm gcd moreUrgent
 boards-agree = refl
 
+conversions-agree : agrees conversions ≡ true
+unfolding need timeOf worn lcm gcd moreUrgent
+conversions-agree = refl
+
 -- so each of its rows holds
 row-holds : (cases : List Case) → agrees cases ≡ true → (c : Case) → In c cases → c .found ≡ c .wanted
 row-holds cases h c m = same-bytes (c .found) (c .wanted) (every-in matches cases h c m)
@@ -30,3 +36,6 @@ starred-cases = row-holds starred starred-agree
 
 pub board-cases : (c : Case) → In c boards → c .found ≡ c .wanted
 board-cases = row-holds boards boards-agree
+
+pub conversion-cases : (c : Case) → In c conversions → c .found ≡ c .wanted
+conversion-cases = row-holds conversions conversions-agree

@@ -23,10 +23,10 @@ use Rattle.reclaiming.specs.StateBlock.{sameBytes, tailAt, stateLength}
 use Rattle.reclaiming.specs.Calls.{replyAnswer, startReply, passReply, showReply, showBuffer}
 use Rattle.reclaiming.specs.Run.{Pass, Line, bytesAfter, startedBytes, line, runLines}
 
-abbrev task : ℕ → ℕ → Task
-task p w = record { period = p; worst = w }
+abbrev pub task : ℕ → ℕ → Task
+task p w = record { period = p; worst = w; fixed = 0 }
 
-abbrev pass : Bool → ℕ → Pass
+abbrev pub pass : Bool → ℕ → Pass
 pass finished d = record { d = d; finished = finished }
 
 -- 01: "Input: the plan (10, 400), (10, 400), (30, 600), then hex 8001 8007 8002 8004 8004 0002."
@@ -80,16 +80,16 @@ told (refusal n) = n ∷ []
 abbrev readOver : List ℕ → List ℕ → List ℕ
 readOver levels block = told (verdictAnswer (readBlock levels block .verdict))
 
-abbrev readValues : List ℕ → List ℕ
+abbrev pub readValues : List ℕ → List ℕ
 readValues block = readOver baseLevels block
 
 abbrev judgedOver : List ℕ → List Task → List ℕ
 judgedOver levels ts = told (verdictAnswer (judgedList levels (length ts) ts .verdict))
 
-abbrev judgedValues : List Task → List ℕ
+abbrev pub judgedValues : List Task → List ℕ
 judgedValues ts = judgedOver baseLevels ts
 
-abbrev passValues : List ℕ → ℕ → Bool → List ℕ
+abbrev pub passValues : List ℕ → ℕ → Bool → List ℕ
 passValues state d finished = told (replyAnswer (passReply state d finished))
 
 abbrev shownValues : List ℕ → List ℕ → List ℕ
@@ -99,7 +99,7 @@ shownValues state buffer = told (writtenAnswer (showReply state (length buffer))
 abbrev loadValues : List ℕ → List ℕ
 loadValues levels = told (loadAnswer (readLevels levels .answer)) ++ readLevels levels .speeds
 
-abbrev startValues : List ℕ → List ℕ → ℕ → List ℕ
+abbrev pub startValues : List ℕ → List ℕ → ℕ → List ℕ
 startValues levels block room = told (replyAnswer (startReply levels block room))
 
 -- a case: what the definitions give, and what 01 says that it is
@@ -107,7 +107,7 @@ pub record Case : Type 0 where
   pub found : List ℕ
   pub wanted : List ℕ
 
-abbrev case : List ℕ → List ℕ → Case
+abbrev pub case : List ℕ → List ℕ → Case
 case found wanted = record { found = found; wanted = wanted }
 
 -- the table

@@ -4,14 +4,13 @@
 use crate::calls::PROVED;
 use sim::level_block::write_levels;
 use sim::levels::Levels;
-use sim::plan::{judge_list, Task};
+use sim::plan::{judge_list, Task, LARGEST_FIXED};
 use sim::random::blocks::block_of;
 use sim::random::Random;
 
 pub use sim::layout::STATE_BYTES;
 pub const QUEUE_BYTES: usize = 48;
 
-const PLANS_OF_A_TABLE: usize = 2;
 const PASSES_OF_A_PLAN: usize = 32;
 
 /// 01's speeds, fewer levels, odd speeds, and speeds far apart up to the fastest that there can be.
@@ -37,31 +36,42 @@ pub struct Input {
     pub finished: bool,
 }
 
-/// The inputs for so many tasks.
+/// The inputs for so many tasks: for each table a plan without fixed ticks and one with some.
 pub fn inputs(tasks: usize) -> Vec<Input> {
     let mut random = Random::new(tasks as u64);
     let mut found = Vec::new();
     for table in TABLES {
         let table = Levels::new(table);
         let levels = write_levels(&table);
-        for _ in 0..PLANS_OF_A_TABLE {
-            let block = block_of(&accepted_plan(&mut random, &table, tasks));
+        for with_fixed in [false, true] {
+            let block = block_of(&accepted_plan(&mut random, &table, tasks, with_fixed));
             add_run(&mut random, &levels, &block, &mut found);
         }
     }
     found
 }
 
-/// A plan that fills much of what some level has.
-fn accepted_plan(random: &mut Random, levels: &Levels, count: usize) -> Vec<Task> {
+/// A plan that fills much of what some level has. Fixed ticks take up to a quarter of the time.
+fn accepted_plan(
+    random: &mut Random,
+    levels: &Levels,
+    count: usize,
+    with_fixed: bool,
+) -> Vec<Task> {
     let fastest = levels.speed(levels.top());
+    let part = 4 * count as u64;
     loop {
         let units = random.between(fastest / 5, fastest);
-        let task = |period: u64| Task {
-            period,
-            worst: (period * units / count as u64).max(1),
+        let mut task = || {
+            let period = random.pick(&PERIODS);
+            let most = if with_fixed { period / part } else { 0 };
+            Task {
+                period,
+                worst: (period * units / count as u64).max(1),
+                fixed: random.between(0, most.min(LARGEST_FIXED)),
+            }
         };
-        let plan: Vec<Task> = (0..count).map(|_| task(random.pick(&PERIODS))).collect();
+        let plan: Vec<Task> = (0..count).map(|_| task()).collect();
         if judge_list(levels, &plan).is_ok() {
             return plan;
         }

@@ -9,7 +9,7 @@ use sim::layout::{self, STATE_BYTES};
 use sim::level_block::write_levels;
 use sim::levels::Levels;
 use sim::plan::Task;
-use sim::random::blocks::{block_of, damaged_block};
+use sim::random::blocks::{block_of, block_of_no_additions, damaged_block};
 use sim::random::passes::any_pass;
 use sim::random::plans;
 use sim::random::states::{forged_state, invented_state, late_state, with_a_table_changed};
@@ -167,7 +167,53 @@ fn starts_agree() {
         let room = random.pick(&[0, exact - 1, exact, exact, exact, exact + 1, exact + 40]);
         start_agrees(&levels, &block, room, &mut seen);
     }
-    seen.were("start", &[0, 1, 2, 3, 4, 5, 6, 7, 8, 9, 18, 19, 20]);
+    let all = [0, 1, 2, 3, 4, 5, 6, 7, 8, 9, 18, 19, 20, 21];
+    seen.were("start", &all);
+}
+
+/// Would catch an edge of the plan block's second edition that is drawn elsewhere: every edition and
+/// count, and every value of fixed ticks and spare bits, in blocks of every length up to the longest.
+#[test]
+fn plan_blocks_agree() {
+    let mut seen = Seen::default();
+    let levels = write_levels(&Levels::base());
+    let task = Task {
+        period: 600,
+        worst: 1,
+        fixed: 1,
+    };
+    for count in 1..=16 {
+        let block = block_of(&vec![task; count]);
+        for head in 0..=u8::MAX {
+            let mut other = block.clone();
+            other[0] = head;
+            start_agrees(&levels, &other, STATE_BYTES, &mut seen);
+        }
+        for place in 1..block.len() {
+            for bit in 0..8 {
+                let mut other = block.clone();
+                other[place] ^= 1 << bit;
+                start_agrees(&levels, &other, STATE_BYTES, &mut seen);
+            }
+        }
+        start_agrees(&levels, &block[..block.len() - 1], STATE_BYTES, &mut seen);
+        let longer = [&block[..], &[0]].concat();
+        start_agrees(&levels, &longer, STATE_BYTES, &mut seen);
+        start_agrees(
+            &levels,
+            &block_of_no_additions(&vec![task; count]),
+            STATE_BYTES,
+            &mut seen,
+        );
+    }
+    // The last byte of a single task has the lower bits of its fixed ticks, then its spare bits.
+    let block = block_of(&[task]);
+    for last in 0..=u8::MAX {
+        let mut other = block.clone();
+        other[6] = last;
+        start_agrees(&levels, &other, STATE_BYTES, &mut seen);
+    }
+    seen.were("start, plan blocks", &[0, 2, 3, 4, 5, 6, 7, 8, 21]);
 }
 
 /// Would catch an edge of the level block that is drawn elsewhere: every block of two bytes is tried,
@@ -178,6 +224,7 @@ fn level_blocks_agree() {
     let task = Task {
         period: 65_535,
         worst: 1,
+        fixed: 0,
     };
     let plan = block_of(&[task]);
     start_agrees(&[], &plan, STATE_BYTES, &mut seen);
@@ -277,6 +324,7 @@ fn tables_in_states_agree() {
     let block = block_of(&[Task {
         period: 60_000,
         worst: 1,
+        fixed: 0,
     }]);
     let (mut starts, mut passes, mut shows) = Default::default();
     for count in 1..=speeds.len() {
@@ -314,6 +362,7 @@ fn the_largest_worst_case_agrees() {
     let block = block_of(&[Task {
         period: 60_000,
         worst: 1_048_575,
+        fixed: 0,
     }]);
     let (_, mut state) = start_agrees(&levels, &block, STATE_BYTES, &mut seen);
     show_agrees(&state, QUEUE_BYTES, &mut seen);
@@ -321,6 +370,39 @@ fn the_largest_worst_case_agrees() {
     show_agrees(&state, QUEUE_BYTES, &mut seen);
     pass_agrees(&state, 1, false, &mut seen);
     seen.were("the largest worst case", &[0, 10]);
+}
+
+/// Would catch fixed ticks in the state that are tested or used up in another way: each of the two
+/// bytes is anything, in a fresh job, in one that has run a little, and in one that is finished.
+#[test]
+fn fixed_ticks_in_states_agree() {
+    let (mut starts, mut passes, mut shows) = Default::default();
+    let levels = write_levels(&Levels::base());
+    let tasks = [(200, 300, 20), (600, 300, 9)];
+    let block = block_of(&tasks.map(|(period, worst, fixed)| Task {
+        period,
+        worst,
+        fixed,
+    }));
+    let (_, fresh) = start_agrees(&levels, &block, STATE_BYTES, &mut starts);
+    let (_, begun) = pass_agrees(&fresh, 5, false, &mut passes);
+    let (_, worked) = pass_agrees(&begun, 16, false, &mut passes);
+    let (_, finished) = pass_agrees(&worked, 1, true, &mut passes);
+    for state in [fresh, begun, worked, finished] {
+        for field in [layout::FIXED, layout::FIXED_LEFT] {
+            for number in 0..=255 {
+                let mut forged = state.clone();
+                layout::of_task(0, field).put(&mut forged, number);
+                show_agrees(&forged, QUEUE_BYTES, &mut shows);
+                for (d, finished) in [(1, false), (20, false), (21, true), (200, false)] {
+                    pass_agrees(&forged, d, finished, &mut passes);
+                }
+            }
+        }
+    }
+    starts.were("start, before fixed ticks are forged", &[0]);
+    shows.were("show, with forged fixed ticks", &[0, 10]);
+    passes.were("pass, with forged fixed ticks", &[0, 10, 12, 14]);
 }
 
 /// Would catch measured calls that are refused, or that are done differently.
@@ -344,16 +426,17 @@ fn every_speed_divides_exactly() {
     let mut starts = Seen::default();
     for speed in 1..=1_000 {
         let levels = write_levels(&Levels::new(&[speed]));
-        let most = (1_048_575 / speed).min(65_535);
-        for ticks in [1, 2, most / 2, most - 1, most] {
+        let most = (1_048_575 / speed).min(65_280);
+        for (ticks, fixed) in [(1, 0), (2, 1), (most / 2, 7), (most - 1, 0), (most, 255)] {
             for worst in [(ticks - 1) * speed + 1, ticks * speed] {
                 let block = block_of(&[Task {
                     period: 65_535,
                     worst,
+                    fixed,
                 }]);
                 let (_, state) = start_agrees(&levels, &block, STATE_BYTES, &mut starts);
                 let left = layout::of_task(0, layout::PLAIN_LEFT).get(&state);
-                assert_eq!(left, ticks, "{worst} at {speed}");
+                assert_eq!(left, fixed + ticks, "{worst} and {fixed} at {speed}");
             }
         }
     }

@@ -56,8 +56,8 @@ pub fn read_levels(levels: &[u8]) -> Result<u64, u32> {
     unpacked(answer)
 }
 
-/// Judges the plan of so many tasks. Its numbers are a period and a worst case for each task; the
-/// ones that are not there are 0.
+/// Judges the plan of so many tasks. Its numbers are a period, a worst case and fixed ticks for each
+/// task; the ones that are not there are 0.
 pub fn judge(levels: &[u8], count: usize, numbers: &[u32]) -> Result<Judged, u32> {
     // SAFETY: pointers and lengths are those of two slices, which the call only reads.
     let answer = unsafe {
@@ -140,7 +140,7 @@ mod tests {
     fn every_bit_of_an_answer_counts() {
         assert_eq!(unpacked(9), Err(9));
         assert_eq!(unpacked(256 + 9), Err(265));
-        assert_eq!(unpacked(256 * 74), Ok(74));
+        assert_eq!(unpacked(256 * 96), Ok(96));
         assert_eq!(unpacked(1 << 63), Ok(1 << 55));
         assert_eq!(judged(3), Err(3));
         let last = Judged {

@@ -4,7 +4,7 @@
 // Brings the archives in.
 use differ as _;
 use sim::levels::Levels;
-use sim::plan::{Judged, Task, LARGEST_PERIOD, LARGEST_WORST};
+use sim::plan::{Judged, Task, LARGEST_FIXED, LARGEST_PERIOD, LARGEST_WORST};
 use sim::random::plans::{
     edge_list, full_plan, plan_above_largest_hyperperiod, plan_at_largest_hyperperiod,
     plan_at_level, plan_one_over, plan_one_unit_over,
@@ -20,6 +20,7 @@ use std::collections::BTreeMap;
 struct Entry {
     period: u32,
     worst: u32,
+    fixed: u32,
 }
 
 extern "C" {
@@ -35,15 +36,26 @@ extern "C" {
 const ACCEPTED: u32 = 0;
 
 /// What stands around a list: with one of these looked at, most answers would be others.
-const AROUND: [Entry; 3] = [
+const AROUND: [Entry; 4] = [
     entry(0, 0),
-    entry(u32::MAX, u32::MAX),
+    with_fixed(u32::MAX, u32::MAX, u32::MAX),
     // All of a plan's ticks at the highest level.
     entry(1, 100),
+    // The same with fixed ticks.
+    with_fixed(256, 100, 255),
 ];
 
+/// An entry without fixed ticks.
 const fn entry(period: u32, worst: u32) -> Entry {
-    Entry { period, worst }
+    with_fixed(period, worst, 0)
+}
+
+const fn with_fixed(period: u32, worst: u32, fixed: u32) -> Entry {
+    Entry {
+        period,
+        worst,
+        fixed,
+    }
 }
 
 /// What stands around a level block.
@@ -54,6 +66,8 @@ struct Both {
     /// The level block that both sides are handed.
     level_block: Vec<u8>,
     seen: BTreeMap<u32, u64>,
+    /// How many of the accepted lists have fixed ticks.
+    accepted_with_fixed: u64,
 }
 
 /// The content with two elements like this on each side.
@@ -66,6 +80,7 @@ impl Both {
         Both {
             level_block: write_levels(levels),
             seen: BTreeMap::new(),
+            accepted_with_fixed: 0,
         }
     }
 
@@ -74,7 +89,7 @@ impl Both {
         let levels = &self.level_block;
         let wanted = judge_list(levels, &as_tasks(list));
         let lists: u64 = self.seen.values().sum();
-        let lent = between(AROUND[(lists % 3) as usize], list);
+        let lent = between(AROUND[(lists % 4) as usize], list);
         let lent_levels = between(MARKS[(lists % 2) as usize], levels);
         let (before, levels_before) = (lent.clone(), lent_levels.clone());
         // SAFETY: pointers and lengths are those of two slices, which the call only reads.
@@ -94,7 +109,18 @@ impl Both {
             .seen
             .entry(wanted.err().unwrap_or(ACCEPTED))
             .or_default() += 1;
+        let has_fixed = list.iter().any(|entry| entry.fixed > 0);
+        self.accepted_with_fixed += u64::from(wanted.is_ok() && has_fixed);
         wanted
+    }
+
+    /// Wants so many accepted lists with fixed ticks, and as many without.
+    #[track_caller]
+    fn wants_fixed(&self, least: u64) {
+        let accepted = self.seen.get(&ACCEPTED).copied().unwrap_or(0);
+        let with = self.accepted_with_fixed;
+        let without = accepted - with;
+        assert!(with >= least && without >= least, "{with} and {without}");
     }
 
     /// Wants this answer at least so often.
@@ -106,7 +132,8 @@ impl Both {
 
     /// Prints what came of the lists.
     fn saw(&self, what: &str) {
-        println!("{what}: {:?}", self.seen);
+        let with = self.accepted_with_fixed;
+        println!("{what}: {:?}, {with} with fixed ticks", self.seen);
     }
 }
 
@@ -122,6 +149,7 @@ fn as_tasks(list: &[Entry]) -> Vec<Task> {
     let task = |entry: &Entry| Task {
         period: u64::from(entry.period),
         worst: u64::from(entry.worst),
+        fixed: u64::from(entry.fixed),
     };
     list.iter().map(task).collect()
 }
@@ -129,7 +157,10 @@ fn as_tasks(list: &[Entry]) -> Vec<Task> {
 /// What 32 bits don't hold becomes the largest that they do, which is as far out of range.
 fn as_entries(tasks: &[Task]) -> Vec<Entry> {
     let narrow = |number: u64| u32::try_from(number).unwrap_or(u32::MAX);
-    let entry = |task: &Task| entry(narrow(task.period), narrow(task.worst));
+    let entry = |task: &Task| {
+        let [period, worst, fixed] = [task.period, task.worst, task.fixed].map(narrow);
+        with_fixed(period, worst, fixed)
+    };
     tasks.iter().map(entry).collect()
 }
 
@@ -144,22 +175,29 @@ fn lists_of_every_length() {
     lengths.extend([65_535, 65_536, 65_537, 65_552, 1 << 18]);
     for length in lengths {
         // Good ones, ones out of range, and ones too much for every level.
-        for (period, worst) in [(60_000, 37), (60_000, 600), (0, 0), (1, 101)] {
-            let judged = both.judge(&vec![entry(period, worst); length]);
-            let wanted = match (length, period) {
-                (0, _) | (17.., _) => Some(3),
-                (_, 0) => Some(6),
-                (_, 1) => Some(8),
-                _ => None,
+        let entries = [
+            (entry(60_000, 37), None),
+            (entry(60_000, 600), None),
+            (with_fixed(60_000, 600, 255), None),
+            (entry(0, 0), Some(6)),
+            (with_fixed(60_000, 600, 256), Some(6)),
+            (entry(1, 101), Some(8)),
+            (with_fixed(200, 1, 200), Some(8)),
+        ];
+        for (each, otherwise) in entries {
+            let judged = both.judge(&vec![each; length]);
+            let wanted = match length {
+                0 | 17.. => Some(3),
+                _ => otherwise,
             };
-            assert_eq!(judged.err(), wanted, "{length}");
+            assert_eq!(judged.err(), wanted, "{length} of {each:?}");
         }
     }
     both.saw("lists of every length");
-    both.wants(ACCEPTED, 32);
-    both.wants(3, 100);
-    both.wants(6, 16);
-    both.wants(8, 16);
+    both.wants(3, 200);
+    both.wants(6, 32);
+    both.wants(8, 32);
+    both.wants_fixed(16);
 }
 
 /// Would catch a place that is not looked at, and a range that is off by one at either end or is
@@ -170,6 +208,7 @@ fn fields_at_and_past_their_ranges() {
     let mut both = Both::new(&levels);
     let periods = edges(LARGEST_PERIOD as u32, 16);
     let worsts = edges(LARGEST_WORST as u32, 20);
+    let fixed_ticks = edges(LARGEST_FIXED as u32, 8);
     for length in [1, 2, 15, 16, 17, 1_000] {
         let places = if length > 20 {
             vec![0, 15, 16, 999]
@@ -190,12 +229,18 @@ fn fields_at_and_past_their_ranges() {
                 let is_out = *worst < 1 || u64::from(*worst) > LARGEST_WORST;
                 assert_eq!(judged == Err(6), is_out && length <= 16);
             }
+            for fixed in &fixed_ticks {
+                list[place] = with_fixed(65_535, 1, *fixed);
+                let judged = both.judge(&list);
+                let is_out = u64::from(*fixed) > LARGEST_FIXED;
+                assert_eq!(judged == Err(6), is_out && length <= 16);
+            }
         }
     }
     both.saw("fields at and past their ranges");
-    both.wants(ACCEPTED, 100);
-    both.wants(3, 500);
-    both.wants(6, 1_000);
+    both.wants(3, 800);
+    both.wants(6, 1_500);
+    both.wants_fixed(100);
 }
 
 /// Values at the ends of a range of so many bits, and values that would be 10 with one high bit left
@@ -224,6 +269,7 @@ fn lists_of_every_kind() {
         );
     }
     both.saw("lists of every kind");
+    both.wants_fixed(3_000);
     println!("levels {nominal:?}");
     both.wants(ACCEPTED, 12_000);
     both.wants(3, 30);
@@ -246,6 +292,7 @@ fn lists_of_every_kind_with_any_table() {
         put_lists(&mut both, &mut random, &levels, level, &mut nominal);
     }
     both.saw("lists of every kind with any table");
+    both.wants_fixed(3_000);
     println!("levels {nominal:?}");
     both.wants(ACCEPTED, 12_000);
     both.wants(3, 30);
@@ -282,6 +329,11 @@ fn put_lists(
             last.worst = last.worst.wrapping_add(1);
             let _ = both.judge(&list);
         }
+        if let Some(last) = list.last_mut() {
+            last.worst = last.worst.wrapping_sub(1);
+            last.fixed = last.fixed.wrapping_add(1);
+            let _ = both.judge(&list);
+        }
     }
 }
 
@@ -292,6 +344,8 @@ fn bad_level_blocks() {
     let mut random = Random::new(1_003);
     let lists = [
         vec![entry(10, 400)],
+        vec![with_fixed(20, 400, 5)],
+        vec![with_fixed(20, 400, 256)],
         vec![],
         vec![entry(0, 0); 17],
         vec![entry(0, 0)],
@@ -328,6 +382,11 @@ fn the_first_no_decides() {
         (vec![entry(1_000, 1); 17], 3),
         (vec![entry(1_000, 1), entry(1_001, 1), entry(0, 1)], 6),
         (vec![entry(1, 101), entry(5, 0)], 6),
+        (vec![with_fixed(10, 10, 256); 17], 3),
+        (vec![entry(1_000, 1), with_fixed(1_001, 1, 256)], 6),
+        (vec![entry(1, 101), with_fixed(5, 1, 256)], 6),
+        (vec![entry(1_000, 1), with_fixed(1_001, 1, 255)], 7),
+        (vec![with_fixed(1, 1, 1)], 8),
         (vec![entry(1_000, 900_000), entry(1_001, 900_000)], 7),
         (vec![entry(1, 1), entry(1, 1)], 8),
     ];
@@ -340,7 +399,16 @@ fn the_first_no_decides() {
         hyperperiod: 30,
     };
     assert_eq!(both.judge(&bench), Ok(wanted));
-    both.wants(ACCEPTED, 1);
+    // 6 + 4 ticks at 10 units a tick, 7 + 2 at 20.
+    for (fixed, nominal) in [(6, 0), (7, 1)] {
+        let hyperperiod = 10;
+        let wanted = Judged {
+            nominal,
+            hyperperiod,
+        };
+        assert_eq!(both.judge(&[with_fixed(10, 40, fixed)]), Ok(wanted));
+    }
+    both.wants_fixed(1);
     for number in [3, 6, 7, 8] {
         both.wants(number, 1);
     }

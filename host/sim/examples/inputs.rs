@@ -6,7 +6,7 @@ use sim::dispatch::{pass, start, Order};
 use sim::layout::STATE_BYTES;
 use sim::level_block::pack_levels;
 use sim::plan::Task;
-use sim::random::blocks::block_of;
+use sim::random::blocks::{block_of, block_of_no_additions};
 use sim::{listing, write_levels, Levels};
 use std::fs;
 use std::path::Path;
@@ -17,13 +17,18 @@ fn packed(d: u32, finished: bool) -> [u8; 2] {
     bits.to_be_bytes()
 }
 
-fn block(pairs: &[(u64, u64)]) -> Vec<u8> {
+/// Tasks from pairs of period and worst case, without fixed ticks.
+fn tasks(pairs: &[(u64, u64)]) -> Vec<Task> {
     let task = |(period, worst): &(u64, u64)| Task {
         period: *period,
         worst: *worst,
+        fixed: 0,
     };
-    let tasks: Vec<Task> = pairs.iter().map(task).collect();
-    block_of(&tasks)
+    pairs.iter().map(task).collect()
+}
+
+fn block(pairs: &[(u64, u64)]) -> Vec<u8> {
+    block_of(&tasks(pairs))
 }
 
 fn bench_block() -> Vec<u8> {
@@ -37,7 +42,12 @@ fn with_base_levels(rest: &[u8]) -> Vec<u8> {
 
 /// 01's speeds and the bench plan with these passes.
 fn bench_with(passes: &[(u32, bool)]) -> Vec<u8> {
-    let mut input = with_base_levels(&bench_block());
+    base_with(&bench_block(), passes)
+}
+
+/// 01's speeds, a plan and passes.
+fn base_with(plan: &[u8], passes: &[(u32, bool)]) -> Vec<u8> {
+    let mut input = with_base_levels(plan);
     for (d, finished) in passes {
         input.extend(packed(*d, *finished));
     }
@@ -46,8 +56,8 @@ fn bench_with(passes: &[(u32, bool)]) -> Vec<u8> {
 
 /// A run that follows the orders. Up to `early_from` each job takes its worst case; from then on
 /// each ends when this part of its hold is over.
-fn run(levels: &Levels, pairs: &[(u64, u64)], early_from: u64, part: u32, until: u64) -> Vec<u8> {
-    let plan = block(pairs);
+fn run(levels: &Levels, tasks: &[Task], early_from: u64, part: u32, until: u64) -> Vec<u8> {
+    let plan = block_of(tasks);
     let mut input = [&write_levels(levels)[..], &plan].concat();
     let mut state = [0; STATE_BYTES];
     let mut order = start(levels, &plan, &mut state).expect("the plan is an accepted one");
@@ -91,7 +101,7 @@ fn refused_levels() -> Vec<(u32, Vec<u8>)> {
 fn refused_plans() -> Vec<(u32, Vec<u8>)> {
     let bench = bench_block();
     let mut edition = bench.clone();
-    edition[0] = 0x21;
+    edition[0] = 0x31;
     let mut closing = bench.clone();
     closing[14] |= 1;
     let plans = [
@@ -104,9 +114,13 @@ fn refused_plans() -> Vec<(u32, Vec<u8>)> {
         block(&[(1_000, 1), (1_001, 1)]),
         block(&[(10, 400), (10, 400), (30, 601)]),
     ];
-    let numbered = plans.iter().zip(1..);
+    let numbered = (1..).zip(plans);
+    // The bench plan, which has no fixed ticks, in edition 2.
+    let plan = tasks(&[(10, 400), (10, 400), (30, 600)]);
+    let needless = (21, block_of_no_additions(&plan));
     numbered
-        .map(|(plan, number)| (number, with_base_levels(plan)))
+        .chain([needless])
+        .map(|(number, plan)| (number, with_base_levels(&plan)))
         .collect()
 }
 
@@ -133,15 +147,56 @@ fn refused_later() -> Vec<(u32, Vec<u8>)> {
 fn other_boards() -> Vec<(String, Vec<u8>)> {
     // 64 of 80 ticks at 97 units a tick, and 102 at 61.
     let odd = Levels::new(&[7, 19, 33, 61, 97]);
-    let plan = [(40, 2_300), (40, 580), (80, 310)];
+    let plan = tasks(&[(40, 2_300), (40, 580), (80, 310)]);
     let another = run(&odd, &plan, 0, 8, 160);
     // 19 of 20 ticks. However much time there is, no level is lower.
-    let plan = [(10, 250), (20, 450)];
+    let plan = tasks(&[(10, 250), (20, 450)]);
     let one = run(&Levels::new(&[50]), &plan, 20, 2, 40);
     vec![
         ("another-board".to_string(), another),
         ("one-level".to_string(), one),
     ]
+}
+
+/// Runs of a plan with fixed ticks.
+fn fixed_ticks() -> Vec<(String, Vec<u8>)> {
+    let mut plan = tasks(&[(10, 100), (40, 500)]);
+    // 39 of 40 ticks at 40 units a tick. The second task starts at 5, and at 10 the first one's next
+    // job comes while one of its fixed ticks is left.
+    plan[0].fixed = 2;
+    plan[1].fixed = 6;
+    let both = run(&Levels::base(), &plan, 40, 2, 80);
+    // The first task without them: the first one's additions are zero, the block's not.
+    plan[0].fixed = 0;
+    let one = run(&Levels::base(), &plan, 0, 3, 80);
+    vec![
+        ("fixed-ticks".to_string(), both),
+        ("fixed-ticks-early".to_string(), one),
+        ("angle-sensor".to_string(), angle_sensor()),
+    ]
+}
+
+/// A valve, an angle sensor and a gait, which have 4, 9 + 3 and 6 ticks at 50 units a tick: 30 of 30.
+fn angle_sensor() -> Vec<u8> {
+    let mut plan = tasks(&[(10, 200), (30, 150), (30, 300)]);
+    plan[1].fixed = 9;
+    // The valve's second job comes at 10, inside the conversion. It ends early, and from 11 on the
+    // sensor's job needs 3 + 5 ticks at 30 units a tick: 8 unfinished ones are refused.
+    let preempted = [(4, true), (6, false), (1, true), (8, false), (2, false)];
+    let to_30 = [
+        (3, false),
+        (3, true),
+        (1, false),
+        (2, true),
+        (7, true),
+        (1, false),
+    ];
+    // The conversion fails after 3 ticks, and the gait gets what is left of the sensor's time. At 50
+    // it needs 6 ticks at 20 units a tick: 6 unfinished ones are refused.
+    let failed = [(4, true), (3, true), (3, false), (4, true)];
+    let to_60 = [(6, false), (6, false), (6, true), (4, true)];
+    let passes = [&preempted[..], &to_30, &failed, &to_60].concat();
+    base_with(&block_of(&plan), &passes)
 }
 
 fn all() -> Vec<(String, Vec<u8>)> {
@@ -151,13 +206,14 @@ fn all() -> Vec<(String, Vec<u8>)> {
     let mut inputs = vec![("bench".to_string(), bench_with(&bench))];
     for (level, speed) in levels.speeds().iter().enumerate() {
         // 38 of 40 ticks at this level, and more than 40 at the one below.
-        let plan = [(10, 4 * speed), (20, 6 * speed), (40, 10 * speed)];
+        let plan = tasks(&[(10, 4 * speed), (20, 6 * speed), (40, 10 * speed)]);
         inputs.push((format!("level-{level}"), run(&levels, &plan, 40, 2, 80)));
     }
     // The first task's job most often ends long before its 24 ticks are over.
-    let plan = [(40, 2_400), (40, 600), (80, 600)];
+    let plan = tasks(&[(40, 2_400), (40, 600), (80, 600)]);
     inputs.push(("reclaiming".to_string(), run(&levels, &plan, 0, 8, 160)));
     inputs.extend(other_boards());
+    inputs.extend(fixed_ticks());
     let refused = [refused_plans(), refused_later(), refused_levels()];
     for (number, input) in refused.concat() {
         inputs.push((format!("refused-{number:02}"), input));

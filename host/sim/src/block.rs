@@ -1,5 +1,5 @@
-//! 01, Blocks: the plan block. This file knows which bits are which, and asks nothing of what they
-//! say.
+//! 01, Blocks, and 02, No. 2: the plan block in its two editions. This file knows which bits are
+//! which, and asks nothing of what they say.
 
 use crate::bits::Bits;
 use crate::numbers::div_ceil;
@@ -12,6 +12,11 @@ pub const COUNT_BITS: usize = 5;
 pub const PERIOD_BITS: usize = 16;
 pub const WORST_BITS: usize = 20;
 
+/// 02, No. 2: "Plan edition 2 adds, after each worst case, 8 bits of fixed ticks (0 to 255) and 3
+/// spare zero bits".
+pub const FIXED_BITS: usize = 8;
+pub const SPARE_BITS: usize = 3;
+
 /// What stands in front of the tasks, whatever the edition.
 pub const HEAD_BITS: usize = EDITION_BITS + COUNT_BITS;
 
@@ -21,35 +26,66 @@ pub struct Edition(pub u64);
 
 impl Edition {
     pub const FIRST: Edition = Edition(1);
+    pub const SECOND: Edition = Edition(2);
 
     /// Those to which question 2 says yes.
-    pub const ACCEPTED: [Edition; 1] = [Edition::FIRST];
+    pub const ACCEPTED: [Edition; 2] = [Edition::FIRST, Edition::SECOND];
 
     pub fn is_accepted(self) -> bool {
         Edition::ACCEPTED.contains(&self)
     }
 
-    /// The edition that the writer gives to a plan of these tasks.
-    pub fn of_tasks(_tasks: &[Task]) -> Edition {
-        Edition::FIRST
+    /// The edition that the writer gives to a plan of these tasks: it "uses edition 1 where all are
+    /// zero".
+    pub fn of_tasks(tasks: &[Task]) -> Edition {
+        if tasks.iter().all(|task| task.fixed == 0) {
+            Edition::FIRST
+        } else {
+            Edition::SECOND
+        }
+    }
+
+    /// Whether its tasks have bits for fixed ticks, and spare ones behind these.
+    pub fn has_additions(self) -> bool {
+        self == Edition::SECOND
     }
 
     /// How many bits a task has. Of an edition that isn't accepted no task is ever read; it has the
     /// first edition's, so that such a block can be made and cut.
     pub fn task_bits(self) -> usize {
-        PERIOD_BITS + WORST_BITS
+        let additions = if self.has_additions() {
+            FIXED_BITS + SPARE_BITS
+        } else {
+            0
+        };
+        PERIOD_BITS + WORST_BITS + additions
     }
 
-    /// Takes a task away from the front of the bits.
-    pub fn take_task(self, bits: &mut Bits) -> Task {
+    /// Takes a task away from the front of the bits, and its spare bits, which are 0 where the
+    /// edition has none. "Edition 1 means no fixed ticks."
+    pub fn take_task(self, bits: &mut Bits) -> (Task, u64) {
         let period = bits.take(PERIOD_BITS);
         let worst = bits.take(WORST_BITS);
-        Task { period, worst }
+        let (fixed, spare) = if self.has_additions() {
+            (bits.take(FIXED_BITS), bits.take(SPARE_BITS))
+        } else {
+            (0, 0)
+        };
+        let task = Task {
+            period,
+            worst,
+            fixed,
+        };
+        (task, spare)
     }
 
     fn put_task(self, bits: &mut Bits, task: &Task) {
         bits.put(task.period, PERIOD_BITS);
         bits.put(task.worst, WORST_BITS);
+        if self.has_additions() {
+            bits.put(task.fixed, FIXED_BITS);
+            bits.put(0, SPARE_BITS);
+        }
     }
 }
 
@@ -72,7 +108,8 @@ pub fn head(block: &[u8]) -> Option<(Edition, u64)> {
     Some(take_head(&mut Bits::unpack(front)))
 }
 
-/// A plan block with whatever is in the fields. Only the lowest bits that fit a field get into it.
+/// A plan block with whatever is in the fields. Only the lowest bits that fit a field get into it,
+/// and no fixed ticks into an edition that has no field for them.
 pub fn pack_block(edition: Edition, count: u64, tasks: &[Task]) -> Vec<u8> {
     let mut bits = Bits::empty();
     bits.put(edition.0, EDITION_BITS);

@@ -2,6 +2,7 @@
 //! comes from the state block.
 
 use crate::dispatch::Order;
+use crate::job::{left_after, time_needed, Left};
 use crate::levels::Levels;
 use crate::plan::{judge_list, Task};
 use crate::schedule::{deadline, PlainJob, Schedule};
@@ -14,23 +15,35 @@ pub struct BookJob {
     pub open: bool,
 }
 
-/// The dispatcher's book, "fed the plan, the passes and the replies".
+/// The dispatcher's book, "fed the plan, the passes and the replies". Beside the jobs it keeps what
+/// is left of each task's latest one; the speeds say what the ticks at a level leave.
 #[derive(Clone, Debug)]
 pub struct ActualBook {
+    levels: Levels,
     plan: Vec<Task>,
     clock: u64,
     jobs: Vec<BookJob>,
-    running: Option<usize>,
+    left: Vec<Left>,
+    running: Option<Running>,
+}
+
+/// The task and the level of "the order last returned".
+#[derive(Clone, Copy, Debug)]
+struct Running {
+    task: usize,
+    level: usize,
 }
 
 impl ActualBook {
     /// Opened with an accepted plan and the order that starting returned.
-    pub fn new(plan: &[Task], first: Order) -> ActualBook {
+    pub fn new(levels: &Levels, plan: &[Task], first: Order) -> ActualBook {
         let mut book = ActualBook {
+            levels: levels.clone(),
             plan: plan.to_vec(),
             clock: 0,
             jobs: Vec::new(),
-            running: running_task(first),
+            left: vec![Left::NOTHING; plan.len()],
+            running: running_in(first),
         };
         book.let_jobs_arrive();
         book
@@ -44,6 +57,12 @@ impl ActualBook {
         self.jobs.clone()
     }
 
+    /// What is left of each task's latest job: all of it at its arrival, less what the accepted
+    /// passes since then gave it at the levels ordered, and nothing once it is closed.
+    pub fn left(&self) -> &[Left] {
+        &self.left
+    }
+
     /// Enters a pass and the reply to it.
     pub fn pass(&mut self, d: u32, finished: bool, reply: Result<Order, u32>) {
         let order = match reply {
@@ -52,16 +71,19 @@ impl ActualBook {
             Err(_) => return,
         };
         // "An accepted pass that says finished closes that task's latest job; then the clock
-        // rises by d."
-        if finished {
-            self.close_latest_job_of_running_task();
+        // rises by d." With an idle order there is no running task, so nothing to close.
+        if let Some(running) = self.running {
+            self.take_from_job(running, u64::from(d));
+            if finished {
+                self.close_latest_job(running.task);
+            }
         }
         for _ in 0..d {
             self.clock += 1;
             self.let_jobs_arrive();
         }
         // For the next pass, this is "the order last returned before it".
-        self.running = running_task(order);
+        self.running = running_in(order);
     }
 
     /// Drops the closed jobs, for long runs. A closed job says nothing more in demand 3.
@@ -69,14 +91,22 @@ impl ActualBook {
         self.jobs.retain(|job| job.open);
     }
 
+    /// The ticks of a pass go to the running task's latest job. A dispatcher that is held to the book
+    /// may let it run for longer than it needs; then nothing is left of it.
+    fn take_from_job(&mut self, running: Running, d: u64) {
+        let speed = self.levels.speed(running.level);
+        let left = &mut self.left[running.task];
+        *left = if d < time_needed(*left, speed) {
+            left_after(*left, d, speed)
+        } else {
+            Left::NOTHING
+        };
+    }
+
     /// The latest job is found by its arrival, not by its place in the list: it may be closed and
     /// forgotten already, and then an older open one mustn't be closed in its stead.
-    fn close_latest_job_of_running_task(&mut self) {
-        let task = match self.running {
-            Some(task) => task,
-            // With an idle order there is no running task, so nothing to close.
-            None => return,
-        };
+    fn close_latest_job(&mut self, task: usize) {
+        self.left[task] = Left::NOTHING;
         let period = self.plan[task].period;
         let latest = self.clock / period * period;
         for job in &mut self.jobs {
@@ -94,14 +124,18 @@ impl ActualBook {
                     arrival: self.clock,
                     open: true,
                 });
+                self.left[task] = self.plan[task].whole_job();
             }
         }
     }
 }
 
-fn running_task(order: Order) -> Option<usize> {
+fn running_in(order: Order) -> Option<Running> {
     match order {
-        Order::Run { task, .. } => Some(usize::from(task)),
+        Order::Run { task, level, .. } => Some(Running {
+            task: usize::from(task),
+            level: usize::from(level),
+        }),
         Order::Idle { .. } => None,
     }
 }

@@ -16,8 +16,8 @@ pub enum Order {
     Idle { hold: u32 },
 }
 
-/// Starting: reads the block (1 to 8), then asks for the state's 217 bytes (9). Of a longer buffer
-/// the bytes past them stay as they were.
+/// Starting: reads the block (1 to 8, and 21), then asks for the state's 217 bytes (9). Of a longer
+/// buffer the bytes past them stay as they were.
 pub fn start(levels: &Levels, block: &[u8], state: &mut [u8]) -> Result<Order, u32> {
     let (tasks, judged) = read_plan(levels, block)?;
     if state.len() < STATE_BYTES {
@@ -132,9 +132,13 @@ pub fn sound(block: &[u8]) -> Option<(State, Judged)> {
 }
 
 /// "for each task, work left at most the worst case, plain ticks left at most the allotment, and
-/// the time needed for the work left at the nominal level at most the plain ticks left"
+/// the time needed for the work left at the nominal level at most the plain ticks left". 02, No. 2,
+/// of the fixed ticks left: "no more than the fixed ticks, and zero in a finished job". That a job
+/// with some of them left has all of its work isn't asked.
 fn entry_is_sound(entry: &Entry, nominal: u64) -> bool {
+    let finished = !entry.left.is_open();
     entry.left.is_within(entry.task.whole_job())
+        && (!finished || entry.left.fixed == 0)
         && entry.plain_left <= allotment(&entry.task, nominal)
         && time_needed(entry.left, nominal) <= entry.plain_left
 }
@@ -245,9 +249,10 @@ pub fn choose(state: &State) -> Option<Running> {
 /// A new order has the hold that 01 says: the smaller of the time needed and the ticks to the next
 /// arrival, and for idle the latter. An order that stays has a hold that fell by d, but the block
 /// doesn't keep the hold. It needn't: the same rule, put to the state after the pass, gives it.
-/// - The work left fell by d whole ticks' worth at the order's level, so the time needed for it at
-///   that level fell by exactly d: (work - d * speed) / speed is work / speed - d, and taking away
-///   the whole number d doesn't change the rounding. That is so for any speed.
+/// - The time needed at the order's level fell by exactly d, at any speed. Of the d ticks some went
+///   to the fixed ticks, which are a part of it as they stand. The others, say k, each took a whole
+///   tick's worth of the work left: (work - k * speed) / speed is work / speed - k, and taking away
+///   the whole number k doesn't change the rounding.
 /// - The clock rose by d and nothing arrived, so the ticks to the next arrival fell by exactly d.
 ///
 /// If both fall by d, so does the smaller of them. Pass by pass, the hold of an order that stays

@@ -1,5 +1,5 @@
-//! 01, Blocks, and 02, No. 1: where each number of the state block stands. Nothing else in the
-//! simulator knows a place or a length of it.
+//! 01, Blocks, and 02, No. 1 and No. 2: where each number of the state block stands. Nothing else
+//! in the simulator knows a place or a length of it.
 
 use std::ops::Range;
 
@@ -24,12 +24,13 @@ pub const HEAD_ZERO: Field = field(7, 1);
 pub const HEAD_BYTES: usize = 8;
 
 /// "period (2), worst case (3), work left (3; 0 once finished), plain ticks left (2), two zero
-/// bytes".
+/// bytes"; 02, No. 2: "the two zero bytes become fixed ticks and fixed ticks left".
 pub const PERIOD: Field = field(0, 2);
 pub const WORST: Field = field(2, 3);
 pub const WORK_LEFT: Field = field(5, 3);
 pub const PLAIN_LEFT: Field = field(8, 2);
-pub const ENTRY_ZERO: Field = field(10, 2);
+pub const FIXED: Field = field(10, 1);
+pub const FIXED_LEFT: Field = field(11, 1);
 pub const ENTRY_BYTES: usize = 12;
 
 /// "a block of 200 bytes ... sixteen entries of 12 bytes".

@@ -77,7 +77,9 @@ fn add_passes(passes: &[u8], state: &mut [u8], lines: &mut Vec<String>) {
 }
 
 /// "The reader is given as many bytes as the count needs, or all there are if fewer, or if the
-/// count is bad." Below two bytes there is no count to see, and the reader gets all there are.
+/// count is bad." Below two bytes there is no count to see, and the reader gets all there are. 02,
+/// No. 2: "The bench cuts by edition too." Another edition than 1 or 2 is cut as 1: whatever the
+/// reader is given of it, it refuses it with 2.
 fn bytes_for_the_reader(rest: &[u8]) -> usize {
     match head(rest) {
         Some((edition, count)) if count_in_range(count) => {

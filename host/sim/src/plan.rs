@@ -1,4 +1,5 @@
-//! 01, "Plan, levels, plain schedule", and the questions 1 to 9 about plans.
+//! 01, "Plan, levels, plain schedule", and the questions 1 to 9 about plans; 02, No. 2: the fixed
+//! ticks of a task, and question 21.
 
 use crate::bits::Bits;
 use crate::block::{block_bytes, pack_block, take_head, Edition};
@@ -11,12 +12,17 @@ use crate::levels::Levels;
 pub struct Task {
     pub period: u64,
     pub worst: u64,
+    /// Ticks that its job takes at every level, before its work.
+    pub fixed: u64,
 }
 
 impl Task {
     /// What its job has to do on arrival.
     pub fn whole_job(&self) -> Left {
-        Left { work: self.worst }
+        Left {
+            fixed: self.fixed,
+            work: self.worst,
+        }
     }
 }
 
@@ -30,6 +36,7 @@ pub struct Judged {
 pub const LARGEST_COUNT: u64 = 16;
 pub const LARGEST_PERIOD: u64 = 65_535;
 pub const LARGEST_WORST: u64 = 1_048_575;
+pub const LARGEST_FIXED: u64 = 255;
 pub const LARGEST_HYPERPERIOD: u64 = 1_000_000;
 
 /// The least common multiple, or nothing if it is over the limit. The multiples of the larger
@@ -77,7 +84,19 @@ pub fn count_in_range(count: u64) -> bool {
 }
 
 fn task_in_range(task: &Task) -> bool {
-    (1..=LARGEST_PERIOD).contains(&task.period) && (1..=LARGEST_WORST).contains(&task.worst)
+    (1..=LARGEST_PERIOD).contains(&task.period)
+        && (1..=LARGEST_WORST).contains(&task.worst)
+        && task.fixed <= LARGEST_FIXED
+}
+
+/// Question 6. A block has no room for fixed ticks out of their range, so in reading these never say
+/// no to it.
+fn ask_ranges(tasks: &[Task]) -> Result<(), u32> {
+    if tasks.iter().all(task_in_range) {
+        Ok(())
+    } else {
+        Err(6)
+    }
 }
 
 /// Questions 3, 6, 7 and 8 about a count and its tasks. Entries past the count are not looked at.
@@ -86,9 +105,12 @@ pub fn judge(levels: &Levels, count: u64, tasks: &[Task]) -> Result<Judged, u32>
         return Err(3);
     }
     let tasks = &tasks[..count as usize];
-    if !tasks.iter().all(task_in_range) {
-        return Err(6);
-    }
+    ask_ranges(tasks)?;
+    ask_admission(levels, tasks)
+}
+
+/// Questions 7 and 8, about tasks in range.
+fn ask_admission(levels: &Levels, tasks: &[Task]) -> Result<Judged, u32> {
     let hyperperiod = hyperperiod(tasks).ok_or(7u32)?;
     let nominal = nominal_level(levels, tasks, hyperperiod).ok_or(8u32)?;
     Ok(Judged {
@@ -102,7 +124,7 @@ pub fn judge_list(levels: &Levels, tasks: &[Task]) -> Result<Judged, u32> {
     judge(levels, tasks.len() as u64, tasks)
 }
 
-/// Reading a plan: questions 1 to 8.
+/// Reading a plan: questions 1 to 6, 21, 7 and 8.
 pub fn read_plan(levels: &Levels, block: &[u8]) -> Result<(Vec<Task>, Judged), u32> {
     if block.len() < 2 {
         return Err(1);
@@ -119,13 +141,22 @@ pub fn read_plan(levels: &Levels, block: &[u8]) -> Result<(Vec<Task>, Judged), u
         return Err(4);
     }
     let mut tasks = Vec::new();
+    let mut spare_bits = 0;
     for _ in 0..count {
-        tasks.push(edition.take_task(&mut bits));
+        let (task, spare) = edition.take_task(&mut bits);
+        tasks.push(task);
+        spare_bits |= spare;
     }
-    if !bits.all_zero() {
+    // "3 spare zero bits, tested with the closing bits under 5".
+    if spare_bits != 0 || !bits.all_zero() {
         return Err(5);
     }
-    let judged = judge(levels, count, &tasks)?;
+    ask_ranges(&tasks)?;
+    // "21 an edition 2 block whose additions are all zero; put after 6 in reading."
+    if edition == Edition::SECOND && tasks.iter().all(|task| task.fixed == 0) {
+        return Err(21);
+    }
+    let judged = ask_admission(levels, &tasks)?;
     Ok((tasks, judged))
 }
 

@@ -1,5 +1,5 @@
-//! 01, Blocks, and 02, No. 1: the state, packed into its block and unpacked. This file knows nothing
-//! of what the plan, the jobs and the order have to do with each other.
+//! 01, Blocks, and 02, No. 1 and No. 2: the state, packed into its block and unpacked. This file
+//! knows nothing of what the plan, the jobs and the order have to do with each other.
 
 use crate::job::Left;
 use crate::layout::{self, Field, ENTRIES, ENTRIES_END, IDLE, SPEEDS, STATE_BYTES};
@@ -54,10 +54,7 @@ pub fn unpack(block: &[u8]) -> Option<State> {
     if !(1..=ENTRIES).contains(&count) || layout::HEAD_ZERO.get(block) != 0 {
         return None;
     }
-    let mut entries = Vec::new();
-    for task in 0..count {
-        entries.push(unpack_entry(block, task)?);
-    }
+    let entries = (0..count).map(|task| unpack_entry(block, task)).collect();
     // "Entries past the count are zero."
     if !all_zero(&block[layout::entry_at(count)..ENTRIES_END]) {
         return None;
@@ -102,21 +99,20 @@ fn unpack_order(block: &[u8]) -> Option<Option<Running>> {
     Some(None)
 }
 
-fn unpack_entry(block: &[u8], task: usize) -> Option<Entry> {
+fn unpack_entry(block: &[u8], task: usize) -> Entry {
     let number = |part: Field| layout::of_task(task, part).get(block);
-    if number(layout::ENTRY_ZERO) != 0 {
-        return None;
-    }
-    Some(Entry {
+    Entry {
         task: Task {
             period: number(layout::PERIOD),
             worst: number(layout::WORST),
+            fixed: number(layout::FIXED),
         },
         left: Left {
+            fixed: number(layout::FIXED_LEFT),
             work: number(layout::WORK_LEFT),
         },
         plain_left: number(layout::PLAIN_LEFT),
-    })
+    }
 }
 
 pub fn pack(state: &State) -> [u8; STATE_BYTES] {
@@ -150,4 +146,6 @@ fn pack_entry(block: &mut [u8], task: usize, entry: &Entry) {
     put(layout::WORST, entry.task.worst);
     put(layout::WORK_LEFT, entry.left.work);
     put(layout::PLAIN_LEFT, entry.plain_left);
+    put(layout::FIXED, entry.task.fixed);
+    put(layout::FIXED_LEFT, entry.left.fixed);
 }

@@ -3,7 +3,7 @@
 use crate::script::{largest, Pass, Script, D_BITS};
 use sim::bits::Bits;
 use sim::block::{block_bytes, head, pack_block, take_head, Edition};
-use sim::block::{COUNT_BITS, PERIOD_BITS, WORST_BITS};
+use sim::block::{COUNT_BITS, FIXED_BITS, HEAD_BITS, PERIOD_BITS, SPARE_BITS, WORST_BITS};
 use sim::level_block::{self, level_block_bytes, level_count, pack_levels, read_levels};
 use sim::plan::{judge_list, Task};
 use std::fmt;
@@ -22,7 +22,9 @@ pub enum Why {
     TooShort { length: usize },
     Edition(u64),
     CutBlock { count: u64, needed: usize },
+    SpareBits { task: usize },
     ClosingBits,
+    NoAddition,
     OddByte,
 }
 
@@ -57,7 +59,12 @@ impl fmt::Display for Why {
                 "the input ends here, within the plan block: its count is {count}, so it needs \
                  {needed} bytes"
             ),
+            Why::SpareBits { task } => write!(out, "the spare bits of task {task} are not zero"),
             Why::ClosingBits => write!(out, "the closing bits of the plan block are not zero"),
+            Why::NoAddition => write!(
+                out,
+                "the edition is 2, but no task has fixed ticks; text without them means edition 1"
+            ),
             Why::OddByte => write!(out, "an odd byte is left; a pass has two"),
         }
     }
@@ -163,8 +170,11 @@ fn pack_pass(pass: Pass) -> [u8; 2] {
 }
 
 fn fits(script: &Script) -> bool {
-    let task_fits =
-        |task: &Task| task.period <= largest(PERIOD_BITS) && task.worst <= largest(WORST_BITS);
+    let task_fits = |task: &Task| {
+        task.period <= largest(PERIOD_BITS)
+            && task.worst <= largest(WORST_BITS)
+            && task.fixed <= largest(FIXED_BITS)
+    };
     let speed_fits = |speed: &u64| *speed <= largest(level_block::SPEED_BITS);
     script.speeds.len() as u64 <= largest(level_block::COUNT_BITS)
         && script.speeds.iter().all(speed_fits)
@@ -176,7 +186,7 @@ fn fits(script: &Script) -> bool {
             .all(|pass| u64::from(pass.d) <= largest(D_BITS))
 }
 
-/// `1`; several would be `1 or 2`.
+/// `1 or 2`.
 fn accepted_editions() -> String {
     let numbers: Vec<String> = Edition::ACCEPTED
         .iter()
@@ -226,11 +236,26 @@ fn unpack_block(block: &[u8]) -> Result<Vec<Task>, BytesError> {
         return at(length, Why::CutBlock { count, needed });
     }
     let mut tasks = Vec::new();
-    for _ in 0..count {
-        tasks.push(edition.take_task(&mut bits));
+    for task in 0..count as usize {
+        let (numbers, spare) = edition.take_task(&mut bits);
+        if spare != 0 {
+            return at(byte_of_spare(edition, task, spare), Why::SpareBits { task });
+        }
+        tasks.push(numbers);
     }
     if !bits.all_zero() {
         return at(length - 1, Why::ClosingBits);
     }
+    // No text says these, as the writer gives such tasks the first edition.
+    if edition != Edition::of_tasks(&tasks) {
+        return at(0, Why::NoAddition);
+    }
     Ok(tasks)
+}
+
+/// The byte with the first spare bit of a task that is set. The spare bits are a task's last.
+fn byte_of_spare(edition: Edition, task: usize, spare: u64) -> usize {
+    let end = HEAD_BITS + edition.task_bits() * (task + 1);
+    let first = (0..SPARE_BITS).rev().find(|bit| spare >> bit & 1 == 1);
+    (end - 1 - first.unwrap_or(0)) / 8
 }

@@ -3,10 +3,10 @@
 pub fn meaning(number: u32) -> &'static str {
     match number {
         1 => "the plan block is shorter than 2 bytes",
-        2 => "the edition is not 1",
+        2 => "the edition is not 1 or 2",
         3 => "the count is not 1 to 16",
-        4 => "the plan block's length is not the count's",
-        5 => "the closing bits are not zero",
+        4 => "the plan block's length is not the edition's and the count's",
+        5 => "the closing bits, or the spare bits of a task, are not zero",
         6 => "a period or a worst case is out of range",
         7 => "the hyperperiod is over 1,000,000",
         8 => "no level admits the plan",
@@ -22,6 +22,7 @@ pub fn meaning(number: u32) -> &'static str {
         18 => "the level block is empty, or its count is not 1 to 8",
         19 => "the level block's length is not the count's, or its closing bits are not zero",
         20 => "a speed is not 1 to 1,000, or not above the one before it",
+        21 => "the edition is 2, but no task has fixed ticks",
         _ => "not a refusal of the documents",
     }
 }

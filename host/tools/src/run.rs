@@ -4,7 +4,7 @@
 use crate::bench::{split, unpack_pass, LARGEST_INPUT};
 use crate::script::Pass;
 use sim::dispatch::{pass, start, Order};
-use sim::job::time_needed;
+use sim::job::{time_needed, Left};
 use sim::layout::STATE_BYTES;
 use sim::level_block::read_levels;
 use sim::levels::Levels;
@@ -23,6 +23,14 @@ impl Span {
         self.to - self.from
     }
 
+    /// The first so many ticks of it.
+    pub fn first(&self, ticks: u64) -> Span {
+        Span {
+            from: self.from,
+            to: self.from + ticks,
+        }
+    }
+
     /// The part of it that lies in the other one, if any does.
     pub fn within(&self, other: Span) -> Option<Span> {
         let from = self.from.max(other.from);
@@ -38,6 +46,8 @@ pub struct Stretch {
     pub arrival: u64,
     pub level: usize,
     pub span: Span,
+    /// How many of its ticks, the first ones, were fixed ticks.
+    pub fixed: u64,
     /// If the job finished at the end of it: how many ticks more its worst case would have taken
     /// at this level.
     pub early: Option<u64>,
@@ -60,9 +70,10 @@ pub struct Run {
     pub refusals: Vec<Refusal>,
     /// How many passes were accepted.
     pub accepted: usize,
-    /// Where the run ends, and the order that stands there.
+    /// Where the run ends, the order that stands there, and the fixed ticks that its job has left.
     pub clock: u64,
     pub order: Order,
+    pub fixed_left: u64,
 }
 
 /// The run of a bench input, or the number that the whole input is refused with.
@@ -85,6 +96,7 @@ pub fn follow(input: &[u8]) -> Result<Run, u32> {
         accepted: 0,
         clock: 0,
         order,
+        fixed_left: 0,
     };
     let mut pairs = parts.passes.chunks_exact(2);
     for pair in &mut pairs {
@@ -93,6 +105,7 @@ pub fn follow(input: &[u8]) -> Result<Run, u32> {
     if !pairs.remainder().is_empty() {
         run.refuse(16);
     }
+    run.fixed_left = run.left_to_run(&state).fixed;
     Ok(run)
 }
 
@@ -118,7 +131,7 @@ impl Run {
 
     /// Puts a pass to the simulator and enters what came of it.
     fn put(&mut self, told: Pass, state: &mut [u8]) {
-        let needed = self.ticks_needed(state);
+        let left = self.left_to_run(state);
         let next = match pass(state, told.d, told.finished) {
             Ok(next) => next,
             Err(number) => return self.refuse(number),
@@ -129,27 +142,32 @@ impl Run {
         };
         match self.order {
             Order::Idle { .. } => self.add_idle(span),
-            Order::Run { task, level, .. } => self.add_stretch(Stretch {
-                task: usize::from(task),
-                arrival: self.latest_arrival(usize::from(task)),
-                level: usize::from(level),
-                span,
-                early: told.finished.then(|| needed - span.ticks()),
-            }),
+            Order::Run { task, level, .. } => {
+                let (task, level) = (usize::from(task), usize::from(level));
+                let needed = time_needed(left, self.levels.speed(level));
+                self.add_stretch(Stretch {
+                    task,
+                    arrival: self.latest_arrival(task),
+                    level,
+                    span,
+                    fixed: left.fixed.min(span.ticks()),
+                    early: told.finished.then(|| needed - span.ticks()),
+                })
+            }
         }
         self.accepted += 1;
         self.clock = span.to;
         self.order = next;
     }
 
-    /// The ticks that what is left of the running job needs at its level; 0 if none is running.
-    fn ticks_needed(&self, state: &[u8]) -> u64 {
-        let (task, level) = match self.order {
-            Order::Run { task, level, .. } => (usize::from(task), usize::from(level)),
-            Order::Idle { .. } => return 0,
+    /// What is left of the job that the order runs; nothing if it is to stay idle.
+    fn left_to_run(&self, state: &[u8]) -> Left {
+        let task = match self.order {
+            Order::Run { task, .. } => usize::from(task),
+            Order::Idle { .. } => return Left::NOTHING,
         };
         let state = unpack(state).expect("the simulator leaves a state that can be unpacked");
-        time_needed(state.entries[task].left, self.levels.speed(level))
+        state.entries[task].left
     }
 
     /// A stretch that goes on where the last one stopped, of the same job at the same level,
@@ -159,6 +177,7 @@ impl Run {
             let same_job = last.task == stretch.task && last.arrival == stretch.arrival;
             if same_job && last.level == stretch.level && last.span.to == stretch.span.from {
                 last.span.to = stretch.span.to;
+                last.fixed += stretch.fixed;
                 last.early = stretch.early;
                 return;
             }

@@ -1,8 +1,8 @@
-//! The text form: a `speeds S1 S2 ..` line if the speeds are not 01's, `task PERIOD WORST` lines,
-//! then `pass D` and `finish D` lines. `#` starts a comment, and blank lines say nothing.
+//! The text form: a `speeds S1 S2 ..` line if the speeds are not 01's, `task PERIOD WORST [FIXED]`
+//! lines, then `pass D` and `finish D` lines. `#` starts a comment, and blank lines say nothing.
 
 use crate::script::{largest, Pass, Script, D_BITS};
-use sim::block::{COUNT_BITS, PERIOD_BITS, WORST_BITS};
+use sim::block::{COUNT_BITS, FIXED_BITS, PERIOD_BITS, WORST_BITS};
 use sim::level_block::{self, SPEED_BITS};
 use sim::plan::Task;
 use std::fmt;
@@ -93,7 +93,11 @@ pub fn write(script: &Script) -> String {
         text += "\n";
     }
     for task in &script.tasks {
-        text += &format!("task {} {}\n", task.period, task.worst);
+        text += &format!("task {} {}", task.period, task.worst);
+        if task.fixed != 0 {
+            text += &format!(" {}", task.fixed);
+        }
+        text += "\n";
     }
     if !script.tasks.is_empty() && !script.passes.is_empty() {
         text += "\n";
@@ -143,6 +147,7 @@ fn enter_speeds<'a>(
     Ok(())
 }
 
+/// Without the last number the task has no fixed ticks.
 fn enter_task<'a>(
     script: &mut Script,
     words: &mut impl Iterator<Item = &'a str>,
@@ -155,7 +160,15 @@ fn enter_task<'a>(
     }
     let period = number(words, "period", PERIOD_BITS)?;
     let worst = number(words, "worst case", WORST_BITS)?;
-    script.tasks.push(Task { period, worst });
+    let fixed = match words.next() {
+        Some(word) => number(&mut [word].into_iter(), "number of fixed ticks", FIXED_BITS)?,
+        None => 0,
+    };
+    script.tasks.push(Task {
+        period,
+        worst,
+        fixed,
+    });
     Ok(())
 }
 

@@ -45,7 +45,8 @@ element-copy-out-t c = omega arith
 task-time-requires : tie.Need-task-time-requires Inv-loop μ-loop
 task-time-requires c κs =
     let s = c .before .before .before in
-    (s .pre .0 .2, s .pre .0 .3, omega (arith, task-at (asked s .plan) (c .before .before .loop .i) (omega arith) .worst-high))
+    let range = task-at (asked s .plan) (c .before .before .loop .i) (omega arith) in
+    (s .pre .0 .2, s .pre .0 .3, omega (arith, range .fixed-high), omega (arith, range .worst-high))
 
 mul-n : tie.Need-mul-n Inv-loop μ-loop
 mul-n c = omega arith

@@ -1,7 +1,7 @@
 -- `task_in_range` meets its contract.
 -- Assumes nothing.
 use native.Mathlib.Omega.{arith}
-use Rattle.admission.proofs.Admissions.{period-low, period-high, worst-low, worst-high}
+use Rattle.admission.proofs.Admissions.{period-low, period-high, worst-low, worst-high, fixed-high}
 use Rattle.admission.proofs.task_in_range.Statement.{statement}
 use Rattle.admission.proofs.task_in_range.Tie as tie
 
@@ -15,7 +15,13 @@ returns-3 : tie.Need-returns-3
 returns-3 c = worst-low (c .before .before .before .before .before .before .args .t) (omega arith) (omega arith) (omega arith)
 
 returns-4 : tie.Need-returns-4
-returns-4 c = worst-high (c .before .before .before .before .before .before .before .args .t) (omega arith) (omega arith) (omega arith)
+returns-4 c =
+    worst-high (c .before .before .before .before .before .before .before .before .args .t) (omega arith) (omega arith) (omega arith)
+
+returns-5 : tie.Need-returns-5
+returns-5 c =
+    fixed-high (c .before .before .before .before .before .before .before .before .before .args .t)
+    (omega arith) (omega arith) (omega arith) (omega arith)
 
 pub task-in-range-spec : {M : Type 1} → statement M
-task-in-range-spec = tie.close (tie.spec returns returns-2 returns-3 returns-4)
+task-in-range-spec = tie.close (tie.spec returns returns-2 returns-3 returns-4 returns-5)

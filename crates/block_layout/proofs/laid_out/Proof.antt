@@ -1,10 +1,10 @@
--- `laid_out` meets its contract: the zero byte, the zero bytes past an entry's numbers, a byte past all entries or a speed past the count decides.
+-- `laid_out` meets its contract: the zero byte, a byte past all entries or a speed past the count decides.
 -- Assumes nothing.
 use mathlib.Core.Path.{refl}
 use native.Mathlib.Omega.{arith}
 use borrow.Author.Needs.{needs}
 use borrow.Author.Tests.{not-true, not-false}
-use Rattle.block_layout.proofs.LayoutLaws.{BlockBytes, zero-not, pairs-decide, zeros-decide, unused-decide}
+use Rattle.block_layout.proofs.LayoutLaws.{BlockBytes, zero-not, zeros-decide, unused-decide}
 use Rattle.block_layout.proofs.laid_out.Statement.{statement}
 use Rattle.block_layout.proofs.laid_out.Tie as tie
 
@@ -12,7 +12,7 @@ known : (c : tie.After-shared-slice-known) → BlockBytes (c .before .args .bloc
 known c = record { size = c .before .pre .0; few = c .before .pre .1; bytes = λ k. omega (arith, c .shared-slice-known .given k) }
 
 -- the place past the first test
-abbrev tested : tie.After-pairs-zero → tie.Else1
+abbrev tested : tie.After-zero-from → tie.Else1
 tested c = c .before .before
 
 shared-slice-read-if1 : tie.Need-shared-slice-read-if1
@@ -24,15 +24,6 @@ returns c = zero-not (known (c .before .before)) refl (c .if1 .taken)
 count-at-requires : tie.Need-count-at-requires
 count-at-requires c κs = search needs
 
-pairs-zero-requires : tie.Need-pairs-zero-requires
-pairs-zero-requires c κs = search needs
-
-returns-2 : tie.Need-returns-2
-returns-2 c =
-    let e : tie.Else1 = tested (c .before) in
-    pairs-decide (known (e .before .before)) refl (e .if1 .left) (c .before .before .count-at .ensures) (c .before .pairs-zero .ensures)
-    (not-true _ (c .if2 .taken))
-
 mul-zero-from : tie.Need-mul-zero-from
 mul-zero-from c = search needs
 
@@ -42,27 +33,22 @@ add-zero-from c = search needs
 zero-from-requires : tie.Need-zero-from-requires
 zero-from-requires c κs = search needs
 
--- the place past the second
-abbrev paired : tie.After-zero-from → tie.After-pairs-zero
-paired c = c .before .before
-
-returns-3 : tie.Need-returns-3
-returns-3 c =
-    let p : tie.After-pairs-zero = paired (c .before) in
-    let e : tie.Else1 = tested p in
-    zeros-decide (known (e .before .before)) refl (e .if1 .left) (p .before .count-at .ensures) (p .pairs-zero .ensures)
-    (not-false _ (c .before .before .if2 .left)) (c .before .zero-from .ensures) (not-true _ (c .if3 .taken))
+returns-2 : tie.Need-returns-2
+returns-2 c =
+    let z : tie.After-zero-from = c .before in
+    let e : tie.Else1 = tested z in
+    zeros-decide (known (e .before .before)) refl (e .if1 .left) (z .before .count-at .ensures) (z .zero-from .ensures)
+    (not-true _ (c .if2 .taken))
 
 unused-zero-requires : tie.Need-unused-zero-requires
 unused-zero-requires c κs = search needs
 
-returns-4 : tie.Need-returns-4
-returns-4 c =
+returns-3 : tie.Need-returns-3
+returns-3 c =
     let z : tie.After-zero-from = c .before .before in
-    let p : tie.After-pairs-zero = paired z in
-    let e : tie.Else1 = tested p in
-    unused-decide (known (e .before .before)) refl (e .if1 .left) (p .before .count-at .ensures) (p .pairs-zero .ensures)
-    (not-false _ (z .before .if2 .left)) (z .zero-from .ensures) (not-false _ (c .before .if3 .left)) (c .unused-zero .ensures)
+    let e : tie.Else1 = tested z in
+    unused-decide (known (e .before .before)) refl (e .if1 .left) (z .before .count-at .ensures) (z .zero-from .ensures)
+    (not-false _ (c .before .if2 .left)) (c .unused-zero .ensures)
 
 pub laid-out-spec : {M : Type 1} → statement M
 laid-out-spec =
@@ -71,11 +57,9 @@ laid-out-spec =
     shared-slice-read-if1
     returns
     count-at-requires
-    pairs-zero-requires
-    returns-2
     mul-zero-from
     add-zero-from
     zero-from-requires
-    returns-3
+    returns-2
     unused-zero-requires
-    returns-4)
+    returns-3)

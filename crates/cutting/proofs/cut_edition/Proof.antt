@@ -1,14 +1,14 @@
 -- `cut_edition` meets its contract.
 -- Assumes nothing.
-use Rattle.cutting.proofs.Cuts.{edition-known, edition-unknown}
+use Rattle.cutting.proofs.Cuts.{edition-two, edition-else}
 use Rattle.cutting.proofs.cut_edition.Statement.{statement}
 use Rattle.cutting.proofs.cut_edition.Tie as tie
 
 returns : tie.Need-returns
-returns c = edition-known (c .before .args .edition) (c .if1 .taken)
+returns c = edition-two (c .before .args .edition) (c .if1 .taken)
 
 returns-2 : tie.Need-returns-2
-returns-2 c = edition-unknown (c .before .args .edition) (c .if1 .left)
+returns-2 c = edition-else (c .before .args .edition) (c .if1 .left)
 
 pub cut-edition-spec : {M : Type 1} → statement M
 cut-edition-spec = tie.close (tie.spec returns returns-2)

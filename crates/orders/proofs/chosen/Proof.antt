@@ -89,7 +89,13 @@ level-for-requires c κs = ((start c .pre .0 .0, c .allowance-of .ensures .1, be
 running-order-requires : tie.Need-running-order-requires
 running-order-requires c κs =
     let a : tie.After-allowance-of = c .before in
-    (start a .pre .0 .0, told-task (picked c .read .told), omega (arith, below a, c .level-for .ensures .1), omega (arith, a .before .rest-at .ensures .1))
+    let rest = a .before .rest-at .ensures in (
+      start a .pre .0 .0,
+      told-task (picked c .read .told),
+      omega (arith, below a, c .level-for .ensures .1),
+      omega (arith, rest .2),
+      omega (arith, rest .1),
+    )
 
 returns-2 : tie.Need-returns-2
 returns-2 c = (

@@ -20,8 +20,12 @@ returns c =
 
 time-of-requires : tie.Need-time-of-requires
 time-of-requires c κs =
-    let s = c .before in
-    (speed-positive (s .pre .0) (s .args .level) (s .pre .2), speed-most (s .pre .0) (s .args .level) (s .pre .2), s .pre .3)
+    let s = c .before in (
+      speed-positive (s .pre .0) (s .args .level) (s .pre .2),
+      speed-most (s .pre .0) (s .args .level) (s .pre .2),
+      s .pre .3,
+      s .pre .4,
+    )
 
 mul-time-of : tie.Need-mul-time-of
 mul-time-of c = omega (arith, c .pre .0 .few)

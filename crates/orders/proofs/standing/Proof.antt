@@ -57,6 +57,7 @@ running-order-requires c κs = (
   start (c .before) .pre .0,
   omega (arith, standing-task (runs (c .before)), task-byte (start (c .before) .args .block .now)),
   omega (arith, standing-level (runs (c .before)), level-byte (start (c .before) .args .block .now)),
+  omega (arith, c .rest-at .ensures .2),
   omega (arith, c .rest-at .ensures .1),
 )
 

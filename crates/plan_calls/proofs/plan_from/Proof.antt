@@ -36,6 +36,15 @@ add-number-at c = omega arith
 number-at-requires-2 : tie.Need-number-at-requires-2 Inv-loop μ-loop
 number-at-requires-2 c κs = search needs
 
+mul-number-at-3 : tie.Need-mul-number-at-3 Inv-loop μ-loop
+mul-number-at-3 c = omega arith
+
+add-number-at-2 : tie.Need-add-number-at-2 Inv-loop μ-loop
+add-number-at-2 c = omega arith
+
+number-at-requires-3 : tie.Need-number-at-requires-3 Inv-loop μ-loop
+number-at-requires-3 c κs = search needs
+
 mul-t : tie.Need-mul-t Inv-loop μ-loop
 mul-t c = omega arith
 
@@ -49,7 +58,10 @@ loop-less : tie.Need-loop-less Inv-loop μ-loop
 loop-less c = omega arith
 
 loop-again : tie.Need-loop-again Inv-loop μ-loop
-loop-again c = put-more (c .before .before .before .loop .inv) (omega arith) (c .before .number-at .ensures) (c .number-at2 .ensures)
+loop-again c =
+    let s = c .before .before in
+    put-more (s .before .before .loop .inv) (omega arith)
+    (λ j. record { period = s .number-at .ensures j; worst = c .before .number-at2 .ensures j; fixed = c .number-at3 .ensures j })
 
 returns : tie.Need-returns Inv-loop μ-loop
 returns c = put-all (c .before .loop .inv) (omega arith)
@@ -67,6 +79,9 @@ plan-from-spec =
     mul-number-at-2
     add-number-at
     number-at-requires-2
+    mul-number-at-3
+    add-number-at-2
+    number-at-requires-3
     mul-t
     element-set-from-t
     add-i

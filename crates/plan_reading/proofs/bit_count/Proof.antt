@@ -8,7 +8,7 @@ use Rattle.plan.proofs.BlockBits.{width-times}
 use Rattle.plan_reading.proofs.bit_count.Statement.{statement}
 use Rattle.plan_reading.proofs.bit_count.Tie as tie
 
-small : (c : tie.After-task-width) → c .task-width .result * c .before .args .count ≤ 992
+small : (c : tie.After-task-width) → c .task-width .result * c .before .args .count ≤ 752
 small c = width-times (c .before .args .edition) (c .before .args .count) (c .task-width .ensures) (c .before .pre)
 
 task-width-requires : tie.Need-task-width-requires

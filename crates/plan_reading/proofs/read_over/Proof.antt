@@ -6,7 +6,7 @@ use Prim.Native.Nat.{ℕ}
 use native.Mathlib.Omega.{arith}
 use borrow.Author.Needs.{needs}
 use Rattle.levels.specs.Code.{loaded}
-use Rattle.plan_reading.proofs.ReadLaws.{Opened, Counted, read-short, read-edition, read-low, read-high, read-size}
+use Rattle.plan_reading.proofs.ReadLaws.{Opened, Counted, read-short, read-edition-low, read-edition-high, read-low, read-high, read-size}
 use Rattle.plan_reading.proofs.read_over.Statement.{statement}
 use Rattle.plan_reading.proofs.read_over.Tie as tie
 
@@ -14,26 +14,32 @@ use Rattle.plan_reading.proofs.read_over.Tie as tie
 abbrev speeds : tie.Start → List ℕ
 speeds c = loaded (c .args .speeds .now) (c .args .levels)
 
-abbrev start : tie.Else1 → tie.Start
-start c = c .before .before
+abbrev start : tie.After-bits-at → tie.Start
+start c = c .before .before .before
 
-abbrev block : tie.Else1 → List ℕ
+abbrev block : tie.After-bits-at → List ℕ
 block c = start c .args .block .now
 
 -- the edition and the count are read
-opened : (c : tie.After-bits-at2) → Opened (block (c .before .before .before)) (c .before .before .bits-at .result) (c .bits-at2 .result)
+abbrev edition : tie.After-bits-at2 → tie.After-bits-at
+edition c = c .before .before .before
+
+opened : (c : tie.After-bits-at2) → Opened (block (edition c)) (edition c .bits-at .result) (c .bits-at2 .result)
 opened c =
-    let edition = c .before .before in
     record {
-      long = edition .before .if1 .left;
-      named = edition .bits-at .ensures;
-      known = c .before .if2 .left;
+      long = edition c .before .if1 .left;
+      named = edition c .bits-at .ensures;
+      edition-low = omega (arith, c .before .before .if2 .left);
+      edition-high = omega (arith, c .before .if3 .left);
       counted = c .bits-at2 .ensures;
     }
 
 -- and the count is in its range
-counted : (c : tie.Else4) → Counted (block (c .before .before .before .before .before)) (c .before .before .before .before .bits-at .result) (c .before .before .bits-at2 .result)
-counted c = record { opens = opened (c .before .before); low = c .before .if3 .left; high = c .if4 .left }
+abbrev count : tie.Else5 → tie.After-bits-at2
+count c = c .before .before
+
+counted : (c : tie.Else5) → Counted (block (edition (count c))) (edition (count c) .bits-at .result) (count c .bits-at2 .result)
+counted c = record { opens = opened (count c); low = c .before .if4 .left; high = c .if5 .left }
 
 refused-requires : tie.Need-refused-requires
 refused-requires c κs = search needs
@@ -52,7 +58,15 @@ refused-requires-2 c κs = search needs
 returns-2 : tie.Need-returns-2
 returns-2 c =
     let read = c .before .before in
-    read-edition (speeds (start (read .before))) (block (read .before)) (c .refused2 .ensures) (read .before .if1 .left) (read .bits-at .ensures) (c .before .if2 .taken)
+    read-edition-low (speeds (start read)) (block read) (c .refused2 .ensures) (read .before .if1 .left) (read .bits-at .ensures) (c .before .if2 .taken)
+
+refused-requires-3 : tie.Need-refused-requires-3
+refused-requires-3 c κs = search needs
+
+returns-3 : tie.Need-returns-3
+returns-3 c =
+    let read = c .before .before .before in
+    read-edition-high (speeds (start read)) (block read) (c .refused3 .ensures) (read .before .if1 .left) (read .bits-at .ensures) (omega (arith, c .before .if3 .taken))
 
 bits-at-requires-2 : tie.Need-bits-at-requires-2
 bits-at-requires-2 c κs = search needs
@@ -60,40 +74,45 @@ bits-at-requires-2 c κs = search needs
 cast-count : tie.Need-cast-count
 cast-count c = search needs
 
-refused-requires-3 : tie.Need-refused-requires-3
-refused-requires-3 c κs = search needs
-
-returns-3 : tie.Need-returns-3
-returns-3 c = read-low (speeds (start (c .before .before .before .before .before))) (opened (c .before .before)) (c .refused3 .ensures) (c .before .if3 .taken)
-
 refused-requires-4 : tie.Need-refused-requires-4
 refused-requires-4 c κs = search needs
 
 returns-4 : tie.Need-returns-4
-returns-4 c = read-high (speeds (start (c .before .before .before .before .before .before))) (opened (c .before .before .before)) (c .refused4 .ensures) (c .before .if4 .taken)
-
-block-length-requires : tie.Need-block-length-requires
-block-length-requires c κs = search needs
+returns-4 c =
+    let read = c .before .before in
+    read-low (speeds (start (edition read))) (opened read) (c .refused4 .ensures) (c .before .if4 .taken)
 
 refused-requires-5 : tie.Need-refused-requires-5
 refused-requires-5 c κs = search needs
 
 returns-5 : tie.Need-returns-5
 returns-5 c =
+    let read = c .before .before .before in
+    read-high (speeds (start (edition read))) (opened read) (c .refused5 .ensures) (c .before .if5 .taken)
+
+block-length-requires : tie.Need-block-length-requires
+block-length-requires c κs = search needs
+
+refused-requires-6 : tie.Need-refused-requires-6
+refused-requires-6 c κs = search needs
+
+returns-6 : tie.Need-returns-6
+returns-6 c =
     let wanted = c .before .before in
-    read-size (speeds (start (wanted .before .before .before .before .before .before))) (counted (wanted .before)) (c .refused5 .ensures) (wanted .block-length .ensures) (λ e. omega (arith, c .before .if5 .taken, e))
+    let read = edition (count (wanted .before)) in
+    read-size (speeds (start read)) (counted (wanted .before)) (c .refused6 .ensures) (wanted .block-length .ensures) (λ e. omega (arith, c .before .if6 .taken, e))
 
 read-counted-requires : tie.Need-read-counted-requires
 read-counted-requires c κs =
     let wanted = c .before in
     let k = counted (wanted .before) in
     let o = k .opens in (
-      start (wanted .before .before .before .before .before .before) .pre,
-      ((o .named, o .known, o .counted), (k .low, k .high, c .if5 .left ∙ wanted .block-length .ensures)),
+      start (edition (count (wanted .before))) .pre,
+      ((o .named, o .edition-low, o .edition-high, o .counted), (k .low, k .high, c .if6 .left ∙ wanted .block-length .ensures)),
     )
 
-returns-6 : tie.Need-returns-6
-returns-6 c = search needs
+returns-7 : tie.Need-returns-7
+returns-7 c = search needs
 
 pub read-over-spec : {M : Type 1} → statement M
 read-over-spec =
@@ -104,14 +123,16 @@ read-over-spec =
     bits-at-requires
     refused-requires-2
     returns-2
-    bits-at-requires-2
-    cast-count
     refused-requires-3
     returns-3
+    bits-at-requires-2
+    cast-count
     refused-requires-4
     returns-4
-    block-length-requires
     refused-requires-5
     returns-5
+    block-length-requires
+    refused-requires-6
+    returns-6
     read-counted-requires
-    returns-6)
+    returns-7)

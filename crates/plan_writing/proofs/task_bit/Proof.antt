@@ -7,7 +7,7 @@ use Rattle.arith.proofs.Loops.{length-mapped}
 use Rattle.plan.specs.Blocks.{taskWidth}
 use Rattle.plan.proofs.BlockBits.{width-least}
 use Rattle.admission.proofs.Admissions.{Held}
-use Rattle.plan_writing.proofs.WriteLaws.{AtTask, at-task, rest-below, bit-past, bit-period, bit-worst}
+use Rattle.plan_writing.proofs.WriteLaws.{AtTask, at-task, rest-below, bit-past, bit-period, bit-worst, bit-fixed, bit-spare}
 use Rattle.plan_writing.proofs.task_bit.Statement.{statement}
 use Rattle.plan_writing.proofs.task_bit.Tie as tie
 
@@ -57,19 +57,37 @@ bit-of-requires c κs = search needs
 
 returns-2 : tie.Need-returns-2
 returns-2 c =
-    let task = c .before .before .before in
-    bit-period (place (task .before)) (task .if1 .left) (c .before .if2 .taken) (c .bit-of .ensures)
+    let past = c .before .before .before in
+    bit-period (place (past .before)) (past .if1 .left) (c .before .if2 .taken) (c .bit-of .ensures)
 
 sub-bit-of-2 : tie.Need-sub-bit-of-2
-sub-bit-of-2 c = omega (arith, within (c .before .before .before))
+sub-bit-of-2 c = search needs
 
 bit-of-requires-2 : tie.Need-bit-of-requires-2
 bit-of-requires-2 c κs = search needs
 
 returns-3 : tie.Need-returns-3
 returns-3 c =
-    let task = c .before .before .before in
-    bit-worst (place (task .before)) (task .if1 .left) (c .before .if2 .left) (within (task .before)) (c .bit-of2 .ensures)
+    let else = c .before .before in
+    let past = else .before .before in
+    bit-worst (place (past .before)) (past .if1 .left) (else .if2 .left) (c .before .if3 .taken) (c .bit-of2 .ensures)
+
+sub-bit-of-3 : tie.Need-sub-bit-of-3
+sub-bit-of-3 c = search needs
+
+bit-of-requires-3 : tie.Need-bit-of-requires-3
+bit-of-requires-3 c κs = search needs
+
+returns-4 : tie.Need-returns-4
+returns-4 c =
+    let else = c .before .before in
+    let past = else .before .before .before in
+    bit-fixed (place (past .before)) (past .if1 .left) (within (past .before)) (else .if3 .left) (c .before .if4 .taken) (c .bit-of3 .ensures)
+
+returns-5 : tie.Need-returns-5
+returns-5 c =
+    let past = c .before .before .before .before in
+    bit-spare (place (past .before)) (past .if1 .left) (within (past .before)) (c .if4 .left)
 
 pub task-bit-spec : {M : Type 1} → statement M
 task-bit-spec =
@@ -88,4 +106,8 @@ task-bit-spec =
     returns-2
     sub-bit-of-2
     bit-of-requires-2
-    returns-3)
+    returns-3
+    sub-bit-of-3
+    bit-of-requires-3
+    returns-4
+    returns-5)

@@ -7,7 +7,7 @@ use borrow.Author.Needs.{needs}
 use borrow.Author.Tests.{not-true, not-false}
 use Rattle.plan.specs.declared.Rest.{Rest}
 use Rattle.plan.specs.Times.{whole}
-use Rattle.soundness.proofs.SoundLaws.{Compared, Measured, work-high, remaining-high, remaining-last}
+use Rattle.soundness.proofs.SoundLaws.{Compared, Measured, rest-high, remaining-high, remaining-last}
 use Rattle.soundness.proofs.entry_sound.Statement.{statement}
 use Rattle.soundness.proofs.entry_sound.Tie as tie
 
@@ -24,7 +24,7 @@ compared c = record {
 }
 
 abbrev read : tie.After-is-within → tie.After-whole-of
-read c = c .before .before .before .before .before
+read c = c .before .before .before .before
 
 measured :
     (c : tie.After-is-within) →
@@ -33,13 +33,13 @@ measured :
     (c .before .remaining-at .result) (c .is-within .result)
 measured c = record {
   compared = compared (read c);
-  low = c .before .before .if1 .left;
+  low = sym (c .before .before .before .rest-sound .ensures) ∙ not-false _ (c .before .before .if1 .left);
   remaining-in = c .before .remaining-at .ensures .0;
   found-is = c .is-within .ensures;
 }
 
 returns : tie.Need-returns
-returns c = work-high (compared (c .before .before .before)) (c .if1 .taken)
+returns c = rest-high (compared (c .before .before)) (c .before .rest-sound .ensures) (not-true _ (c .if1 .taken))
 
 returns-2 : tie.Need-returns-2
 returns-2 c = remaining-high (measured (c .before)) (not-true _ (c .if2 .taken))
@@ -56,6 +56,9 @@ task-at-requires c κs = search needs
 whole-of-requires : tie.Need-whole-of-requires
 whole-of-requires c κs = search needs
 
+rest-sound-requires : tie.Need-rest-sound-requires
+rest-sound-requires c κs = search needs
+
 remaining-at-requires : tie.Need-remaining-at-requires
 remaining-at-requires c κs = search needs
 
@@ -66,7 +69,7 @@ whole-small w =
 
 is-within-requires : tie.Need-is-within-requires
 is-within-requires c κs =
-    let w : tie.After-whole-of = c .before .before .before .before in
+    let w : tie.After-whole-of = c .before .before .before in
     let s : tie.Start = start w in
     (s .pre .2, s .pre .3, omega (arith, c .remaining-at .ensures .1), whole-small w)
 
@@ -82,6 +85,7 @@ entry-sound-spec =
     rest-at-requires
     task-at-requires
     whole-of-requires
+    rest-sound-requires
     returns
     remaining-at-requires
     is-within-requires

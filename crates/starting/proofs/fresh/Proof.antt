@@ -43,7 +43,8 @@ task-time-requires : tie.Need-task-time-requires Inv-loop μ-loop
 task-time-requires c κs =
     let turn : tie.In-loop Inv-loop μ-loop = c .before .before in
     let s : tie.Start Inv-loop μ-loop = turn .before .before .before in
-    (s .pre .1 .2, s .pre .1 .3, omega (arith, task-at (turn .before .loop .inv .plan) (turn .before .loop .i) (turn .loop-test .taken) .worst-high))
+    let range = task-at (turn .before .loop .inv .plan) (turn .before .loop .i) (turn .loop-test .taken) in
+    (s .pre .1 .2, s .pre .1 .3, omega (arith, range .fixed-high), omega (arith, range .worst-high))
 
 slice-aggregate-put-entry : tie.Need-slice-aggregate-put-entry Inv-loop μ-loop
 slice-aggregate-put-entry c = search needs

@@ -59,7 +59,7 @@ use Rattle.plan.specs.declared.Plan.{Plan}
 use Rattle.plan.specs.Blocks.{noTask, planOf}
 use Rattle.task_list.specs.Lists.{putTask, gatheredFrom}
 use Rattle.task_list.proofs.Gathering.{gathered-more, gathered-end, place-fits, next-fits, nearer}
-use Rattle.task_list.proofs.TaskSlices.{word, taskTy, planTy, slice, taskVal, IsTask, IsPlan, task-typed, plan-typed}
+use Rattle.task_list.proofs.TaskSlices.{word, taskTy, taskBytes, planTy, slice, taskVal, IsTask, IsPlan, task-typed, plan-typed}
 use Rattle.plan.proofs.Task as K
 use Rattle.plan.proofs.Task.Laws as K′
 use Rattle.plan.proofs.Plan as P
@@ -86,7 +86,7 @@ abbrev puts-it : Code
 puts-it = seq (call #put (copy (place 2 []) ∷ copy (place 7 []) ∷ []) (place 2 [])) raise
 
 abbrev more : Code
-more = seq (assign (place 4 []) (op2 (mul unsigned) (copy (place 3 [])) (int w64 8)))
+more = seq (assign (place 4 []) (op2 (mul unsigned) (copy (place 3 [])) (int w64 taskBytes)))
     (seq (assign (place 6 []) (op2 offset (copy (place 1 (field 0 ∷ []))) (copy (place 4 []))))
     (seq (assign (place 7 []) (rvOpd (copy (place 6 (deref taskTy ∷ []))))) puts-it))
 
@@ -256,8 +256,8 @@ module _ {M : Type 1} (𝓤 : URA M) (H : Heap 𝓤) (A : Atoms 𝓤) (W : Given
 
     -- once element i is read: [the token; Lent; _2; _3; _4; _5; _6; _7; _1; room _0; Own; Dies], with the element's offset in _4 and its place in _6
     abbrev Read : State → List (Item 𝓤)
-    Read s = ‵ (flft κ q) ∷ ‵ Lent ∷ cell planTy l₂ (s .val) ∷ cell word l₃ (vint w64 (s .i)) ∷ cell word l₄ (vint w64 (s .i * 8)) ∷ cell tyBool l₅ (vbool (ltb (s .i) n))
-        ∷ cell tyPtr l₆ (vptr b (index 8 o (s .i))) ∷ cell taskTy l₇ (taskVal (item s)) ∷ cell slice l₁ v ∷ free planTy l₀ ∷ ‵ Own ∷ Dies
+    Read s = ‵ (flft κ q) ∷ ‵ Lent ∷ cell planTy l₂ (s .val) ∷ cell word l₃ (vint w64 (s .i)) ∷ cell word l₄ (vint w64 (s .i * taskBytes)) ∷ cell tyBool l₅ (vbool (ltb (s .i) n))
+        ∷ cell tyPtr l₆ (vptr b (index taskBytes o (s .i))) ∷ cell taskTy l₇ (taskVal (item s)) ∷ cell slice l₁ v ∷ free planTy l₀ ∷ ‵ Own ∷ Dies
 
     -- when the loop is left, the rest of the body runs
     abbrev Left : Out → SProp 𝓤
@@ -311,7 +311,7 @@ module _ {M : Type 1} (𝓤 : URA M) (H : Heap 𝓤) (A : Atoms 𝓤) (W : Given
         (from ! (stop !)) (store ! 2 refl (tt, record { fits = place-fits n (s .i) (g .1) less })) $
         assigns ! (bin ! (load ! (from ! (fld ! refl (stop !))) (look-in ! 6 (sub ! 0 refl (whole !)))) (load ! (from ! (stop !)) (look ! 2 refl)) tt)
         (from ! (stop !)) (init ! 4 refl (tt, tt)) $
-        rewrite ! 4 (λ (k : ℕ). cell tyPtr l₆ (vptr b k)) (sym (place-is 8 o (s .i))) refl $
+        rewrite ! 4 (λ (k : ℕ). cell tyPtr l₆ (vptr b k)) (sym (place-is taskBytes o (s .i))) refl $
         -- [_2; _3; _4; _5; _6; room _7; _1; room _0; the token; Lent; Own; Dies]
         move ! (9 ∷ 8 ∷ []) $
         looks-slice ! tt K.the-row (Is K.the-row) (shows 𝓤 H A K.the-row)

@@ -46,7 +46,8 @@ put-rest-requires c κs = search needs
 task-time-requires : tie.Need-task-time-requires
 task-time-requires c κs =
     let p : tie.After-put-rest = c .before .before .before in
-    (start p .pre .2, start p .pre .3, omega (arith, read p .task-at .ensures .1))
+    let task = read p .task-at .ensures in
+    (start p .pre .2, start p .pre .3, omega (arith, task .2), omega (arith, task .1))
 
 put-remaining-requires : tie.Need-put-remaining-requires
 put-remaining-requires c κs = search needs

@@ -19,7 +19,12 @@ whole-of-requires c κs = search needs
 time-of-requires : tie.Need-time-of-requires
 time-of-requires c κs =
     let s = c .before in
-    (s .pre .0, s .pre .1, subst (λ (r : Rest). r .work < 16777216) (sym (c .whole-of .ensures)) (s .pre .2))
+    let whole = sym (c .whole-of .ensures) in (
+      s .pre .0,
+      s .pre .1,
+      subst (λ (r : Rest). r .fixed < 256) whole (s .pre .2),
+      subst (λ (r : Rest). r .work < 16777216) whole (s .pre .3),
+    )
 
 pub task-time-spec : {M : Type 1} → statement M
 task-time-spec = tie.close (tie.spec whole-of-requires time-of-requires returns)

@@ -6,10 +6,18 @@ use sim::{listing, read_plan, write_levels, Levels, Task};
 use std::collections::BTreeSet;
 use std::fs;
 use std::path::PathBuf;
+use std::process::Command;
 
 /// The refusals that the bench program can come to. Not 9 and 10: the buffer and the state are its
 /// own. Not 15: 32,764 passes of at most 32,767 ticks come to 1,073,577,988.
-const REFUSALS: [u32; 17] = [1, 2, 3, 4, 5, 6, 7, 8, 11, 12, 13, 14, 16, 17, 18, 19, 20];
+const REFUSALS: [u32; 18] = [
+    1, 2, 3, 4, 5, 6, 7, 8, 11, 12, 13, 14, 16, 17, 18, 19, 20, 21,
+];
+
+/// The digests of the examples that were stored before there were fixed ticks, as `sha256sum *.in
+/// *.out` wrote them then. `refused-02` is not among them: its plan was of edition 2, which is
+/// accepted since, and is of edition 3 now.
+const BEFORE_FIXED_TICKS: &str = "before-fixed-ticks.sha256";
 
 /// The inputs with the listings stored beside them.
 fn stored() -> Vec<(PathBuf, String)> {
@@ -34,7 +42,68 @@ fn every_example_lists_as_stored() {
         assert_eq!(&text(&from_file(input)), listed, "{}", input.display());
     }
     println!("{} examples", stored.len());
-    assert!(stored.len() >= 29);
+    assert!(stored.len() >= 32);
+}
+
+/// The names in the file of digests: a digest of 64 digits, two spaces and a name on each line.
+fn names_before() -> Vec<String> {
+    let digests = fs::read_to_string(examples().join(BEFORE_FIXED_TICKS)).expect("it is stored");
+    let name = |line: &str| line[66..].to_string();
+    digests.lines().map(name).collect()
+}
+
+/// Would catch an example of edition 1 that is not what it was before there were fixed ticks, to the
+/// byte: the files are held to their digests, and the program to the files.
+#[test]
+fn edition_1_plans_list_as_before() {
+    let output = Command::new("sha256sum")
+        .args(["--check", "--strict", BEFORE_FIXED_TICKS])
+        .current_dir(examples())
+        .output()
+        .expect("sha256sum is missing: it is of coreutils, and this test wants it");
+    let said = text(&output.stdout) + &text(&output.stderr);
+    assert!(output.status.success(), "{said}");
+    let names = names_before();
+    let inputs: Vec<&String> = names.iter().filter(|name| name.ends_with(".in")).collect();
+    let mut plans = 0;
+    for name in &inputs {
+        let input = examples().join(name);
+        let output = input.with_extension("out");
+        let listed = text(&fs::read(&output).expect("its listing is stored"));
+        assert_eq!(text(&from_file(&input)), listed, "{name}");
+        plans += u32::from(listed.starts_with("plan "));
+        // The listing is held to its digest too.
+        let with_digest = output.file_name().and_then(|name| name.to_str());
+        assert!(names.iter().any(|name| Some(&name[..]) == with_digest));
+    }
+    // 17 of them list a run; the others are refused before there is one.
+    assert_eq!((names.len(), inputs.len(), plans), (56, 28, 17));
+    assert!(!names.iter().any(|name| name.starts_with("refused-02")));
+}
+
+/// Would catch the example of an edition that is refused turning into one that isn't.
+#[test]
+fn the_edition_refused_is_3() {
+    let input = fs::read(examples().join("refused-02.in")).expect("it is stored");
+    assert_eq!(input[11] >> 4, 3);
+}
+
+/// Would catch the examples of fixed ticks being lost: a run that has a pass inside them, and a plan
+/// that has none in edition 2.
+#[test]
+fn fixed_ticks_are_stored() {
+    let stored = |name: &str| fs::read(examples().join(name)).expect("it is stored");
+    let levels = write_levels(&Levels::base());
+    let run = stored("fixed-ticks.in");
+    let (tasks, _) = read_plan(&levels, &run[11..24]).unwrap();
+    let fixed: Vec<u64> = tasks.iter().map(|task| task.fixed).collect();
+    assert_eq!(fixed, [2, 6]);
+    // At 5 the second task starts, and at 10 it is preempted with one of its 6 fixed ticks left.
+    let listed = text(&stored("fixed-ticks.out"));
+    assert!(listed.starts_with("plan 2 3 40\n0 run 0 3 5\n5 run 1 3 5\n10 run 0 3 5\n"));
+    let needless = stored("refused-21.in");
+    assert_eq!(needless[11] >> 4, 2);
+    assert_eq!(read_plan(&levels, &needless[11..]).err(), Some(21));
 }
 
 /// Would catch a stored listing that the document doesn't give.
@@ -56,7 +125,11 @@ fn the_example_of_01_is_stored() {
     let levels = write_levels(&Levels::base());
     assert_eq!(input[..11], levels);
     let bench = [(10, 400), (10, 400), (30, 600)];
-    let tasks = bench.map(|(period, worst)| Task { period, worst });
+    let tasks = bench.map(|(period, worst)| Task {
+        period,
+        worst,
+        fixed: 0,
+    });
     assert_eq!(read_plan(&levels, &input[11..26]).unwrap().0, tasks);
     assert_eq!(input[26..], passes);
     let listed = fs::read(examples().join("bench.out")).expect("it is stored");

@@ -1,7 +1,9 @@
 //! Inputs of every kind.
 
-use crate::program::Both;
-use sim::block::{block_bytes, Edition};
+use crate::program::{examples, Both};
+use sim::block::{block_bytes, pack_block, Edition};
+use sim::dispatch::{pass, start};
+use sim::layout::STATE_BYTES;
 use sim::levels::Levels;
 use sim::plan::Task;
 use sim::random::blocks::{bench_input, block_of, damaged_block};
@@ -13,7 +15,9 @@ use sim::random::tables::{
     bad_level_block, damaged_level_block, levels_of_count, some_or_base_levels,
 };
 use sim::random::Random;
+use sim::state::unpack;
 use sim::write_levels;
+use std::fs;
 
 /// 01's example: its eight speeds, the bench plan and six passes.
 const EXAMPLE: [u8; 38] = [
@@ -46,7 +50,15 @@ fn some_plan(random: &mut Random, levels: &Levels, level: usize, round: usize) -
 }
 
 fn one_task(period: u64, worst: u64) -> Vec<Task> {
-    vec![Task { period, worst }]
+    one_task_with(period, worst, 0)
+}
+
+fn one_task_with(period: u64, worst: u64, fixed: u64) -> Vec<Task> {
+    vec![Task {
+        period,
+        worst,
+        fixed,
+    }]
 }
 
 /// An input with so many bytes and a run as long as fits.
@@ -57,11 +69,19 @@ fn input_of_length(random: &mut Random, levels: &Levels, tasks: &[Task], length:
 }
 
 /// A run of a plan that a level of the table admits, with up to 120 passes.
-fn one_run(both: &mut Both, random: &mut Random, levels: &Levels, level: usize, round: usize) {
+/// Says whether the plan has fixed ticks.
+fn one_run(
+    both: &mut Both,
+    random: &mut Random,
+    levels: &Levels,
+    level: usize,
+    round: usize,
+) -> bool {
     let plan = some_plan(random, levels, level, round);
     let passes = random.between(0, 120) as usize;
     let listed = both.list(&bench_input(random, levels, &plan, passes));
     assert!(listed.lines().count() >= 2 + passes);
+    Edition::of_tasks(&plan) == Edition::SECOND
 }
 
 /// Lines of every kind came up, and often.
@@ -83,12 +103,15 @@ fn runs_at_every_level() {
     let levels = Levels::base();
     let mut both = Both::new();
     let mut random = Random::new(2_101);
+    let mut with_fixed = 0;
     for round in 0..800 {
         let level = round % levels.count();
-        one_run(&mut both, &mut random, &levels, level, round);
+        let fixed = one_run(&mut both, &mut random, &levels, level, round);
+        with_fixed += u32::from(fixed);
     }
     both.saw("runs at every level", 800);
     saw_every_line(&both);
+    assert!((200..600).contains(&with_fixed), "{with_fixed}");
 }
 
 /// The same with the speeds of other boards: would catch a program that has 01's for all, or cuts the
@@ -97,13 +120,117 @@ fn runs_at_every_level() {
 fn runs_with_any_table() {
     let mut both = Both::new();
     let mut random = Random::new(2_107);
+    let mut with_fixed = 0;
     for round in 0..800 {
         let levels = levels_of_count(&mut random, 1 + round % 8);
         let level = random.place(levels.count());
-        one_run(&mut both, &mut random, &levels, level, round);
+        let fixed = one_run(&mut both, &mut random, &levels, level, round);
+        with_fixed += u32::from(fixed);
     }
     both.saw("runs with any table", 800);
     saw_every_line(&both);
+    assert!((200..600).contains(&with_fixed), "{with_fixed}");
+}
+
+/// Would catch a plan block that is cut by its count alone: with edition 2 the passes follow later,
+/// with any other edition than 2 as early as with 1.
+#[test]
+fn plans_are_cut_by_their_edition() {
+    let mut both = Both::new();
+    let mut random = Random::new(2_109);
+    let levels = Levels::base();
+    let mut accepted = [0, 0];
+    for round in 0..320 {
+        let edition = Edition(round % 16);
+        let count = 1 + round / 16 % 16;
+        let fixed = if round % 3 == 0 { 0 } else { 255 / (count + 1) };
+        let task = Task {
+            period: 4_000,
+            worst: 37,
+            fixed,
+        };
+        let mut input = write_levels(&levels);
+        input.extend(pack_block(edition, count, &vec![task; count as usize]));
+        let blocks = input.len();
+        // Passes of any kind, and good ones, and an odd byte now and then.
+        for _ in 0..random.below(8) {
+            let any = random.number() as u16;
+            input.extend(random.pick(&[0x8001, 0x0001, any]).to_be_bytes());
+        }
+        if random.one_in(3) {
+            input.push(random.number() as u8);
+        }
+        let passes = input.len() - blocks;
+        let listed = both.list(&input);
+        let (count, fixed) = (listed.lines().count(), fixed > 0);
+        match (edition, fixed) {
+            (Edition::SECOND, false) => assert_eq!(listed, "refused 21\n"),
+            (Edition::FIRST, _) | (Edition::SECOND, true) => {
+                accepted[usize::from(edition == Edition::SECOND)] += 1;
+                assert_eq!(count, 2 + (passes + 1) / 2);
+            }
+            _ => assert_eq!(listed, "refused 2\n"),
+        }
+        // A byte short, the reader has all there are.
+        let listed = both.list(&input[..blocks - 1]);
+        let known = Edition::ACCEPTED.contains(&edition);
+        assert_eq!(listed, if known { "refused 4\n" } else { "refused 2\n" });
+    }
+    both.saw("plans cut by their edition", 640);
+    assert!(accepted.iter().all(|times| *times > 10), "{accepted:?}");
+    both.wants("refused 2", 250);
+    both.wants("refused 4", 30);
+    both.wants("refused 21", 5);
+    both.wants("refused 16", 5);
+}
+
+/// How many passes of an input end while the running job has fixed ticks left, as the simulator has
+/// it.
+fn passes_inside(levels: &Levels, plan: &[Task], input: &[u8]) -> u32 {
+    let block = block_of(plan);
+    let mut state = [0; STATE_BYTES];
+    if start(levels, &block, &mut state).is_err() {
+        return 0;
+    }
+    let mut inside = 0;
+    for pair in input[write_levels(levels).len() + block.len()..].chunks_exact(2) {
+        let number = u16::from_be_bytes([pair[0], pair[1]]);
+        let (d, finished) = (u32::from(number & 0x7fff), number >> 15 == 1);
+        let before = unpack(&state).expect("it is a state");
+        let fixed = before
+            .running
+            .map_or(0, |order| before.entries[order.task].left.fixed);
+        let passed = pass(&mut state, d, finished).is_ok();
+        inside += u32::from(passed && u64::from(d) < fixed);
+    }
+    inside
+}
+
+/// Would catch a listing with fixed ticks that scale, come after the work or are lost.
+#[test]
+fn runs_inside_the_fixed_ticks() {
+    let mut both = Both::new();
+    let mut random = Random::new(2_110);
+    let mut inside = 0;
+    for round in 0..200 {
+        let levels = some_or_base_levels(&mut random);
+        let (count, period) = (random.between(1, 3), 360);
+        let task = |place| Task {
+            period: period / (1 + place * (round % 3)),
+            worst: random.between(1, 20),
+            fixed: random.between(20, 35),
+        };
+        let plan: Vec<Task> = (0..count).map(task).collect();
+        let input = bench_input(&mut random, &levels, &plan, 60);
+        let listed = both.list(&input);
+        assert!(listed.starts_with("plan ") || listed == "refused 8\n");
+        inside += passes_inside(&levels, &plan, &input);
+    }
+    both.saw("runs inside the fixed ticks", 200);
+    both.wants("plan", 150);
+    both.wants("run", 3_000);
+    both.wants("refused 14", 50);
+    assert!(inside > 1_000, "{inside}");
 }
 
 /// Would catch an input read past its end or short of it, a level block that is given the plan too, a
@@ -116,10 +243,28 @@ fn every_cut() {
     for length in 0..=EXAMPLE.len() {
         both.list(&EXAMPLE[..length]);
     }
-    let mut longest = plan_at_level(&mut random, &levels, 3);
-    while longest.len() < 16 {
-        longest = plan_at_level(&mut random, &levels, 3);
+    for edition in Edition::ACCEPTED {
+        let mut longest = plan_at_level(&mut random, &levels, 3);
+        // With fixed ticks in the first task, if any, so that each part of it has some.
+        while longest.len() < 16
+            || Edition::of_tasks(&longest[..1]) != Edition::of_tasks(&longest)
+            || Edition::of_tasks(&longest) != edition
+        {
+            longest = plan_at_level(&mut random, &levels, 3);
+        }
+        cuts_of(&mut both, &mut random, &longest);
     }
+    both.saw("cuts", 480);
+    both.wants("refused 18", 9);
+    both.wants("refused 19", 40);
+    both.wants("refused 1", 18);
+    both.wants("refused 4", 250);
+    both.wants("refused 16", 40);
+    both.wants("plan", 80);
+}
+
+/// Every cut of inputs with the first of these tasks.
+fn cuts_of(both: &mut Both, random: &mut Random, longest: &[Task]) {
     for (count, fastest) in [(1, 100), (2, 1_000), (9, 500), (16, 999)] {
         // With 1, 2, 3 and 8 speeds, the fastest of which can do it.
         let below = match count {
@@ -129,31 +274,27 @@ fn every_cut() {
             _ => &[5, 7, 9, 20, 44, 90, 313],
         };
         let board = Levels::new(&[below, &[fastest]].concat());
-        let input = bench_input(&mut random, &board, &longest[..count], 6);
+        let input = bench_input(random, &board, &longest[..count], 6);
         for length in 0..=input.len() {
             both.list(&input[..length]);
         }
     }
-    both.saw("cuts", 230);
-    both.wants("refused 18", 5);
-    both.wants("refused 19", 20);
-    both.wants("refused 1", 10);
-    both.wants("refused 4", 100);
-    both.wants("refused 16", 20);
-    both.wants("plan", 50);
 }
 
-/// Would catch a bit of the input that is not looked at or is taken for another.
+/// Would catch a bit of the input that is not looked at or is taken for another, in 01's example
+/// and in one with fixed ticks.
 #[test]
 fn every_flipped_bit() {
     let mut both = Both::new();
-    let mut input = EXAMPLE;
-    for place in 0..8 * input.len() {
-        input[place / 8] ^= 0x80 >> (place % 8);
-        both.list(&input);
-        input[place / 8] ^= 0x80 >> (place % 8);
+    let fixed = fs::read(examples().join("fixed-ticks.in")).expect("it is stored");
+    for mut input in [EXAMPLE.to_vec(), fixed] {
+        for place in 0..8 * input.len() {
+            input[place / 8] ^= 0x80 >> (place % 8);
+            both.list(&input);
+            input[place / 8] ^= 0x80 >> (place % 8);
+        }
     }
-    both.saw("flipped bits", 304);
+    both.saw("flipped bits", 700);
     for said in ["plan", "run", "idle"] {
         both.wants(said, 100);
     }
@@ -169,7 +310,7 @@ fn every_flipped_bit() {
 fn damaged_plans() {
     let mut both = Both::new();
     let mut random = Random::new(2_103);
-    for round in 0..900 {
+    for round in 0..1_200 {
         let levels = some_or_base_levels(&mut random);
         let level = random.place(levels.count());
         let plan = match round % 5 {
@@ -190,10 +331,11 @@ fn damaged_plans() {
         }
         both.list(&input);
     }
-    both.saw("damaged plans", 900);
+    both.saw("damaged plans", 1_200);
     for number in 2..=8 {
         both.wants(&format!("refused {number}"), 25);
     }
+    both.wants("refused 21", 10);
     both.wants("plan", 200);
 }
 
@@ -271,9 +413,11 @@ fn the_largest_inputs() {
     let mut random = Random::new(2_105);
     // The blocks of the bench plan leave an odd byte at one length, those of a single task at the
     // other.
-    for plan in [bench_plan(), one_task(40, 300), one_task(12, 600)] {
+    let fixed = one_task_with(40, 300, 5);
+    for plan in [bench_plan(), one_task(40, 300), one_task(12, 600), fixed] {
         for length in [LARGEST_INPUT - 1, LARGEST_INPUT] {
-            let blocks = LEVELS_END + block_bytes(Edition::FIRST, plan.len() as u64);
+            let edition = Edition::of_tasks(&plan);
+            let blocks = LEVELS_END + block_bytes(edition, plan.len() as u64);
             let odd = (length - blocks) % 2 == 1;
             let listed = both.list(&input_of_length(&mut random, &levels, &plan, length));
             assert_eq!(listed.ends_with("refused 16\n"), odd);
@@ -290,8 +434,8 @@ fn the_largest_inputs() {
         assert_ne!(both.list(&vec![byte; LARGEST_INPUT]), "refused 17\n");
     }
     both.list(&vec![0x10; 1 << 20]);
-    both.saw("the largest inputs", 20);
-    both.wants("refused 17", 13);
+    both.saw("the largest inputs", 25);
+    both.wants("refused 17", 16);
     both.wants("run", 60_000);
 }
 

@@ -1,35 +1,49 @@
-//! Blocks, whole and damaged, read and copied on both sides.
+//! Blocks, whole and damaged, read and copied on both sides. Each test has blocks of both editions.
 
-use crate::both::{Both, Call, ACCEPTED};
-use crate::made::{plan_of_count, put_block, tasks};
-use sim::block::{block_bytes, pack_block, Edition, COUNT_BITS, EDITION_BITS, HEAD_BITS};
+use crate::both::{Both, Call, Kind, ACCEPTED};
+use crate::made::{fixed_tasks, plan_of_edition, put_block, tasks};
+use sim::block::{
+    block_bytes, pack_block, Edition, COUNT_BITS, EDITION_BITS, FIXED_BITS, HEAD_BITS, SPARE_BITS,
+};
 use sim::levels::Levels;
-use sim::random::blocks::{block_of, damaged_block};
+use sim::random::blocks::{block_of, block_of_no_additions, damaged_block};
 use sim::random::plans::plan_at_level;
 use sim::random::Random;
 
-/// The edition that the blocks are of.
-const EDITION: Edition = Edition::FIRST;
-
 /// How many bits the head and so many tasks have.
-fn used_bits(count: usize) -> usize {
-    HEAD_BITS + EDITION.task_bits() * count
+fn used_bits(edition: Edition, count: usize) -> usize {
+    HEAD_BITS + edition.task_bits() * count
 }
 
 /// The bits between the last task and the end of a block of so many tasks.
-fn closing_bits(count: usize) -> usize {
-    8 * block_bytes(EDITION, count as u64) - used_bits(count)
+fn closing_bits(edition: Edition, count: usize) -> usize {
+    8 * block_bytes(edition, count as u64) - used_bits(edition, count)
 }
 
-/// Would catch a length that is not asked about exactly, and a block read past its end.
+/// Whether the bit at this place is a spare one of a task.
+fn is_spare(edition: Edition, count: usize, place: usize) -> bool {
+    let each = edition.task_bits();
+    edition == Edition::SECOND
+        && (HEAD_BITS..used_bits(edition, count)).contains(&place)
+        && (place - HEAD_BITS) % each >= each - SPARE_BITS
+}
+
+/// The block with one bit turned over.
+fn flip(block: &mut [u8], place: usize) {
+    block[place / 8] ^= 0x80 >> (place % 8);
+}
+
+/// Would catch a length that is not asked about exactly or is the other edition's, and a block read
+/// past its end.
 #[test]
 fn every_cut_and_every_tail() {
     let levels = Levels::base();
     let mut both = Both::new(&levels);
     let mut random = Random::new(201);
     for count in 1..=16 {
-        for _ in 0..8 {
-            let block = block_of(&plan_of_count(&mut random, &levels, count));
+        for round in 0..16 {
+            let edition = Edition::ACCEPTED[round % 2];
+            let block = block_of(&plan_of_edition(&mut random, &levels, count, edition));
             for length in 0..block.len() {
                 let wanted = if length < 2 { 1 } else { 4 };
                 let cut = put_block(&mut both, &mut random, &block[..length]);
@@ -43,10 +57,10 @@ fn every_cut_and_every_tail() {
             }
         }
     }
-    both.saw("cuts and tails", 12_000);
-    both.wants(Call::Read, ACCEPTED, 128);
-    both.wants(Call::Read, 4, 5_000);
-    both.wants(Call::Copy, 4, 5_000);
+    both.saw("cuts and tails", 24_000);
+    both.wants(Call::Read, 4, 10_000);
+    both.wants(Call::Copy, 4, 10_000);
+    both.wants_editions(&[Call::Read], 128);
 }
 
 /// Would catch any bit that is not looked at, or is taken for another.
@@ -55,30 +69,38 @@ fn every_single_flipped_bit() {
     let levels = Levels::base();
     let mut both = Both::new(&levels);
     let mut random = Random::new(202);
+    let mut spare = 0;
     for count in 1..=16 {
-        for _ in 0..8 {
-            let mut block = block_of(&plan_of_count(&mut random, &levels, count));
+        for round in 0..12 {
+            let edition = Edition::ACCEPTED[round % 2];
+            let mut block = block_of(&plan_of_edition(&mut random, &levels, count, edition));
             for place in 0..8 * block.len() {
-                block[place / 8] ^= 0x80 >> (place % 8);
+                flip(&mut block, place);
                 let flipped = put_block(&mut both, &mut random, &block);
                 if place < EDITION_BITS {
                     assert_eq!(flipped, Err(2));
                 } else if place < HEAD_BITS {
                     assert!(matches!(flipped, Err(3 | 4)));
-                } else if place >= used_bits(count) {
+                } else if place >= used_bits(edition, count) {
                     assert_eq!(flipped, Err(5));
+                } else if is_spare(edition, count, place) {
+                    assert_eq!(flipped, Err(5));
+                    spare += 1;
                 }
-                block[place / 8] ^= 0x80 >> (place % 8);
+                flip(&mut block, place);
             }
         }
     }
-    both.saw("flipped bits", 81_000);
+    both.saw("flipped bits", 140_000);
     for number in [ACCEPTED, 2, 3, 4, 5, 6, 7, 8] {
         both.wants(Call::Read, number, 30);
         both.wants(Call::Copy, number, 30);
     }
-    both.wants(Call::Read, ACCEPTED, 5_000);
-    both.wants(Call::Read, 7, 5_000);
+    both.wants(Call::Read, ACCEPTED, 8_000);
+    both.wants(Call::Read, 7, 8_000);
+    both.wants_editions(&[Call::Read, Call::Copy], 1_000);
+    // 3 of each task in the blocks of edition 2.
+    assert_eq!(spare, 6 * 3 * (1 + 16) * 8);
 }
 
 /// Would catch a closing bit that is not asked about, and one asked about after the fields.
@@ -87,27 +109,114 @@ fn every_pattern_of_closing_bits() {
     let levels = Levels::base();
     let mut both = Both::new(&levels);
     let mut random = Random::new(203);
-    let mut singles = 0;
-    for count in 1..=16 {
-        let good = block_of(&plan_of_count(&mut random, &levels, count));
-        let bad = block_of(&tasks(&vec![(0, 0); count]));
-        for pattern in 0u8..1 << closing_bits(count) {
-            singles += u32::from(pattern.is_power_of_two());
-            for (block, otherwise) in [(&good, ACCEPTED), (&bad, 6)] {
-                let mut closed = block.clone();
-                *closed.last_mut().unwrap() |= pattern;
-                let read = put_block(&mut both, &mut random, &closed);
-                let number = read.err().unwrap_or(ACCEPTED);
-                assert_eq!(number, if pattern == 0 { otherwise } else { 5 });
+    let mut singles = [0, 0];
+    for (edition, singles) in Edition::ACCEPTED.into_iter().zip(&mut singles) {
+        for count in 1..=16 {
+            let good = block_of(&plan_of_edition(&mut random, &levels, count, edition));
+            let bad = pack_block(edition, count as u64, &tasks(&vec![(0, 0); count]));
+            for pattern in 0u8..1 << closing_bits(edition, count) {
+                *singles += u32::from(pattern.is_power_of_two());
+                for (block, otherwise) in [(&good, ACCEPTED), (&bad, 6)] {
+                    let mut closed = block.clone();
+                    *closed.last_mut().unwrap() |= pattern;
+                    let read = put_block(&mut both, &mut random, &closed);
+                    let number = read.err().unwrap_or(ACCEPTED);
+                    assert_eq!(number, if pattern == 0 { otherwise } else { 5 });
+                }
             }
         }
     }
-    // 3 of them for each odd count, 7 for each even one.
-    assert_eq!(singles, 8 * 3 + 8 * 7);
-    both.saw("closing bits", 4_300);
-    both.wants(Call::Read, ACCEPTED, 16);
+    // In edition 1, 3 of them for each odd count and 7 for each even one; in edition 2, 0 to 7 twice.
+    assert_eq!(singles, [8 * 3 + 8 * 7, 2 * 28]);
+    both.saw("closing bits", 6_300);
+    both.wants_editions(&[Call::Read], 16);
+    both.wants(Call::Read, 6, 32);
+    both.wants(Call::Read, 5, 2_500);
+}
+
+/// Would catch a spare bit that is not asked about at some place, or is asked about after the
+/// fields or after 21.
+#[test]
+fn every_pattern_of_spare_bits() {
+    let levels = Levels::base();
+    let mut both = Both::new(&levels);
+    let mut random = Random::new(206);
+    for count in 1..=16 {
+        let plan = plan_of_edition(&mut random, &levels, count, Edition::SECOND);
+        let zeros = pack_block(Edition::SECOND, count as u64, &tasks(&vec![(0, 0); count]));
+        let blocks = [
+            (block_of(&plan), ACCEPTED),
+            (block_of_no_additions(&plan), 21),
+            (zeros, 6),
+        ];
+        for task in 0..count {
+            let from = used_bits(Edition::SECOND, task + 1) - SPARE_BITS;
+            for pattern in 0..1 << SPARE_BITS {
+                for (block, otherwise) in &blocks {
+                    let mut spare = block.clone();
+                    for bit in (0..SPARE_BITS).filter(|bit| pattern >> bit & 1 == 1) {
+                        flip(&mut spare, from + bit);
+                    }
+                    let read = put_block(&mut both, &mut random, &spare);
+                    let number = read.err().unwrap_or(ACCEPTED);
+                    assert_eq!(number, if pattern == 0 { *otherwise } else { 5 });
+                }
+            }
+        }
+    }
+    both.saw("spare bits", 6_500);
+    both.wants(Call::Read, 5, 2_800);
+    both.wants(Call::Copy, 5, 2_800);
+    both.wants(Call::Read, 6, 136);
+    both.wants(Call::Read, 21, 136);
+    both.wants_kind(Call::Read, Kind::Fixed, 136);
+}
+
+/// Would catch 21 left out, asked before 6 or after 7 or 8, asked about some of the tasks only, or
+/// said of a block that has a fixed tick.
+#[test]
+fn blocks_of_edition_2_without_additions() {
+    let levels = Levels::base();
+    let mut both = Both::new(&levels);
+    let mut random = Random::new(207);
+    for count in 1..=16 {
+        let plan = plan_of_edition(&mut random, &levels, count, Edition::FIRST);
+        let block = block_of_no_additions(&plan);
+        assert_eq!(put_block(&mut both, &mut random, &block), Err(21));
+        // 6 comes first, 7 and 8 later.
+        let mut bad = plan.clone();
+        bad[random.place(count)].worst = 0;
+        let bad = block_of_no_additions(&bad);
+        assert_eq!(put_block(&mut both, &mut random, &bad), Err(6));
+        for (period, worst) in [(65_521, 1), (1, 1_048_575)] {
+            let over = tasks(&[vec![(64, 1); count - 1], vec![(period, worst)]].concat());
+            let block = block_of_no_additions(&over);
+            assert_eq!(put_block(&mut both, &mut random, &block), Err(21));
+            let first = put_block(&mut both, &mut random, &block_of(&over));
+            assert_eq!(first.is_err(), count > 1 || worst > 1);
+        }
+        // Any single bit of any task's fixed ticks will do.
+        let roomy = block_of_no_additions(&tasks(&vec![(60_000, 37); count]));
+        for task in 0..count {
+            let end = used_bits(Edition::SECOND, task + 1) - SPARE_BITS;
+            for place in end - FIXED_BITS..end {
+                let mut block = roomy.clone();
+                flip(&mut block, place);
+                assert!(put_block(&mut both, &mut random, &block).is_ok());
+            }
+        }
+        // The same tasks in edition 1, and edition 2's bytes with the number of edition 1.
+        assert!(put_block(&mut both, &mut random, &block_of(&plan)).is_ok());
+        let mut other = block;
+        other[0] ^= 0x30;
+        assert_eq!(put_block(&mut both, &mut random, &other), Err(4));
+    }
+    both.saw("edition 2 without additions", 2_400);
+    both.wants(Call::Read, 21, 48);
+    both.wants(Call::Copy, 21, 48);
     both.wants(Call::Read, 6, 16);
-    both.wants(Call::Read, 5, 2_000);
+    both.wants_kind(Call::Read, Kind::Fixed, 1_000);
+    both.wants_kind(Call::Read, Kind::NoFixed, 16);
 }
 
 /// Would catch an edition or a count let through, a count with another's length, and a question
@@ -117,27 +226,36 @@ fn every_edition_count_and_length() {
     let levels = Levels::base();
     let mut both = Both::new(&levels);
     let mut random = Random::new(204);
-    let sixteen = tasks(&[(1_000, 37); 16]);
+    let without = tasks(&[(1_000, 37); 16]);
+    let with = fixed_tasks(&[(1_000, 37, 5); 16]);
     for edition in (0..1 << EDITION_BITS).map(Edition) {
         for count in 0..1 << COUNT_BITS {
-            let mut whole = pack_block(edition, count, &sixteen);
-            whole.extend([0, 0]);
-            for length in 0..=whole.len() {
-                let _ = put_block(&mut both, &mut random, &whole[..length]);
+            for sixteen in [&without, &with] {
+                let mut whole = pack_block(edition, count, sixteen);
+                whole.extend([0, 0]);
+                for length in 0..=whole.len() {
+                    let _ = put_block(&mut both, &mut random, &whole[..length]);
+                }
+                let own = count.clamp(1, 16);
+                let block = pack_block(edition, count, &sixteen[..own as usize]);
+                let read = put_block(&mut both, &mut random, &block);
+                let wanted = match (edition, own == count) {
+                    (Edition::FIRST | Edition::SECOND, false) => Some(3),
+                    (Edition::SECOND, true) if sixteen == &without => Some(21),
+                    (Edition::FIRST | Edition::SECOND, true) => None,
+                    _ => Some(2),
+                };
+                assert_eq!(read.err(), wanted);
             }
-            let own = count.clamp(1, 16);
-            let block = pack_block(edition, count, &sixteen[..own as usize]);
-            let right = edition == EDITION && own == count;
-            let read = put_block(&mut both, &mut random, &block);
-            assert_eq!(read.is_ok(), right);
         }
     }
-    both.saw("editions, counts and lengths", 79_000);
-    both.wants(Call::Read, ACCEPTED, 16);
-    both.wants(Call::Read, 1, 1_000);
-    both.wants(Call::Read, 2, 30_000);
-    both.wants(Call::Read, 3, 1_000);
-    both.wants(Call::Read, 4, 1_000);
+    both.saw("editions, counts and lengths", 160_000);
+    both.wants_editions(&[Call::Read], 16);
+    both.wants(Call::Read, 1, 2_000);
+    both.wants(Call::Read, 2, 60_000);
+    both.wants(Call::Read, 3, 2_000);
+    both.wants(Call::Read, 4, 2_000);
+    both.wants(Call::Read, 21, 16);
     // Every even count below 16, cut where the next period starts with a set bit.
     both.wants(Call::Read, 5, 7);
 }
@@ -148,26 +266,33 @@ fn every_edition_count_and_length() {
 fn every_pair_of_first_bytes() {
     let levels = Levels::base();
     let mut both = Both::new(&levels);
-    let rest = block_of(&tasks(&[(60_000, 37); 16]));
+    let first_edition = block_of(&tasks(&[(60_000, 37); 16]));
+    let second_edition = block_of(&fixed_tasks(&[(60_000, 37, 5); 16]));
     for first in 0..=u16::MAX {
+        let edition = Edition(u64::from(first >> 12));
         let count = first >> 7 & 0x1f;
+        let rest = if edition == Edition::SECOND {
+            &second_edition
+        } else {
+            &first_edition
+        };
         let length = match count {
-            1..=16 => block_bytes(EDITION, u64::from(count)),
+            1..=16 => block_bytes(edition, u64::from(count)),
             _ => rest.len(),
         };
         let mut block = rest[..length].to_vec();
         block[..2].copy_from_slice(&first.to_be_bytes());
         // Nothing of the sixteen tasks may stand where the closing bits are.
         if let 1..=16 = count {
-            block[length - 1] &= 0xff << closing_bits(usize::from(count));
+            block[length - 1] &= 0xff << closing_bits(edition, usize::from(count));
         }
         let _ = both.read(&block);
     }
     both.saw("first bytes", 65_000);
-    both.wants(Call::Read, ACCEPTED, 100);
-    both.wants(Call::Read, 2, 15 * 4_096);
-    both.wants(Call::Read, 3, 16 * 128);
-    both.wants(Call::Read, 7, 500);
+    both.wants_editions(&[Call::Read], 100);
+    both.wants(Call::Read, 2, 14 * 4_096);
+    both.wants(Call::Read, 3, 2 * 16 * 128);
+    both.wants(Call::Read, 7, 1_000);
 }
 
 /// Would catch damage of several kinds at once that slips through, or is refused with the wrong
@@ -189,10 +314,10 @@ fn damaged_blocks() {
         }
     }
     both.saw("damaged blocks", 120_000);
-    for number in [ACCEPTED, 1, 2, 3, 4, 5, 6, 7, 8] {
+    for number in [ACCEPTED, 1, 2, 3, 4, 5, 6, 7, 8, 21] {
         both.wants(Call::Read, number, 100);
         both.wants(Call::Copy, number, 100);
     }
     both.wants(Call::Copy, 9, 100);
-    both.wants(Call::Read, ACCEPTED, 2_000);
+    both.wants_editions(&[Call::Read, Call::Copy], 1_000);
 }

@@ -3,6 +3,7 @@
 
 use crate::lent::{Lent, MARGIN, MARKS};
 use differ::proved::{self, Judged};
+use sim::block::Edition;
 use sim::levels::Levels;
 use sim::plan::{self, Task};
 use sim::random::tables::some_or_base_levels;
@@ -27,6 +28,17 @@ pub enum Call {
     Show,
 }
 
+/// What an accepted call was about. Its answer doesn't tell.
+#[derive(Clone, Copy, PartialEq, Eq, PartialOrd, Ord, Debug)]
+pub enum Kind {
+    /// A plan without fixed ticks, and one with some: one of edition 1, and one of edition 2.
+    NoFixed,
+    Fixed,
+    /// A pass at whose end the running job had fixed ticks left, and ended there or didn't.
+    EndedInFixed,
+    WentOnInFixed,
+}
+
 /// The calls that take a level block.
 pub const WITH_LEVELS: [Call; 6] = [
     Call::Levels,
@@ -42,6 +54,7 @@ pub struct Both {
     /// The level block that both sides are handed.
     pub level_block: Vec<u8>,
     seen: BTreeMap<(Call, u32), u64>,
+    kinds: BTreeMap<(Call, Kind), u64>,
 }
 
 impl Both {
@@ -49,6 +62,7 @@ impl Both {
         Both {
             level_block: sim::write_levels(levels),
             seen: BTreeMap::new(),
+            kinds: BTreeMap::new(),
         }
     }
 
@@ -96,6 +110,9 @@ impl Both {
         lent_levels.wants(block, what);
         lent_numbers.wants(numbers, what);
         self.count(Call::Judge, &answer);
+        if answer.is_ok() {
+            self.note_plan(Call::Judge, &tasks_in(numbers)[..count]);
+        }
         answer
     }
 
@@ -113,6 +130,9 @@ impl Both {
         lent_levels.wants(levels, what);
         lent_block.wants(block, what);
         self.count(Call::Read, &answer);
+        if answer.is_ok() {
+            self.note_block(Call::Read, block);
+        }
         answer
     }
 
@@ -134,6 +154,9 @@ impl Both {
         let simulator = |buffer: &mut [u8]| sim::write_plan(block, count as u64, &tasks, buffer);
         let answer = same_bytes(room, library, simulator, &what);
         self.count(Call::Write, &answer);
+        if let Ok(bytes) = &answer {
+            self.note_block(Call::Write, bytes);
+        }
         answer
     }
 
@@ -156,6 +179,7 @@ impl Both {
         let answer = same_bytes(room, library, simulator, &what);
         if let Ok(bytes) = &answer {
             assert_eq!(bytes, block, "a copy is the block again");
+            self.note_block(Call::Copy, bytes);
         }
         self.count(Call::Copy, &answer);
         answer
@@ -173,6 +197,55 @@ impl Both {
         assert!(times >= least, "{call:?} gave {number} only {times} times");
     }
 
+    /// Counts an accepted call on such a plan.
+    pub fn note_plan(&mut self, call: Call, tasks: &[Task]) {
+        let first = Edition::of_tasks(tasks) == Edition::FIRST;
+        self.note(call, if first { Kind::NoFixed } else { Kind::Fixed });
+    }
+
+    /// Counts an accepted call on such a block, by the edition in its first bits.
+    pub fn note_block(&mut self, call: Call, block: &[u8]) {
+        match block[0] >> 4 {
+            1 => self.note(call, Kind::NoFixed),
+            2 => self.note(call, Kind::Fixed),
+            other => panic!("edition {other} was accepted"),
+        }
+    }
+
+    pub fn note(&mut self, call: Call, kind: Kind) {
+        *self.kinds.entry((call, kind)).or_default() += 1;
+    }
+
+    /// Wants that the call was accepted for this kind of thing at least so often.
+    #[track_caller]
+    pub fn wants_kind(&self, call: Call, kind: Kind, least: u64) {
+        let times = self.kinds.get(&(call, kind)).copied().unwrap_or(0);
+        assert!(times >= least, "{call:?} of {kind:?} only {times} times");
+    }
+
+    /// The same for plans without fixed ticks and for plans with some.
+    #[track_caller]
+    pub fn wants_editions(&self, calls: &[Call], least: u64) {
+        for call in calls {
+            self.wants_kind(*call, Kind::NoFixed, least);
+            self.wants_kind(*call, Kind::Fixed, least);
+        }
+    }
+
+    /// The same for passes that end inside the fixed ticks, with the job ended or not.
+    #[track_caller]
+    pub fn wants_inside(&self, least: u64) {
+        self.wants_kind(Call::Pass, Kind::EndedInFixed, least);
+        self.wants_kind(Call::Pass, Kind::WentOnInFixed, least);
+    }
+
+    /// Wants that the call was never answered so.
+    #[track_caller]
+    pub fn wants_never(&self, call: Call, number: u32) {
+        let times = self.seen.get(&(call, number)).copied().unwrap_or(0);
+        assert_eq!(times, 0, "{call:?} gave {number}");
+    }
+
     /// Wants that this many calls were put to both sides, and prints what came of them.
     #[track_caller]
     pub fn saw(&self, what: &str, least: u64) {
@@ -180,6 +253,9 @@ impl Both {
         println!("{what}: {all} calls");
         for ((call, number), times) in &self.seen {
             println!("    {call:?} {number}: {times}");
+        }
+        for ((call, kind), times) in &self.kinds {
+            println!("    {call:?} {kind:?}: {times}");
         }
         assert!(all >= least, "only {all} calls");
     }
@@ -195,8 +271,9 @@ impl Both {
 fn tasks_in(numbers: &[u32]) -> Vec<Task> {
     let number = |place: usize| u64::from(numbers.get(place).copied().unwrap_or(0));
     let task = |place| Task {
-        period: number(2 * place),
-        worst: number(2 * place + 1),
+        period: number(3 * place),
+        worst: number(3 * place + 1),
+        fixed: number(3 * place + 2),
     };
     (0..PLACES).map(task).collect()
 }

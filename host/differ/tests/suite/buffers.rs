@@ -1,7 +1,8 @@
 //! Writing and copying into buffers of every length around the one that is needed.
 
 use crate::both::{Both, Call, ACCEPTED};
-use crate::made::{numbers_of, plan_of_count, tasks};
+use crate::made::{fixed_tasks, numbers_of, plan_of_edition, tasks};
+use sim::block::Edition;
 use sim::levels::Levels;
 use sim::random::blocks::block_of;
 use sim::random::Random;
@@ -14,8 +15,9 @@ fn buffers_of_every_length() {
     let mut both = Both::new(&levels);
     let mut random = Random::new(301);
     for count in 1..=16 {
-        for _ in 0..8 {
-            let tasks = plan_of_count(&mut random, &levels, count);
+        for round in 0..8 {
+            let edition = Edition::ACCEPTED[round % 2];
+            let tasks = plan_of_edition(&mut random, &levels, count, edition);
             let numbers = numbers_of(&tasks);
             let block = block_of(&tasks);
             assert_eq!(both.judge(count, &numbers), both.read(&block));
@@ -34,6 +36,7 @@ fn buffers_of_every_length() {
         both.wants(call, ACCEPTED, 5_000);
         both.wants(call, 9, 5_000);
     }
+    both.wants_editions(&[Call::Write, Call::Copy], 2_500);
 }
 
 /// Would catch 9 said before another refusal, and a byte changed on the way to one.
@@ -46,6 +49,9 @@ fn refused_plans_with_buffers_of_every_length() {
         (tasks(&[(10, 400), (10, 0)]), 6),
         (tasks(&[(1_000, 1), (1_001, 1)]), 7),
         (tasks(&[(10, 400), (10, 400), (30, 601)]), 8),
+        (fixed_tasks(&[(10, 400, 3), (10, 0, 3)]), 6),
+        (fixed_tasks(&[(1_000, 1, 255), (1_001, 1, 0)]), 7),
+        (fixed_tasks(&[(10, 40, 5), (10, 40, 5)]), 8),
     ];
     for (list, number) in refused {
         let numbers = numbers_of(&list);
@@ -63,7 +69,7 @@ fn refused_plans_with_buffers_of_every_length() {
             assert_eq!(both.copy(&closed, room), Err(5));
         }
     }
-    both.saw("refused with buffers of every length", 1_600);
+    both.saw("refused with buffers of every length", 2_400);
     for number in [3, 6, 7, 8] {
         both.wants(Call::Write, number, 40);
         both.wants(Call::Copy, number, 40);

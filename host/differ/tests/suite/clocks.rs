@@ -64,6 +64,8 @@ fn runs_up_to_the_largest_clock() {
         at_the_end += 1;
     }
     both.saw("runs up to the largest clock", 11_000);
+    both.wants_editions(&[Call::Start], 30);
+    both.wants_inside(20);
     both.wants(Call::Pass, ACCEPTED, 1_000);
     both.wants(Call::Pass, 15, 200);
     assert_eq!(at_the_end, 200);

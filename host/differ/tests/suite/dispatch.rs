@@ -1,9 +1,11 @@
 //! Starting, passing and showing put to both sides. Whatever a call is lent, to write or only to
 //! read, stands between marked bytes, and after the call every byte must be the simulator's.
 
-use crate::both::{Both, Call};
+use crate::both::{Both, Call, Kind};
 use crate::lent::{Element, Lent};
+use crate::view::View;
 use differ::dispatcher::{self, Order};
+use sim::state::unpack;
 
 pub use sim::layout::STATE_BYTES;
 
@@ -27,6 +29,8 @@ impl Both {
         lent_state.wants(&wanted, what);
         if answer.is_err() {
             assert!(wanted == state, "{}: refused, yet changed", what());
+        } else {
+            self.note_block(Call::Start, block);
         }
         state.copy_from_slice(&wanted);
         self.count(Call::Start, &answer);
@@ -46,6 +50,9 @@ impl Both {
         lent.wants(state, what);
         if answer.is_err() {
             assert!(before == state, "{}: refused, yet changed", what());
+        } else if View::of(&before).is_in_fixed(d) {
+            let kinds = [Kind::WentOnInFixed, Kind::EndedInFixed];
+            self.note(Call::Pass, kinds[usize::from(finished != 0)]);
         }
         self.count(Call::Pass, &answer);
         answer
@@ -72,6 +79,10 @@ impl Both {
             what()
         );
         self.count(Call::Show, &answer);
+        if answer.is_ok() {
+            let shown = unpack(state).expect("the state is a sound one");
+            self.note_plan(Call::Show, &shown.tasks());
+        }
         answer.map(|_| wanted[..written].to_vec())
     }
 }

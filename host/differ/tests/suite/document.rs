@@ -1,7 +1,7 @@
-//! Cases whose answers stand in 01, or follow from it by hand.
+//! Cases whose answers stand in 01 or in 02, No. 2, or follow from them by hand.
 
 use crate::both::Both;
-use crate::made::{bench_plan, fits_block, numbers_of, tasks};
+use crate::made::{bench_plan, fits_block, fixed_tasks, numbers_of, task, tasks};
 use differ::proved::Judged;
 use sim::levels::Levels;
 use sim::plan::Task;
@@ -9,6 +9,9 @@ use sim::random::blocks::block_of;
 
 /// 01, "Blocks": period 40 and worst case 300.
 const EXAMPLE: [u8; 6] = [0x10, 0x80, 0x14, 0x00, 0x09, 0x60];
+
+/// The same with 5 fixed ticks, in edition 2: 01100 ends the worst case, then 00000101 and 000.
+const FIXED_EXAMPLE: [u8; 7] = [0x20, 0x80, 0x14, 0x00, 0x09, 0x60, 0x28];
 
 fn accepted(level: u64, hyperperiod: u64) -> Result<Judged, u32> {
     Ok(Judged { level, hyperperiod })
@@ -22,12 +25,12 @@ fn wants(tasks: &[Task], answer: Result<Judged, u32>) {
     let mut both = Both::new(&levels);
     let numbers = numbers_of(tasks);
     assert_eq!(both.judge(tasks.len(), &numbers), answer, "{tasks:?}");
-    let written = both.write(tasks.len(), &numbers, 80);
+    let written = both.write(tasks.len(), &numbers, 100);
     assert_eq!(written.err(), answer.err(), "{tasks:?}");
     if fits_block(tasks) {
         let block = block_of(tasks);
         assert_eq!(both.read(&block), answer, "{tasks:?}");
-        assert_eq!(both.copy(&block, 80).err(), answer.err(), "{tasks:?}");
+        assert_eq!(both.copy(&block, 100).err(), answer.err(), "{tasks:?}");
     }
 }
 
@@ -42,6 +45,62 @@ fn the_example_block_both_ways() {
     // 300 units at 10 a tick are 30 of 40 ticks.
     assert_eq!(both.read(&EXAMPLE), accepted(0, 40));
     assert_eq!(both.judge(1, &[40, 300]), accepted(0, 40));
+    assert_eq!(both.write(1, &[40, 300, 0], 8).as_deref(), Ok(&EXAMPLE[..]));
+}
+
+/// The same in edition 2.
+#[test]
+fn the_example_with_fixed_ticks_both_ways() {
+    let mut both = Both::new(&Levels::base());
+    let wanted = Ok(&FIXED_EXAMPLE[..]);
+    assert_eq!(both.write(1, &[40, 300, 5], 8).as_deref(), wanted);
+    assert_eq!(both.copy(&FIXED_EXAMPLE, 8).as_deref(), wanted);
+    // 5 and 30 of 40 ticks.
+    assert_eq!(both.read(&FIXED_EXAMPLE), accepted(0, 40));
+    assert_eq!(both.judge(1, &[40, 300, 5]), accepted(0, 40));
+    assert_eq!(both.write(1, &[40, 300, 5], 6), Err(9));
+    assert_eq!(both.copy(&FIXED_EXAMPLE, 6), Err(9));
+}
+
+/// Would catch fixed ticks left out of the time needed, or divided by the speed; a sum that counts
+/// them once for all jobs; and a limit on them that is off by one.
+#[test]
+fn fixed_ticks_and_the_level() {
+    // 6 + 4 ticks at 10 units, 8 + 2 at 20, 9 + 1 at 40; 10 + 1 is too much at every level.
+    let levels = [(0, 0), (6, 0), (7, 1), (8, 1), (9, 3)];
+    for (fixed, level) in levels {
+        wants(&fixed_tasks(&[(10, 40, fixed)]), accepted(level, 10));
+    }
+    wants(&fixed_tasks(&[(10, 40, 10)]), Err(8));
+    wants(&fixed_tasks(&[(256, 100, 255)]), accepted(7, 256));
+    wants(&fixed_tasks(&[(255, 100, 255)]), Err(8));
+    // A fixed tick counts once for each job: 15 and 15 of 30 ticks, then 18 and 15.
+    wants(
+        &fixed_tasks(&[(10, 400, 1), (30, 1_500, 0)]),
+        accepted(7, 30),
+    );
+    wants(&fixed_tasks(&[(10, 400, 2), (30, 1_500, 0)]), Err(8));
+    // The bench plan has no room for one.
+    for place in 0..3 {
+        let mut plan = bench_plan();
+        plan[place].fixed = 1;
+        wants(&plan, Err(8));
+    }
+}
+
+/// Writes a block for each count, copies it, and wants these lengths of both.
+fn blocks_have(sizes: [usize; 16], fixed: u64) {
+    let mut both = Both::new(&Levels::base());
+    for (before, size) in sizes.into_iter().enumerate() {
+        let list = fixed_tasks(&vec![(1_000, 37, fixed); before + 1]);
+        let numbers = numbers_of(&list);
+        let block = both.write(list.len(), &numbers, 100).unwrap();
+        assert_eq!(block.len(), size);
+        assert_eq!(both.write(list.len(), &numbers, size).as_ref(), Ok(&block));
+        assert_eq!(both.write(list.len(), &numbers, size - 1), Err(9));
+        assert_eq!(both.copy(&block, size).as_ref(), Ok(&block));
+        assert_eq!(both.copy(&block, size - 1), Err(9));
+    }
 }
 
 /// Would catch closing bits forgotten or a whole byte of them, for odd and for even counts.
@@ -50,17 +109,37 @@ fn blocks_have_6_to_74_bytes() {
     let sizes = [
         6, 11, 15, 20, 24, 29, 33, 38, 42, 47, 51, 56, 60, 65, 69, 74,
     ];
-    let levels = Levels::base();
-    let mut both = Both::new(&levels);
-    for (before, size) in sizes.into_iter().enumerate() {
-        let list = vec![(1_000, 37); before + 1];
-        let numbers = numbers_of(&tasks(&list));
-        let block = both.write(list.len(), &numbers, 100).unwrap();
-        assert_eq!(block.len(), size);
-        assert_eq!(both.write(list.len(), &numbers, size).as_ref(), Ok(&block));
-        assert_eq!(both.write(list.len(), &numbers, size - 1), Err(9));
-        assert_eq!(both.copy(&block, size).as_ref(), Ok(&block));
-        assert_eq!(both.copy(&block, size - 1), Err(9));
+    blocks_have(sizes, 0);
+}
+
+/// The same with fixed ticks.
+#[test]
+fn blocks_of_edition_2_have_7_to_96_bytes() {
+    let sizes = [
+        7, 13, 19, 25, 31, 37, 43, 49, 54, 60, 66, 72, 78, 84, 90, 96,
+    ];
+    blocks_have(sizes, 5);
+}
+
+/// Would catch a writer that looks at some of the tasks only, or past the count, for its edition.
+#[test]
+fn the_edition_that_is_written() {
+    let mut both = Both::new(&Levels::base());
+    for count in 1..=16 {
+        let mut list = tasks(&vec![(1_000, 37); count]);
+        let mut first_byte = |list: &[Task]| {
+            // One past the count, which must not matter.
+            let numbers = [numbers_of(list), vec![0, 0, 255]].concat();
+            both.write(count, &numbers, 100).unwrap()[0]
+        };
+        assert_eq!(first_byte(&list) >> 4, 1);
+        for place in 0..count {
+            for fixed in [1, 128, 255] {
+                list[place].fixed = fixed;
+                assert_eq!(first_byte(&list) >> 4, 2);
+            }
+            list[place].fixed = 0;
+        }
     }
 }
 
@@ -77,11 +156,12 @@ fn past(bits: u32) -> Vec<u64> {
 fn each_field_at_the_ends_of_its_range() {
     for count in 1..=16 {
         for place in 0..count {
-            let with = |period, worst| {
+            let with_fixed = |period, worst, fixed| {
                 let mut list = tasks(&vec![(65_535, 1); count]);
-                list[place] = Task { period, worst };
+                list[place] = task(period, worst, fixed);
                 list
             };
+            let with = |period, worst| with_fixed(period, worst, 0);
             // One tick of 65,535 for each task.
             wants(&with(65_535, 1), accepted(0, 65_535));
             // All of the ticks for one task, and one for each of the others.
@@ -96,6 +176,12 @@ fn each_field_at_the_ends_of_its_range() {
             }
             for worst in past(20) {
                 wants(&with(65_535, worst), Err(6));
+            }
+            for fixed in [1, 127, 128, 254, 255] {
+                wants(&with_fixed(65_535, 1, fixed), accepted(0, 65_535));
+            }
+            for fixed in past(8) {
+                wants(&with_fixed(65_535, 1, fixed), Err(6));
             }
         }
     }
@@ -164,15 +250,21 @@ fn numbers_that_are_not_there_are_zero() {
     assert_eq!(both.judge(2, &[40, 300]), Err(6));
     assert_eq!(both.judge(2, &[40, 300, 40]), Err(6));
     assert_eq!(both.write(2, &[40, 300, 40], 80), Err(6));
+    assert_eq!(both.judge(2, &[40, 300, 0, 40]), Err(6));
     assert_eq!(both.judge(1, &[40, 300, 0, u32::MAX]), accepted(0, 40));
-    let written = both.write(1, &[40, 300, 0, u32::MAX, 7], 80);
+    assert_eq!(both.judge(1, &[40, 300, 256, 40]), Err(6));
+    let written = both.write(1, &[40, 300, 0, u32::MAX, 7, 9], 80);
     assert_eq!(written.as_deref(), Ok(&EXAMPLE[..]));
-    // Sixteen tasks of 50 ticks each in 1,000, and more numbers than a plan has places for.
-    let mut many = [1_000; 40];
+    let written = both.write(1, &[40, 300, 5, u32::MAX, 7, 9], 80);
+    assert_eq!(written.as_deref(), Ok(&FIXED_EXAMPLE[..]));
+    // Sixteen tasks of 1 + 50 ticks each in 1,000, and more numbers than a plan has places for.
+    let mut many = [[1_000, 1_000, 1]; 20].concat();
     assert_eq!(both.judge(16, &many), accepted(1, 1_000));
-    assert_eq!(both.judge(16, &many[..32]), accepted(1, 1_000));
-    assert_eq!(both.judge(16, &many[..31]), Err(6));
-    many[32..].fill(0);
+    assert_eq!(both.judge(16, &many[..48]), accepted(1, 1_000));
+    // Without the last number the last task has no fixed ticks.
+    assert_eq!(both.judge(16, &many[..47]), accepted(1, 1_000));
+    assert_eq!(both.judge(16, &many[..46]), Err(6));
+    many[48..].fill(0);
     assert_eq!(both.judge(16, &many), accepted(1, 1_000));
     assert_eq!(both.judge(17, &many), Err(3));
 }

@@ -2,11 +2,11 @@
 
 use crate::both::{Both, Call, ACCEPTED, WITH_LEVELS};
 use crate::dispatch::STATE_BYTES;
-use crate::made::{bench_plan, numbers_of, tasks};
+use crate::made::{bench_plan, fixed_tasks, numbers_of, tasks};
 use sim::level_block::{level_block_bytes, pack_levels, COUNT_BITS, SPEED_BITS};
 use sim::levels::{Levels, FASTEST, MOST_LEVELS};
 use sim::plan::Task;
-use sim::random::blocks::block_of;
+use sim::random::blocks::{block_of, block_of_no_additions};
 use sim::random::tables::{bad_level_block, damaged_level_block, levels_of_count};
 use sim::random::Random;
 use sim::write_levels;
@@ -255,6 +255,9 @@ fn bad_blocks_ahead_of_every_call() {
     let lists = [
         bench_plan(),
         tasks(&[(40, 300)]),
+        fixed_tasks(&[(40, 300, 5), (40, 300, 0)]),
+        fixed_tasks(&[(40, 300, 256)]),
+        fixed_tasks(&[(40, 300, 40)]),
         tasks(&[]),
         tasks(&[(1_000, 1); 17]),
         tasks(&[(0, 0)]),
@@ -284,10 +287,18 @@ fn level_blocks_are_asked_about_before_plan_blocks() {
     let mut both = Both::new(&Levels::base());
     let good = write_levels(&Levels::base());
     let bench = block_of(&bench_plan());
+    let needless = block_of_no_additions(&bench_plan());
     for length in 0..good.len() {
         both.level_block = good[..length].to_vec();
         let number = if length == 0 { 18 } else { 19 };
-        for plan in [&[][..], &bench[..1], &bench[..14], &bench[1..], &bench] {
+        for plan in [
+            &[][..],
+            &bench[..1],
+            &bench[..14],
+            &bench[1..],
+            &bench,
+            &needless,
+        ] {
             for room in [0, 15, STATE_BYTES] {
                 assert_eq!(both.read(plan), Err(number));
                 assert_eq!(both.copy(plan, room), Err(number));
@@ -297,7 +308,12 @@ fn level_blocks_are_asked_about_before_plan_blocks() {
     }
     // With the whole block the plan's own questions are put.
     both.load(&Levels::base());
-    for (plan, number) in [(&[][..], 1), (&bench[..14], 4), (&bench[1..], 2)] {
+    for (plan, number) in [
+        (&[][..], 1),
+        (&bench[..14], 4),
+        (&bench[1..], 2),
+        (&needless, 21),
+    ] {
         assert_eq!(both.read(plan), Err(number));
         assert_eq!(both.copy(plan, 74), Err(number));
         assert_eq!(both.start(plan, &mut [0; STATE_BYTES]), Err(number));

@@ -4,18 +4,29 @@ use crate::both::{Both, PLACES};
 use differ::proved::Judged;
 use sim::block::{block_bytes, Edition};
 use sim::levels::Levels;
-use sim::plan::{judge_list, Task, LARGEST_PERIOD, LARGEST_WORST};
+use sim::plan::{judge_list, Task, LARGEST_FIXED, LARGEST_PERIOD, LARGEST_WORST};
 use sim::random::blocks::block_of;
 use sim::random::plans::plan_at_level;
 use sim::random::Random;
 
-/// Tasks from pairs of period and worst case.
+/// Tasks from pairs of period and worst case, without fixed ticks.
 pub fn tasks(pairs: &[(u64, u64)]) -> Vec<Task> {
-    let task = |(period, worst): &(u64, u64)| Task {
-        period: *period,
-        worst: *worst,
-    };
+    let task = |(period, worst): &(u64, u64)| task(*period, *worst, 0);
     pairs.iter().map(task).collect()
+}
+
+/// Tasks from period, worst case and fixed ticks.
+pub fn fixed_tasks(triples: &[(u64, u64, u64)]) -> Vec<Task> {
+    let task = |(period, worst, fixed): &(u64, u64, u64)| task(*period, *worst, *fixed);
+    triples.iter().map(task).collect()
+}
+
+pub fn task(period: u64, worst: u64, fixed: u64) -> Task {
+    Task {
+        period,
+        worst,
+        fixed,
+    }
 }
 
 /// 01's bench plan.
@@ -27,13 +38,15 @@ pub fn bench_plan() -> Vec<Task> {
 /// which is as far out of range.
 pub fn numbers_of(tasks: &[Task]) -> Vec<u32> {
     let narrow = |number: u64| u32::try_from(number).unwrap_or(u32::MAX);
-    let pair = |task: &Task| [narrow(task.period), narrow(task.worst)];
-    tasks.iter().flat_map(pair).collect()
+    let triple = |task: &Task| [task.period, task.worst, task.fixed].map(narrow);
+    tasks.iter().flat_map(triple).collect()
 }
 
 /// Whether a block can hold these tasks, in range or not.
 pub fn fits_block(tasks: &[Task]) -> bool {
-    let fits = |task: &Task| task.period <= LARGEST_PERIOD && task.worst <= LARGEST_WORST;
+    let fits = |task: &Task| {
+        task.period <= LARGEST_PERIOD && task.worst <= LARGEST_WORST && task.fixed <= LARGEST_FIXED
+    };
     tasks.len() < 32 && tasks.iter().all(fits)
 }
 
@@ -51,18 +64,35 @@ pub fn plan_of_count(random: &mut Random, levels: &Levels, count: usize) -> Vec<
     }
 }
 
+/// The same, and one that the writer gives this edition.
+pub fn plan_of_edition(
+    random: &mut Random,
+    levels: &Levels,
+    count: usize,
+    edition: Edition,
+) -> Vec<Task> {
+    loop {
+        let tasks = plan_of_count(random, levels, count);
+        if Edition::of_tasks(&tasks) == edition {
+            return tasks;
+        }
+    }
+}
+
 /// The same tasks but for one step: a field one more or one less, two places swapped, a task left
 /// out, or one of them twice.
 pub fn nearby(random: &mut Random, tasks: &[Task]) -> Vec<Task> {
     let mut near = tasks.to_vec();
     let place = random.place(near.len());
-    match random.below(8) {
+    match random.below(10) {
         0 | 1 => near[place].worst += 1,
         2 => near[place].worst -= 1,
         3 => near[place].period += 1,
         4 => near[place].period -= 1,
         5 => near.swap(place, 0),
         6 => drop(near.remove(place)),
+        7 => near[place].fixed += 1,
+        8 => near[place].fixed = near[place].fixed.saturating_sub(1),
         _ => near.push(near[place]),
     }
     near
@@ -72,10 +102,12 @@ pub fn nearby(random: &mut Random, tasks: &[Task]) -> Vec<Task> {
 pub fn loose_plan(random: &mut Random) -> Vec<Task> {
     let longest = random.pick(&[4, 12, 40, 200, 3_000, LARGEST_PERIOD]);
     let heaviest = random.pick(&[1, 20, 100, 2_000, LARGEST_WORST]);
+    let most_fixed = random.pick(&[0, 0, 1, 20, LARGEST_FIXED]);
     let count = random.between(1, 6);
     let task = |_| Task {
         period: random.between(1, longest),
         worst: random.between(1, heaviest),
+        fixed: random.between(0, most_fixed),
     };
     (0..count).map(task).collect()
 }

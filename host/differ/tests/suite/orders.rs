@@ -1,8 +1,9 @@
-//! 01's cases of starting, passing and showing, with the answers that stand there.
+//! 01's cases of starting, passing and showing, with the answers that stand there, and cases of other
+//! speeds and of fixed ticks, worked out by hand.
 
 use crate::both::Both;
 use crate::dispatch::STATE_BYTES;
-use crate::made::{bench_plan, tasks};
+use crate::made::{bench_plan, fixed_tasks, tasks};
 use crate::view::queue_bytes;
 use differ::dispatcher::Order;
 use sim::levels::Levels;
@@ -188,4 +189,53 @@ fn a_run_at_odd_speeds() {
     assert_eq!(both.start(&block_of(&plan), &mut state), Ok(run(0, 0, 4)));
     both.load(&Levels::new(&[1, 6]));
     assert_eq!(both.start(&block_of(&plan), &mut state), Err(8));
+}
+
+/// Would catch fixed ticks that scale, come after the work, are lost at a preemption or stay in a job
+/// that ended, with the answers worked out by hand. At 40 units a tick the tasks take 2 + 3 ticks
+/// of 10 and 6 + 13 of 40, so 39 of 40; at 30 it would be 47.
+#[test]
+fn a_run_with_fixed_ticks() {
+    let mut both = Both::new(&Levels::base());
+    let block = block_of(&fixed_tasks(&[(10, 100, 2), (40, 500, 6)]));
+    let mut state = [0xa5; STATE_BYTES];
+    assert_eq!(both.start(&block, &mut state), Ok(run(0, 3, 5)));
+    assert_eq!(state[8..20], [0, 10, 0, 0, 100, 0, 0, 100, 0, 5, 2, 2]);
+    assert_eq!(state[20..32], [0, 40, 0, 1, 244, 0, 1, 244, 0, 19, 6, 6]);
+    assert_eq!(both.pass(&mut state.clone(), 5, 0), Err(14));
+    assert_eq!(both.pass(&mut state.clone(), 6, 1), Err(14));
+    assert_eq!(both.pass(&mut state.clone(), 4, 0), Ok(run(0, 3, 1)));
+    let mut early = state;
+    // With its worst case used, task 1 starts at 5, and has one fixed tick left at 10.
+    assert_eq!(both.pass(&mut state, 5, 1), Ok(run(1, 3, 5)));
+    assert_eq!(both.pass(&mut state, 5, 0), Ok(run(0, 3, 5)));
+    assert_eq!(state[20..32], [0, 40, 0, 1, 244, 0, 1, 244, 0, 14, 6, 1]);
+    assert_eq!(both.pass(&mut state, 5, 1), Ok(run(1, 3, 5)));
+    assert_eq!(both.pass(&mut state, 5, 0), Ok(run(0, 3, 5)));
+    // 4 ticks at 40: 340 left, hex 154.
+    assert_eq!(state[20..32], [0, 40, 0, 1, 244, 0, 1, 0x54, 0, 9, 6, 0]);
+    assert_eq!(both.pass(&mut state, 5, 1), Ok(run(1, 3, 5)));
+    // At 30 task 1 has the same deadline and came first.
+    assert_eq!(both.pass(&mut state, 5, 0), Ok(run(1, 3, 4)));
+    assert_eq!(both.pass(&mut state, 4, 1), Ok(run(0, 3, 5)));
+    assert_eq!(both.pass(&mut state, 5, 1), Ok(idle(1)));
+    assert_eq!(both.pass(&mut state, 1, 0), Ok(run(0, 3, 5)));
+    // Task 0 ends inside its fixed ticks: 4 + 19 ticks for 6 + 17 at 30 units.
+    assert_eq!(both.pass(&mut early, 1, 1), Ok(run(1, 2, 9)));
+    assert_eq!(early[8..20], [0, 10, 0, 0, 100, 0, 0, 0, 0, 4, 2, 0]);
+    assert_eq!(both.show(&early, 6), Ok(queue_bytes(&[(0, 4), (1, 19)])));
+    assert_eq!(both.pass(&mut early, 3, 0), Ok(run(1, 2, 6)));
+    assert_eq!(early[20..32], [0, 40, 0, 1, 244, 0, 1, 244, 0, 19, 6, 3]);
+    // Forged: more left than there are, some left in the finished job, and work gone before them.
+    let forged = |both: &mut Both, place: usize, value| {
+        let mut forged = early;
+        forged[place] = value;
+        both.show(&forged, 48).err()
+    };
+    assert_eq!(forged(&mut both, 31, 7), Some(10));
+    assert_eq!(forged(&mut both, 19, 1), Some(10));
+    assert_eq!(forged(&mut both, 26, 0), None);
+    assert_eq!(both.pass(&mut early, 6, 0), Ok(run(0, 3, 5)));
+    // 3 fixed ticks and 3 at 30: 410 left, hex 19a.
+    assert_eq!(early[20..32], [0, 40, 0, 1, 244, 0, 1, 0x9a, 0, 14, 6, 0]);
 }

@@ -52,6 +52,7 @@ fn every_edge_of_reached_states() {
         put_edges(&mut both, &mut random, &state);
     }
     both.saw("edges of reached states", 79_000);
+    both.wants_inside(250);
     both.wants(Call::Pass, ACCEPTED, 5_000);
     for number in [11, 12, 14] {
         both.wants(Call::Pass, number, 4_000);
@@ -89,6 +90,7 @@ fn every_edge_of_late_states() {
         }
     }
     both.saw("edges of late states", 57_000);
+    both.wants_inside(300);
     both.wants(Call::Pass, ACCEPTED, 6_000);
     for number in [11, 12, 14, 15] {
         both.wants(Call::Pass, number, 2_000);
@@ -112,6 +114,7 @@ fn every_edge_of_invented_states() {
         let _ = both.show(&state, 48);
     }
     both.saw("edges of invented states", 100_000);
+    both.wants_inside(500);
     both.wants(Call::Pass, ACCEPTED, 6_000);
     for number in 11..=14 {
         both.wants(Call::Pass, number, 1_000);
@@ -139,6 +142,7 @@ fn runs_from_invented_states() {
         }
     }
     both.saw("runs from invented states", 36_000);
+    both.wants_inside(100);
     both.wants(Call::Pass, ACCEPTED, 7_000);
     both.wants(Call::Show, ACCEPTED, 12_000);
 }

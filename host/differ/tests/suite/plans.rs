@@ -4,13 +4,16 @@ use crate::both::{Both, Call, ACCEPTED};
 use crate::made::{loose_plan, nearby, numbers_of, put_tasks, some_room};
 use sim::block::{block_bytes, Edition};
 use sim::levels::{Levels, MOST_LEVELS};
-use sim::plan::Task;
+use sim::plan::{Task, LARGEST_FIXED, LARGEST_PERIOD, LARGEST_WORST};
 use sim::random::plans::{
     edge_count_and_entries, full_plan, plan_above_largest_hyperperiod, plan_at_largest_hyperperiod,
     plan_at_level, plan_one_over, plan_one_unit_over,
 };
 use sim::random::tables::levels_of_count;
 use sim::random::Random;
+
+/// The calls that are put to a list of tasks.
+const PLAN_CALLS: [Call; 4] = [Call::Judge, Call::Read, Call::Write, Call::Copy];
 
 /// Would catch a level or a hyperperiod that is wrong for some plan, a task or a field that is
 /// packed wrongly at some place, and a plan refused for no reason. Their neighbours would catch an
@@ -41,6 +44,7 @@ fn accepted_plans_at_every_level_and_their_neighbours() {
     }
     both.wants(Call::Write, 9, 2_500);
     both.wants(Call::Copy, 9, 2_500);
+    both.wants_editions(&PLAN_CALLS, 2_000);
 }
 
 /// The same with the speeds of other boards: would catch a speed that is still 01's, one taken from
@@ -71,6 +75,7 @@ fn accepted_plans_of_any_table_and_their_neighbours() {
             both.wants(call, number, 200);
         }
     }
+    both.wants_editions(&PLAN_CALLS, 2_000);
     assert!(at_level.iter().all(|times| *times > 30), "{at_level:?}");
 }
 
@@ -91,9 +96,11 @@ fn plans_around_the_largest_hyperperiod() {
     both.saw("largest hyperperiod", 12_000);
     both.wants(Call::Judge, ACCEPTED, 1_500);
     both.wants(Call::Judge, 7, 1_500);
+    both.wants_editions(&PLAN_CALLS, 300);
 }
 
-/// A plan that fills its hyperperiod at a level, one a tick over and one a unit over; returns the last.
+/// A plan that fills its hyperperiod at a level, one a tick over and one a unit over; returns the
+/// last.
 fn around_the_full_sum(
     both: &mut Both,
     random: &mut Random,
@@ -117,7 +124,7 @@ fn around_the_full_sum(
 }
 
 /// Would catch an admission sum that is off by one or is cut, a time needed that is rounded down,
-/// and a speed that is wrong at one level.
+/// fixed ticks left out of it or scaled, and a speed that is wrong at one level.
 #[test]
 fn plans_around_the_full_sum() {
     let levels = Levels::base();
@@ -131,6 +138,7 @@ fn plans_around_the_full_sum() {
     both.saw("full sum", 38_000);
     both.wants(Call::Judge, ACCEPTED, 5_000);
     both.wants(Call::Judge, 8, 800);
+    both.wants_editions(&PLAN_CALLS, 1_000);
 }
 
 /// The same with the speeds of other boards: the slowest, the fastest, and ones next to each other.
@@ -153,6 +161,7 @@ fn plans_around_the_full_sum_of_any_table() {
     both.saw("full sum of any table", 23_000);
     both.wants(Call::Judge, ACCEPTED, 3_000);
     both.wants(Call::Judge, 8, 800);
+    both.wants_editions(&PLAN_CALLS, 800);
 }
 
 /// Would catch a plan judged with some of the speeds alone: the verdict goes with the fastest speed,
@@ -173,6 +182,16 @@ fn one_plan_with_many_tables() {
     both.saw("one plan with many tables", 24_000);
     both.wants(Call::Judge, ACCEPTED, 1_000);
     both.wants(Call::Judge, 8, 1_000);
+    both.wants_editions(&PLAN_CALLS, 300);
+}
+
+/// Whether fixed ticks past their range are all that 6 says no to.
+fn only_fixed_is_out(count: usize, entries: &[Task]) -> bool {
+    let in_range = |task: &Task| {
+        (1..=LARGEST_PERIOD).contains(&task.period) && (1..=LARGEST_WORST).contains(&task.worst)
+    };
+    let plan = entries.get(..count).unwrap_or(&[]);
+    plan.iter().all(in_range) && plan.iter().any(|task| task.fixed > LARGEST_FIXED)
 }
 
 /// Would catch a range off by one, a field or a count cut to fewer bits, and entries past the count
@@ -182,12 +201,18 @@ fn fields_and_counts_at_their_edges() {
     let levels = Levels::base();
     let mut both = Both::new(&levels);
     let mut random = Random::new(104);
+    let mut fixed_out = 0;
     for _ in 0..15_000 {
         let (count, entries) = edge_count_and_entries(&mut random, &levels);
         let count = count as usize;
         let mut numbers = numbers_of(&entries);
-        let _ = both.judge(count, &numbers);
-        let needed = block_bytes(Edition::FIRST, count.min(16) as u64);
+        let judged = both.judge(count, &numbers);
+        if only_fixed_is_out(count, &entries) && count <= 16 {
+            assert_eq!(judged, Err(6));
+            fixed_out += 1;
+        }
+        let plan = &entries[..count.min(16)];
+        let needed = block_bytes(Edition::of_tasks(plan), plan.len() as u64);
         let _ = both.write(count, &numbers, some_room(&mut random, needed));
         // The same with some numbers missing.
         numbers.truncate(random.place(numbers.len()));
@@ -201,6 +226,8 @@ fn fields_and_counts_at_their_edges() {
         both.wants(call, 6, 3_000);
         both.wants(call, 8, 50);
     }
+    both.wants_editions(&[Call::Judge, Call::Write], 500);
+    assert!(fixed_out > 1_000, "{fixed_out}");
 }
 
 /// Would catch a list that is read past its end, where more good numbers stand, one that is not
@@ -211,22 +238,30 @@ fn every_count_with_a_list_of_every_length() {
     let mut both = Both::new(&levels);
     let mut random = Random::new(105);
     for count in 0..=31 {
-        for length in 0..=40 {
-            for worst in [1, 1_000] {
-                let mut good = [[16_000, worst]; 32].concat();
-                let enough = (1..=16).contains(&count) && length >= 2 * count;
+        for length in 0..=60 {
+            for (worst, fixed) in [(1, 0), (1_000, 0), (1, 255), (1_000, 7)] {
+                let mut good = [[16_000, worst, fixed]; 32].concat();
+                // The last task's fixed ticks may be missing: it has none then.
+                let enough = (1..=16).contains(&count) && length + 1 >= 3 * count;
                 assert_eq!(both.judge(count, &good[..length]).is_ok(), enough);
-                let written = both.write(count, &good[..length], 90);
+                let written = both.write(count, &good[..length], 100);
                 assert_eq!(written.is_ok(), enough);
-                // A zero matters exactly if a task of the plan has it.
+                // A zero matters exactly if a task of the plan has it, and not as its fixed ticks.
                 let place = random.place(good.len());
                 good[place] = 0;
                 let holed = both.judge(count, &good[..length]);
-                assert_eq!(holed.is_ok(), enough && place >= 2 * count);
+                let matters = place < 3 * count && place % 3 < 2;
+                assert_eq!(holed.is_ok(), enough && !matters);
+                // A number far out of range matters wherever a task of the plan has it.
+                good[place] = 1 << 20;
+                let heavy = both.judge(count, &good[..length]);
+                let seen = place < 3 * count && place < length;
+                assert_eq!(heavy.is_ok(), enough && !seen);
             }
         }
     }
-    both.saw("counts and lengths of lists", 7_800);
+    both.saw("counts and lengths of lists", 31_000);
+    both.wants_editions(&[Call::Judge, Call::Write], 700);
     both.wants(Call::Judge, ACCEPTED, 700);
     both.wants(Call::Judge, 3, 1_000);
     both.wants(Call::Judge, 6, 1_000);
@@ -247,4 +282,5 @@ fn loose_plans() {
         both.wants(Call::Judge, number, 2_000);
         both.wants(Call::Read, number, 2_000);
     }
+    both.wants_editions(&PLAN_CALLS, 500);
 }

@@ -40,6 +40,7 @@ fn queues_into_buffers_of_every_length() {
     both.saw("queues into buffers of every length", 36_000);
     both.wants(Call::Show, ACCEPTED, 12_000);
     both.wants(Call::Show, 9, 10_000);
+    both.wants_editions(&[Call::Show], 3_000);
     println!("{of_count:?}");
     assert!(of_count.iter().all(|times| *times >= 5), "{of_count:?}");
 }

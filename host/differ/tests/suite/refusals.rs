@@ -1,18 +1,18 @@
-//! Each refusal number from 1 to 9 is reached, from every call that can give it, and where several
-//! questions would say no the first decides. 18 to 20 are in `levels`.
+//! Each refusal number from 1 to 9, and 21, is reached, from every call that can give it, and where
+//! several questions would say no the first decides. 18 to 20 are in `levels`.
 
 use crate::both::{Both, Call, ACCEPTED};
-use crate::made::{bench_plan, numbers_of, tasks};
+use crate::made::{bench_plan, fixed_tasks, numbers_of, tasks};
 use sim::block::{pack_block, Edition};
 use sim::levels::Levels;
 use sim::plan::Task;
-use sim::random::blocks::block_of;
+use sim::random::blocks::{block_of, block_of_no_additions};
 
 /// Reading and copying refuse the block so, however long the buffer.
 #[track_caller]
 fn refuses_block(both: &mut Both, block: &[u8], number: u32) {
     assert_eq!(both.read(block), Err(number));
-    for room in [0, 1, block.len(), 74, 90] {
+    for room in [0, 1, block.len(), 96, 110] {
         assert_eq!(both.copy(block, room), Err(number));
     }
 }
@@ -22,7 +22,7 @@ fn refuses_block(both: &mut Both, block: &[u8], number: u32) {
 fn refuses_tasks(both: &mut Both, list: &[Task], number: u32) {
     let numbers = numbers_of(list);
     assert_eq!(both.judge(list.len(), &numbers), Err(number));
-    for room in [0, 1, 74, 90] {
+    for room in [0, 1, 96, 110] {
         assert_eq!(both.write(list.len(), &numbers, room), Err(number));
     }
     refuses_block(both, &block_of(list), number);
@@ -32,8 +32,12 @@ fn refusals_1_and_2(both: &mut Both) {
     for short in [&[][..], &[0x10], &[0x1f], &[0xff], &[0x00]] {
         refuses_block(both, short, 1);
     }
-    for edition in (0..16).filter(|edition| *edition != 1).map(Edition) {
+    for edition in [0].into_iter().chain(3..16).map(Edition) {
         refuses_block(both, &pack_block(edition, 3, &bench_plan()), 2);
+        // With edition 2's length too.
+        let mut long = block_of_no_additions(&bench_plan());
+        long[0] = (edition.0 as u8) << 4 | long[0] & 0x0f;
+        refuses_block(both, &long, 2);
         // Before a bad count, a bad length and a bad field.
         refuses_block(both, &pack_block(edition, 0, &[]), 2);
         refuses_block(both, &pack_block(edition, 17, &tasks(&[(0, 0)])), 2);
@@ -96,6 +100,32 @@ fn refusals_7_to_9(both: &mut Both) {
     assert!(both.read(&block).is_ok());
 }
 
+/// 21 is put in reading alone, after 6 and before 7 and 8.
+fn refusal_21(both: &mut Both) {
+    for list in [
+        bench_plan(),
+        tasks(&[(1_000, 1), (1_001, 1)]),
+        tasks(&[(1, 101)]),
+    ] {
+        let block = block_of_no_additions(&list);
+        refuses_block(both, &block, 21);
+        // After the length, a closing bit or a spare one.
+        refuses_block(both, &block[..block.len() - 1], 4);
+        let mut closed = block.clone();
+        *closed.last_mut().unwrap() |= 1;
+        refuses_block(both, &closed, 5);
+    }
+    refuses_block(both, &block_of_no_additions(&tasks(&[(0, 1)])), 6);
+    refuses_block(both, &block_of_no_additions(&tasks(&[(1, 0)])), 6);
+    // With a fixed tick they are refused as in edition 1, or accepted.
+    refuses_tasks(both, &fixed_tasks(&[(1_000, 1, 0), (1_001, 1, 1)]), 7);
+    refuses_tasks(both, &fixed_tasks(&[(1, 1, 1)]), 8);
+    refuses_tasks(both, &fixed_tasks(&[(0, 1, 1)]), 6);
+    let good = fixed_tasks(&[(10, 300, 0), (10, 300, 1)]);
+    assert!(both.read(&block_of(&good)).is_ok());
+    assert!(both.judge(2, &numbers_of(&good)).is_ok());
+}
+
 /// Would catch a question left out, two in the wrong order, and a wrong number.
 #[test]
 fn every_number_from_every_call_that_gives_it() {
@@ -105,12 +135,15 @@ fn every_number_from_every_call_that_gives_it() {
     refusals_3_and_4(&mut both);
     refusals_5_and_6(&mut both);
     refusals_7_to_9(&mut both);
+    refusal_21(&mut both);
     let given = [
         (Call::Judge, &[3, 6, 7, 8][..]),
-        (Call::Read, &[1, 2, 3, 4, 5, 6, 7, 8]),
+        (Call::Read, &[1, 2, 3, 4, 5, 6, 7, 8, 21]),
         (Call::Write, &[3, 6, 7, 8, 9]),
-        (Call::Copy, &[1, 2, 3, 4, 5, 6, 7, 8, 9]),
+        (Call::Copy, &[1, 2, 3, 4, 5, 6, 7, 8, 9, 21]),
     ];
+    both.wants_never(Call::Judge, 21);
+    both.wants_never(Call::Write, 21);
     for (call, numbers) in given {
         both.wants(call, ACCEPTED, 1);
         for number in numbers {
@@ -134,13 +167,17 @@ fn counts_far_out_of_range() {
             assert_eq!(both.write(count, &numbers, 90), Err(3));
         }
     }
-    for count in [usize::MAX, usize::MAX - 1, usize::MAX / 2, usize::MAX / 36] {
+    let cut = [usize::MAX / 3, usize::MAX / 36, usize::MAX / 47];
+    for count in [usize::MAX, usize::MAX - 1, usize::MAX / 2]
+        .into_iter()
+        .chain(cut)
+    {
         assert_eq!(both.judge(count, &numbers), Err(3));
         assert_eq!(both.write(count, &numbers, 90), Err(3));
     }
     assert!(both.judge(16, &numbers).is_ok());
     assert!(both.write(16, &numbers, 90).is_ok());
-    both.saw("counts far out of range", 180);
-    both.wants(Call::Judge, 3, 89);
-    both.wants(Call::Write, 3, 89);
+    both.saw("counts far out of range", 184);
+    both.wants(Call::Judge, 3, 91);
+    both.wants(Call::Write, 3, 91);
 }

@@ -1,13 +1,16 @@
-//! Long runs of accepted plans. After every pass, accepted or refused, demand 3 is checked on the
-//! simulator's two books, which are fed the library's replies and nothing of the state; and the
-//! queue shown must be the one of the plain schedule's book.
+//! Long runs of accepted plans, with fixed ticks and without. After every pass, accepted or refused,
+//! demand 3 is checked on the simulator's two books, which are fed the library's replies and nothing
+//! of the state; and the queue shown must be the one of the plain schedule's book, and what the state
+//! has left of each job what the dispatcher's book has.
 
 use crate::both::{Both, Call, ACCEPTED};
 use crate::dispatch::{as_simulated, STATE_BYTES};
 use crate::made::bench_plan;
 use crate::view::{queue_bytes, told, View};
 use differ::dispatcher::Order;
+use sim::block::Edition;
 use sim::books::{demand3_holds, ActualBook, PlainBook};
+use sim::job::Left;
 use sim::levels::{Levels, MOST_LEVELS};
 use sim::plan::{judge_list, Task};
 use sim::random::blocks::block_of;
@@ -15,6 +18,7 @@ use sim::random::passes::any_pass;
 use sim::random::plans::{full_plan, plan_at_level, plan_at_level_within, SMALL_BASES};
 use sim::random::tables::some_levels;
 use sim::random::Random;
+use sim::state::unpack;
 
 /// How the passes of a run are chosen.
 #[derive(Clone, Copy)]
@@ -40,6 +44,14 @@ struct Tally {
     below_nominal: u64,
     idle: u64,
     levels: Vec<u64>,
+    /// Passes at whose end the running job had fixed ticks left: it ended, it stays, or an arrival
+    /// chose anew.
+    early_in_fixed: u64,
+    stayed_in_fixed: u64,
+    interrupted_in_fixed: u64,
+    /// Runs of plans with fixed ticks, and of plans without.
+    with_fixed: u64,
+    without: u64,
 }
 
 impl Tally {
@@ -48,6 +60,16 @@ impl Tally {
             levels: vec![0; MOST_LEVELS as usize],
             ..Tally::default()
         }
+    }
+
+    /// Wants so many runs with fixed ticks and without, and passes of each kind inside them.
+    #[track_caller]
+    fn wants_fixed(&self, runs: u64, early: u64, stayed: u64, interrupted: u64) {
+        let enough = self.with_fixed >= runs && self.without >= runs;
+        assert!(enough, "{self:?}");
+        assert!(self.early_in_fixed >= early, "{self:?}");
+        assert!(self.stayed_in_fixed >= stayed, "{self:?}");
+        assert!(self.interrupted_in_fixed >= interrupted, "{self:?}");
     }
 }
 
@@ -69,7 +91,7 @@ impl Run {
             .expect("the plan is an accepted one");
         let run = Run {
             nominal: judge_list(levels, &plan).unwrap().nominal as u8,
-            actual: ActualBook::new(&plan, as_simulated(order)),
+            actual: ActualBook::new(levels, &plan, as_simulated(order)),
             plain: PlainBook::new(levels, &plan),
             plan,
             state,
@@ -109,6 +131,13 @@ impl Run {
     fn note(&self, view: View, d: u32, finished: bool, order: Order, tally: &mut Tally) {
         let d = u64::from(d);
         let arrived = d == view.to_arrival;
+        if d < view.fixed {
+            match (finished, arrived) {
+                (true, _) => tally.early_in_fixed += 1,
+                (false, true) => tally.interrupted_in_fixed += 1,
+                (false, false) => tally.stayed_in_fixed += 1,
+            }
+        }
         match view.needed {
             Some(needed) if finished && d < needed => tally.early += 1,
             Some(_) if !finished && arrived => tally.interrupted += 1,
@@ -133,6 +162,9 @@ impl Run {
         let open: Vec<(usize, u64)> = open.iter().map(|job| (job.task, job.left)).collect();
         let shown = both.show(&self.state, 48);
         assert_eq!(shown, Ok(queue_bytes(&open)), "{:?}", self.plan);
+        let entries = unpack(&self.state).expect("it is a state").entries;
+        let left: Vec<Left> = entries.iter().map(|entry| entry.left).collect();
+        assert_eq!(left, self.actual.left(), "{:?}", self.plan);
     }
 }
 
@@ -146,6 +178,10 @@ fn run(
     tally: &mut Tally,
 ) {
     let mut run = Run::new(both, levels, plan.to_vec());
+    match Edition::of_tasks(plan) {
+        Edition::FIRST => tally.without += 1,
+        _ => tally.with_fixed += 1,
+    }
     for _ in 0..passes {
         run.step(both, random, style, tally);
     }
@@ -188,6 +224,7 @@ fn long_runs_at_every_level() {
     assert!(tally.stayed > 5_000 && tally.idle > 5_000, "{tally:?}");
     assert!(tally.below_nominal > 5_000, "{tally:?}");
     assert!(tally.levels.iter().all(|times| *times > 2_000), "{tally:?}");
+    tally.wants_fixed(80, 500, 500, 50);
 }
 
 /// The same where the plain schedule has no tick to spare: would catch a level that is one too low,
@@ -221,6 +258,7 @@ fn long_runs_of_full_plans() {
     both.wants(Call::Pass, ACCEPTED, 13_000);
     assert!(tally.early > 1_000 && tally.interrupted > 100, "{tally:?}");
     assert!(tally.below_nominal > 1_000, "{tally:?}");
+    tally.wants_fixed(20, 100, 100, 10);
 }
 
 /// A plan at any level, a full one if told so. Half of them are at the highest, which few tables would
@@ -267,6 +305,7 @@ fn runs_with_any_table() {
     );
     assert!(tally.below_nominal > 3_000, "{tally:?}");
     assert!(tally.levels.iter().all(|times| *times > 500), "{tally:?}");
+    tally.wants_fixed(200, 1_000, 1_000, 100);
 }
 
 /// Would catch a table that is mixed up with another one: a state goes on with its own, whatever is
@@ -289,6 +328,8 @@ fn runs_of_two_boards_side_by_side() {
         }
     }
     both.saw("runs of two boards", 9_800);
+    both.wants_editions(&[Call::Start], 20);
+    both.wants_inside(20);
     both.wants(Call::Pass, ACCEPTED, 3_000);
     assert!(tally.early > 300 && tally.below_nominal > 100, "{tally:?}");
 }
@@ -319,6 +360,54 @@ fn runs_with_long_periods() {
     both.saw("runs with long periods", 4_800);
     both.wants(Call::Pass, ACCEPTED, 2_000);
     assert!(tally.early > 300, "{tally:?}");
+    tally.wants_fixed(10, 20, 3, 20);
+}
+
+/// Plans whose jobs are mostly fixed ticks, so that many passes end inside them: would catch fixed
+/// ticks that are taken after the work, scaled by the level, given back at a preemption, kept in a
+/// job that ended, or left out of an allotment, an allowance or a hold.
+#[test]
+fn runs_inside_the_fixed_ticks() {
+    let mut both = Both::new(&Levels::base());
+    let mut random = Random::new(407);
+    let mut tally = Tally::new();
+    let mut runs = 0;
+    while runs < 240 {
+        let levels = some_levels(&mut random);
+        let plan = mostly_fixed(&mut random);
+        if judge_list(&levels, &plan).is_err() {
+            continue;
+        }
+        let board = (&levels, &plan[..]);
+        let style = STYLES[runs % STYLES.len()];
+        run(&mut both, &mut random, board, style, 120, &mut tally);
+        runs += 1;
+    }
+    println!("{tally:?}");
+    both.saw("runs inside the fixed ticks", 55_000);
+    both.wants(Call::Pass, ACCEPTED, 20_000);
+    both.wants(Call::Pass, 14, 500);
+    both.wants_inside(3_000);
+    tally.wants_fixed(0, 3_000, 3_000, 500);
+}
+
+/// Two to five tasks with much in fixed ticks and little work, periods short and long.
+fn mostly_fixed(random: &mut Random) -> Vec<Task> {
+    let count = random.between(2, 5);
+    let base = random.pick(&[120, 240, 720, 2_520]);
+    let short = random.between(2, 12);
+    let task = |place| {
+        let long = random.between(1, 6);
+        let period = base / if place == 0 { short } else { long };
+        let share = (period / count).max(2);
+        Task {
+            // Divisors of the base alone keep the hyperperiod short.
+            period: (1..=period).rev().find(|it| base % it == 0).unwrap_or(1),
+            worst: random.between(1, 60),
+            fixed: random.between(share / 2, share - 1).min(255),
+        }
+    };
+    (0..count).map(task).collect()
 }
 
 /// Would catch what builds up over many hyperperiods.

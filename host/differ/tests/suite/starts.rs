@@ -2,11 +2,11 @@
 
 use crate::both::{Both, Call, ACCEPTED};
 use crate::dispatch::STATE_BYTES;
-use crate::made::{plan_of_count, tasks};
+use crate::made::{bench_plan, fixed_tasks, plan_of_count, tasks};
 use differ::dispatcher::Order;
 use sim::block::{pack_block, Edition};
 use sim::levels::Levels;
-use sim::random::blocks::{block_of, damaged_block};
+use sim::random::blocks::{block_of, block_of_no_additions, damaged_block};
 use sim::random::plans::{
     edge_list, full_plan, plan_above_largest_hyperperiod, plan_at_largest_hyperperiod,
     plan_at_level, plan_one_over,
@@ -64,6 +64,7 @@ fn starts_in_buffers_of_every_length() {
     both.saw("starts in buffers of every length", 4_500);
     both.wants(Call::Start, ACCEPTED, 1_000);
     both.wants(Call::Start, 9, 3_000);
+    both.wants_editions(&[Call::Start], 65);
 }
 
 /// Would catch 9 said before another refusal, and a byte changed on the way to one.
@@ -72,9 +73,12 @@ fn refused_blocks_in_buffers_of_every_length() {
     let levels = Levels::base();
     let mut both = Both::new(&levels);
     let mut random = Random::new(902);
-    let bench = block_of(&tasks(&[(10, 400), (10, 400), (30, 600)]));
+    let bench = block_of(&bench_plan());
     let mut closed = bench.clone();
     closed[14] |= 4;
+    // The block of one task has no closing bits in edition 2; these are its spare ones.
+    let mut spare = block_of(&fixed_tasks(&[(40, 300, 5)]));
+    spare[6] |= 2;
     let refused = [
         (vec![], 1),
         (bench[..1].to_vec(), 1),
@@ -84,6 +88,9 @@ fn refused_blocks_in_buffers_of_every_length() {
         (bench[..14].to_vec(), 4),
         ([&bench[..], &[0]].concat(), 4),
         (closed, 5),
+        (spare, 5),
+        (block_of_no_additions(&bench_plan()), 21),
+        (block_of(&fixed_tasks(&[(10, 40, 10)])), 8),
         (block_of(&tasks(&[(10, 400), (10, 0)])), 6),
         (block_of(&tasks(&[(1_000, 1), (1_001, 1)])), 7),
         (block_of(&tasks(&[(10, 400), (10, 400), (30, 601)])), 8),
@@ -94,8 +101,8 @@ fn refused_blocks_in_buffers_of_every_length() {
             assert_eq!(reply, Err(number));
         }
     }
-    both.saw("refused blocks in buffers of every length", 2_800);
-    for number in 1..=8 {
+    both.saw("refused blocks in buffers of every length", 3_500);
+    for number in (1..=8).chain([21]) {
         both.wants(Call::Start, number, 240);
     }
 }
@@ -123,6 +130,7 @@ fn starts_of_plans_of_every_kind() {
     }
     both.saw("starts of plans of every kind", 12_000);
     both.wants(Call::Start, ACCEPTED, 3_000);
+    both.wants_editions(&[Call::Start], 1_000);
     for number in [6, 7, 8, 9] {
         both.wants(Call::Start, number, 100);
     }
@@ -149,8 +157,8 @@ fn starts_of_damaged_blocks() {
         }
     }
     both.saw("starts of damaged blocks", 18_000);
-    for number in [ACCEPTED, 1, 2, 3, 4, 5, 6, 7, 8, 9] {
+    for number in [ACCEPTED, 1, 2, 3, 4, 5, 6, 7, 8, 9, 21] {
         both.wants(Call::Start, number, 15);
     }
-    both.wants(Call::Start, ACCEPTED, 500);
+    both.wants_editions(&[Call::Start], 250);
 }

@@ -5,17 +5,21 @@ use crate::both::{Both, Call, ACCEPTED};
 use crate::dispatch::STATE_BYTES;
 use crate::made::bench_plan;
 use crate::view::{told, View};
-use sim::dispatch::sound;
+use sim::dispatch::{choose, sound};
+use sim::job::{time_needed, Left};
 use sim::layout::{entry_at, of_task};
 use sim::layout::{speed_of, LEVEL_COUNT, SPEEDS};
-use sim::layout::{CLOCK, COUNT, ENTRIES, ENTRIES_END, ENTRY_ZERO, HEAD_ZERO, LEVEL, TASK};
+use sim::layout::{CLOCK, COUNT, ENTRIES, ENTRIES_END, FIXED, FIXED_LEFT, HEAD_ZERO, LEVEL, TASK};
 use sim::levels::{Levels, FASTEST, MOST_LEVELS};
+use sim::plan::{judge_list, Task, LARGEST_FIXED};
 use sim::random::plans::{plan_at_level, plan_at_level_within, SMALL_BASES};
 use sim::random::states::{
     forged_state, invented_state, late_state, put_table, reached_state, with_a_table_changed,
 };
 use sim::random::tables::some_or_base_levels;
 use sim::random::Random;
+use sim::schedule::allotment;
+use sim::state::{pack, unpack, Entry};
 
 /// Puts a state to passing and showing. Says whether it was taken for a sound one.
 fn put_state(both: &mut Both, random: &mut Random, state: &[u8]) -> bool {
@@ -52,6 +56,53 @@ fn some_sound_state(random: &mut Random) -> [u8; STATE_BYTES] {
     }
 }
 
+/// What the entries of a state have of fixed ticks and of those left, told for whole states.
+#[derive(Default, Debug)]
+struct FixedSeen {
+    /// Sound, with fixed ticks left in an entry, and with these and work below the worst case.
+    sound_with_some: u32,
+    sound_with_part: u32,
+    /// Unsound, with more left than there are, and with some left in a finished job.
+    above: u32,
+    in_finished: u32,
+}
+
+impl FixedSeen {
+    fn note(&mut self, state: &[u8], taken: bool) {
+        let entries = match unpack(state) {
+            Some(state) => state.entries,
+            None => return,
+        };
+        let left = |entry: &Entry| entry.left.fixed > 0;
+        let part = |entry: &Entry| left(entry) && entry.left.work < entry.task.worst;
+        let above = entries
+            .iter()
+            .any(|entry| entry.left.fixed > entry.task.fixed);
+        let in_finished = entries
+            .iter()
+            .any(|entry| left(entry) && entry.left.work == 0);
+        // No sound state has either, whatever else is in it.
+        assert!(!taken || !above && !in_finished, "{state:02x?}");
+        self.sound_with_some += u32::from(taken && entries.iter().any(left));
+        self.sound_with_part += u32::from(taken && entries.iter().any(part));
+        self.above += u32::from(above);
+        self.in_finished += u32::from(in_finished);
+    }
+
+    /// Wants each kind at least so often.
+    #[track_caller]
+    fn wants(&self, least: u32) {
+        println!("{self:?}");
+        let seen = [
+            self.sound_with_some,
+            self.sound_with_part,
+            self.above,
+            self.in_finished,
+        ];
+        assert!(seen.iter().all(|times| *times >= least), "{self:?}");
+    }
+}
+
 /// Would catch a state of another length that is read, past its end or short of it, and one whose
 /// tail is not looked at.
 #[test]
@@ -71,6 +122,7 @@ fn states_of_every_length() {
         assert!(!put_state(&mut both, &mut random, &twice));
     }
     both.saw("states of every length", 14_000);
+    both.wants_editions(&[Call::Show], 2);
     both.wants(Call::Pass, 10, 6_000);
     both.wants(Call::Show, 10, 6_000);
     both.wants(Call::Pass, ACCEPTED, 10);
@@ -83,17 +135,21 @@ fn every_flipped_bit_of_sound_states() {
     let mut both = Both::new(&Levels::base());
     let mut random = Random::new(602);
     let mut sound_still = 0;
-    for _ in 0..16 {
+    let mut fixed = FixedSeen::default();
+    for _ in 0..24 {
         let mut state = some_sound_state(&mut random);
         for place in 0..8 * STATE_BYTES {
             state[place / 8] ^= 0x80 >> (place % 8);
-            sound_still += u32::from(put_state(&mut both, &mut random, &state));
+            let taken = put_state(&mut both, &mut random, &state);
+            sound_still += u32::from(taken);
+            fixed.note(&state, taken);
             state[place / 8] ^= 0x80 >> (place % 8);
         }
     }
-    both.saw("flipped bits of states", 55_000);
-    both.wants(Call::Pass, 10, 15_000);
-    both.wants(Call::Show, 10, 15_000);
+    both.saw("flipped bits of states", 83_000);
+    fixed.wants(8);
+    both.wants(Call::Pass, 10, 25_000);
+    both.wants(Call::Show, 10, 25_000);
     assert!(sound_still > 200, "{sound_still}");
 }
 
@@ -123,6 +179,7 @@ fn every_value_of_the_head() {
         }
     }
     both.saw("heads of states", 57_000);
+    both.wants_editions(&[Call::Show], 20);
     both.wants(Call::Pass, 10, 25_000);
     assert!(sound_still > 120, "{sound_still}");
 }
@@ -134,18 +191,108 @@ fn forged_states() {
     let mut both = Both::new(&Levels::base());
     let mut random = Random::new(604);
     let mut sound_still = 0;
+    let mut fixed = FixedSeen::default();
     for _ in 0..2_500 {
         let state = some_sound_state(&mut random);
         for _ in 0..8 {
             let forged = forged_state(&mut random, &state);
-            sound_still += u32::from(put_state(&mut both, &mut random, &forged));
+            let taken = put_state(&mut both, &mut random, &forged);
+            sound_still += u32::from(taken);
+            fixed.note(&forged, taken);
         }
     }
     both.saw("forged states", 40_000);
+    fixed.wants(200);
     both.wants(Call::Pass, 10, 8_000);
     both.wants(Call::Show, 10, 8_000);
     both.wants(Call::Pass, ACCEPTED, 1_000);
     assert!(sound_still > 2_000, "{sound_still}");
+}
+
+/// Would catch fixed ticks, or ones left, that are let through though no sound state has them, or
+/// refused though one has: every value of either in every entry, and of both together in one.
+#[test]
+fn every_value_of_fixed_ticks() {
+    let mut both = Both::new(&Levels::base());
+    let mut random = Random::new(610);
+    let mut fixed = FixedSeen::default();
+    for _ in 0..40 {
+        let state = some_sound_state(&mut random);
+        let count = COUNT.get(&state) as usize;
+        for task in 0..count {
+            for field in [FIXED, FIXED_LEFT] {
+                for value in 0..=255 {
+                    let mut other = state;
+                    of_task(task, field).put(&mut other, value);
+                    let taken = put_state(&mut both, &mut random, &other);
+                    fixed.note(&other, taken);
+                }
+            }
+        }
+        let task = random.place(count);
+        for _ in 0..400 {
+            let mut other = state;
+            let most = random.pick(&[2, 10, 255]);
+            of_task(task, FIXED).put(&mut other, random.between(0, most));
+            of_task(task, FIXED_LEFT).put(&mut other, random.between(0, most));
+            let taken = put_state(&mut both, &mut random, &other);
+            fixed.note(&other, taken);
+        }
+    }
+    both.saw("values of fixed ticks", 150_000);
+    both.wants(Call::Pass, 10, 50_000);
+    both.wants(Call::Pass, ACCEPTED, 500);
+    fixed.wants(500);
+}
+
+/// A state whose entry has any work, fixed ticks and ones left, at most those of its plan or beyond,
+/// with plain ticks that are more than enough or just enough: soundness hangs on the entry alone.
+fn with_any_left(random: &mut Random, state: &[u8; STATE_BYTES]) -> [u8; STATE_BYTES] {
+    let mut other = unpack(state).expect("the state is a sound one");
+    let judged = judge_list(&other.levels, &other.tasks()).expect("the state is a sound one");
+    let nominal = other.levels.speed(judged.nominal);
+    let place = random.place(other.entries.len());
+    let entry = &mut other.entries[place];
+    let Task { worst, fixed, .. } = entry.task;
+    let beyond = (fixed + 1).min(LARGEST_FIXED);
+    let some_fixed = random.between(0, fixed);
+    let some_work = random.between(1, worst);
+    entry.left = Left {
+        fixed: random.pick(&[0, 1, some_fixed, some_fixed, fixed, beyond]),
+        work: random.pick(&[0, 1, some_work, some_work, worst - 1, worst]),
+    };
+    let needed = time_needed(entry.left, nominal);
+    let full = allotment(&entry.task, nominal);
+    entry.plain_left = random.pick(&[needed.min(full), needed.saturating_sub(1).min(full), full]);
+    // The order that such a state would have, if it is one that can be.
+    if needed <= entry.plain_left {
+        other.running = choose(&other);
+    }
+    pack(&other)
+}
+
+/// Would catch a time needed without the fixed ticks left, soundness that wants all of the work with
+/// these, and one that lets them be in a finished job.
+#[test]
+fn any_work_and_fixed_ticks_left() {
+    let mut both = Both::new(&Levels::base());
+    let mut random = Random::new(611);
+    let mut fixed = FixedSeen::default();
+    let mut sound = 0;
+    for _ in 0..4_000 {
+        let state = some_sound_state(&mut random);
+        for _ in 0..6 {
+            let other = with_any_left(&mut random, &state);
+            let taken = put_state(&mut both, &mut random, &other);
+            fixed.note(&other, taken);
+            sound += u32::from(taken);
+        }
+    }
+    both.saw("any work and fixed ticks left", 48_000);
+    both.wants(Call::Pass, 10, 5_000);
+    both.wants(Call::Pass, ACCEPTED, 3_000);
+    assert!(sound > 8_000, "{sound}");
+    fixed.wants(1_000);
 }
 
 /// Would catch a count of levels that is let through though no table has it, or though speeds beyond
@@ -167,6 +314,7 @@ fn every_count_of_levels() {
         }
     }
     both.saw("counts of levels", 20_000);
+    both.wants_editions(&[Call::Show], 5);
     both.wants(Call::Pass, 10, 10_000);
     assert_eq!(sound_still, 40);
 }
@@ -206,6 +354,7 @@ fn every_speed_at_its_edges() {
         }
     }
     both.saw("speeds at their edges", 64_000);
+    both.wants_editions(&[Call::Show], 1_000);
     both.wants(Call::Pass, 10, 20_000);
     assert!(sound_still > 1_000, "{sound_still}");
 }
@@ -226,6 +375,7 @@ fn states_with_damaged_tables() {
         }
     }
     both.saw("damaged tables", 40_000);
+    both.wants_editions(&[Call::Show], 300);
     both.wants(Call::Pass, 10, 12_000);
     both.wants(Call::Show, 10, 12_000);
     assert!(sound_still > 1_000, "{sound_still}");
@@ -252,7 +402,8 @@ fn rubbish() {
         }
         if round % 4 == 0 {
             for task in 0..ENTRIES {
-                of_task(task, ENTRY_ZERO).put(&mut state, 0);
+                of_task(task, FIXED).put(&mut state, 0);
+                of_task(task, FIXED_LEFT).put(&mut state, 0);
             }
         }
         let _ = put_state(&mut both, &mut random, &state);
@@ -272,13 +423,13 @@ fn soundness_is_asked_first() {
     let mut both = Both::new(&Levels::base());
     let mut random = Random::new(606);
     let (good, _) = reached_state(&mut random, &Levels::base(), &bench_plan(), 0);
-    // Places where a 1 is wrong: in the head, in the first entry, past the third, in the count of
-    // levels, and in the last speed.
-    let zeros = of_task(0, ENTRY_ZERO).range();
+    // Places where a 1 is wrong: in the head, as fixed ticks of the first task, for which there is no
+    // room, or as ones left of them, past the third entry, in the count of levels, and in the last
+    // speed.
     let bad_places = [
         HEAD_ZERO.at,
-        zeros.start,
-        zeros.end - 1,
+        of_task(0, FIXED).at,
+        of_task(0, FIXED_LEFT).at,
         entry_at(3),
         ENTRIES_END - 1,
         LEVEL_COUNT.at,

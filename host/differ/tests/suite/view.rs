@@ -14,6 +14,8 @@ pub struct View {
     pub to_arrival: u64,
     /// The running job's time needed at the order's level; nothing if idle.
     pub needed: Option<u64>,
+    /// How much of it are fixed ticks; none if idle.
+    pub fixed: u64,
 }
 
 impl View {
@@ -32,11 +34,20 @@ impl View {
                 state.levels.speed(order.level),
             )
         });
+        let fixed = state
+            .running
+            .map_or(0, |order| state.entries[order.task].left.fixed);
         View {
             clock,
             to_arrival,
             needed,
+            fixed,
         }
+    }
+
+    /// Whether the running job has fixed ticks left after so many ticks.
+    pub fn is_in_fixed(&self, d: u32) -> bool {
+        u64::from(d) < self.fixed
     }
 
     pub fn hold(&self) -> u64 {
@@ -101,7 +112,8 @@ impl View {
     pub fn edges(&self) -> Vec<u32> {
         let mut ticks = vec![0, 1, 2];
         let to_largest = LARGEST_CLOCK - self.clock;
-        for edge in [self.to_arrival, self.needed.unwrap_or(1), to_largest] {
+        let needed = self.needed.unwrap_or(1);
+        for edge in [self.to_arrival, needed, self.fixed, to_largest] {
             ticks.extend([edge.saturating_sub(1), edge, edge + 1, edge + 2]);
         }
         // With one high bit left out these would be a fine pass.

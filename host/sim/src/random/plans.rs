@@ -1,12 +1,12 @@
 //! Random plans: accepted ones at a chosen level, ones on each side of an edge, and lists with
-//! fields at and past their ranges.
+//! fields at and past their ranges. About half of the plans have no fixed ticks.
 
 use super::Random;
 use crate::job::time_needed;
 use crate::levels::Levels;
 use crate::plan::{
-    admission_sum, hyperperiod, judge_list, Task, LARGEST_COUNT, LARGEST_HYPERPERIOD,
-    LARGEST_PERIOD, LARGEST_WORST,
+    admission_sum, hyperperiod, judge_list, Task, LARGEST_COUNT, LARGEST_FIXED,
+    LARGEST_HYPERPERIOD, LARGEST_PERIOD, LARGEST_WORST,
 };
 
 /// The periods of a random plan are divisors of one of these numbers, so that the hyperperiod
@@ -40,11 +40,12 @@ pub fn plan_at_level_within(
 ) -> Vec<Task> {
     let usable = usable_periods(base);
     let speed = levels.speed(level);
+    let with_fixed = tries_fixed(random);
     until_found(|| {
         let count = random.between(1, LARGEST_COUNT);
         let periods: Vec<u64> = (0..count).map(|_| random.pick(&usable)).collect();
         let allotments = random_allotments(random, &periods, speed)?;
-        let tasks = tasks_with(random, &periods, &allotments, speed);
+        let tasks = tasks_with(random, &periods, &allotments, speed, with_fixed);
         let judged = judge_list(levels, &tasks).ok()?;
         (judged.nominal == level).then_some(tasks)
     })
@@ -52,11 +53,12 @@ pub fn plan_at_level_within(
 
 /// A plan with hyperperiod 1,000,000 exactly, accepted.
 pub fn plan_at_largest_hyperperiod(random: &mut Random, levels: &Levels) -> Vec<Task> {
+    let with_fixed = tries_fixed(random);
     until_found(|| {
         let periods = periods_with_hyperperiod(random, LARGEST_HYPERPERIOD)?;
         let speed = random.pick(levels.speeds());
         let allotments = random_allotments(random, &periods, speed)?;
-        let tasks = tasks_with(random, &periods, &allotments, speed);
+        let tasks = tasks_with(random, &periods, &allotments, speed, with_fixed);
         judge_list(levels, &tasks).is_ok().then_some(tasks)
     })
 }
@@ -68,6 +70,7 @@ pub fn plan_above_largest_hyperperiod(random: &mut Random) -> Vec<Task> {
         let above = LARGEST_HYPERPERIOD + random.between(1, 1_000);
         periods_with_hyperperiod(random, above)
     });
+    let with_fixed = random.one_in(2);
     let mut tasks = Vec::new();
     for period in periods {
         let worst = if random.one_in(2) {
@@ -75,7 +78,11 @@ pub fn plan_above_largest_hyperperiod(random: &mut Random) -> Vec<Task> {
         } else {
             random.between(1, LARGEST_WORST)
         };
-        tasks.push(Task { period, worst });
+        tasks.push(Task {
+            period,
+            worst,
+            fixed: some_fixed(random, with_fixed, LARGEST_FIXED),
+        });
     }
     tasks
 }
@@ -96,7 +103,7 @@ pub fn plan_one_unit_over(random: &mut Random, levels: &Levels, level: usize) ->
     let speed = levels.speed(level);
     let mut tasks = full_plan(random, levels, level);
     for task in &mut tasks {
-        task.worst = time_needed(task.whole_job(), speed) * speed;
+        task.worst = (time_needed(task.whole_job(), speed) - task.fixed) * speed;
     }
     let last = tasks.len() - 1;
     tasks[last].worst += 1;
@@ -114,6 +121,7 @@ pub fn edge_list(random: &mut Random, levels: &Levels) -> Vec<Task> {
             Task {
                 period: 1_000,
                 worst: 1,
+                fixed: 0,
             },
         );
     }
@@ -122,10 +130,10 @@ pub fn edge_list(random: &mut Random, levels: &Levels) -> Vec<Task> {
     }
     for _ in 0..random.below(3) {
         let place = random.place(tasks.len());
-        if random.one_in(2) {
-            tasks[place].period = edge_value(random, LARGEST_PERIOD);
-        } else {
-            tasks[place].worst = edge_value(random, LARGEST_WORST);
+        match random.below(3) {
+            0 => tasks[place].period = edge_value(random, LARGEST_PERIOD),
+            1 => tasks[place].worst = edge_value(random, LARGEST_WORST),
+            _ => tasks[place].fixed = edge_value(random, LARGEST_FIXED),
         }
     }
     tasks
@@ -140,9 +148,11 @@ pub fn edge_count_and_entries(random: &mut Random, levels: &Levels) -> (u64, Vec
         _ => tasks.len() as u64,
     };
     while tasks.len() < 18 {
-        let period = edge_value(random, LARGEST_PERIOD);
-        let worst = edge_value(random, LARGEST_WORST);
-        tasks.push(Task { period, worst });
+        tasks.push(Task {
+            period: edge_value(random, LARGEST_PERIOD),
+            worst: edge_value(random, LARGEST_WORST),
+            fixed: edge_value(random, LARGEST_FIXED),
+        });
     }
     (count, tasks)
 }
@@ -199,6 +209,7 @@ fn hyperperiod_of(periods: &[u64]) -> Option<u64> {
         .map(|period| Task {
             period: *period,
             worst: 1,
+            fixed: 0,
         })
         .collect();
     hyperperiod(&tasks)
@@ -229,10 +240,40 @@ fn random_allotments(random: &mut Random, periods: &[u64], speed: u64) -> Option
     Some(allotments)
 }
 
-/// Tasks that take exactly these ticks at the speed.
-fn tasks_with(random: &mut Random, periods: &[u64], ticks: &[u64], speed: u64) -> Vec<Task> {
+/// Whether a plan is sought that has fixed ticks. Many a plan has no room for them, so with two of
+/// three about half of the plans found have some.
+fn tries_fixed(random: &mut Random) -> bool {
+    !random.one_in(3)
+}
+
+/// None if the plan is to have none; else none, the most that there can be, or any between.
+fn some_fixed(random: &mut Random, with_fixed: bool, most: u64) -> u64 {
+    let most = most.min(LARGEST_FIXED);
+    if !with_fixed {
+        return 0;
+    }
+    match random.below(4) {
+        0 => 0,
+        1 => most,
+        _ => random.between(0, most),
+    }
+}
+
+/// Tasks that take exactly these ticks at the speed. If told so, some of the ticks are fixed ones. As
+/// these are the same at the speeds below, a plan at a level is harder to find with them, so now and
+/// then there are none all the same.
+fn tasks_with(
+    random: &mut Random,
+    periods: &[u64],
+    ticks: &[u64],
+    speed: u64,
+    with_fixed: bool,
+) -> Vec<Task> {
+    let with_fixed = with_fixed && !random.one_in(16);
     let mut tasks = Vec::new();
     for (period, ticks) in periods.iter().zip(ticks) {
+        // Every job has some work, which takes a tick at least.
+        let fixed = some_fixed(random, with_fixed, ticks - 1);
         // A last tick that is only partly used is a tick all the same.
         let unused = if random.one_in(2) {
             0
@@ -241,7 +282,8 @@ fn tasks_with(random: &mut Random, periods: &[u64], ticks: &[u64], speed: u64) -
         };
         tasks.push(Task {
             period: *period,
-            worst: ticks * speed - unused,
+            worst: (ticks - fixed) * speed - unused,
+            fixed,
         });
     }
     tasks
@@ -291,13 +333,14 @@ fn prime_powers(number: u64) -> Vec<u64> {
 fn plan_with_sum(random: &mut Random, speed: u64, extra: u64) -> Vec<Task> {
     let base = random.pick(&FULL_BASES);
     let usable = usable_periods(base);
+    let with_fixed = tries_fixed(random);
     until_found(|| {
         let (periods, ticks) = shares(random, &usable, base, base + extra, speed)?;
         let longest = longest_allotment(speed);
         if !ticks.iter().all(|own| (1..=longest).contains(own)) {
             return None;
         }
-        let tasks = tasks_with(random, &periods, &ticks, speed);
+        let tasks = tasks_with(random, &periods, &ticks, speed, with_fixed);
         let sum = admission_sum(&tasks, base, speed);
         (hyperperiod(&tasks) == Some(base) && sum == base + extra).then_some(tasks)
     })

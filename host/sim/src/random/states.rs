@@ -9,7 +9,9 @@ use crate::dispatch::{choose, pass, start, Order};
 use crate::job::{time_needed, Left};
 use crate::layout::{self, ENTRIES, ENTRIES_END, ENTRY_BYTES, HEAD_BYTES, SPEEDS, STATE_BYTES};
 use crate::levels::{Levels, FASTEST};
-use crate::plan::{judge_list, Judged, Task, LARGEST_COUNT, LARGEST_PERIOD, LARGEST_WORST};
+use crate::plan::{
+    judge_list, Judged, Task, LARGEST_COUNT, LARGEST_FIXED, LARGEST_PERIOD, LARGEST_WORST,
+};
 use crate::schedule::allotment;
 use crate::state::{pack, unpack, Entry, State};
 
@@ -86,9 +88,7 @@ fn invented_entry(random: &mut Random, task: &Task, nominal: u64, ended: u64) ->
     let left = if !random.one_in(ended) {
         Left::NOTHING
     } else {
-        Left {
-            work: random.between(0, task.worst),
-        }
+        invented_left(random, task)
     };
     let least = time_needed(left, nominal);
     let plain_left = match random.below(3) {
@@ -101,6 +101,21 @@ fn invented_entry(random: &mut Random, task: &Task, nominal: u64, ended: u64) ->
         left,
         plain_left,
     }
+}
+
+/// Any work and any fixed ticks left, with or without the whole work: soundness asks no more.
+fn invented_left(random: &mut Random, task: &Task) -> Left {
+    let fixed = match random.below(3) {
+        0 => 0,
+        1 => task.fixed,
+        _ => random.between(0, task.fixed),
+    };
+    let work = if random.one_in(4) {
+        task.worst
+    } else {
+        random.between(1, task.worst)
+    };
+    Left { fixed, work }
 }
 
 /// A sound state with something changed: some bytes, one field moved to an edge, its table of speeds,
@@ -155,7 +170,7 @@ fn with_a_field_changed(random: &mut Random, block: &[u8; STATE_BYTES]) -> Vec<u
     let (mut state, judged) = unpack_sound(block);
     let place = random.place(state.entries.len());
     let mut forged = block.to_vec();
-    match random.below(9) {
+    match random.below(12) {
         0 => layout::CLOCK.put(&mut forged, another_clock(random, state.clock)),
         1 => layout::TASK.put(&mut forged, another_task(random, &state, place)),
         2 => {
@@ -164,7 +179,7 @@ fn with_a_field_changed(random: &mut Random, block: &[u8; STATE_BYTES]) -> Vec<u
             layout::LEVEL.put(&mut forged, other);
         }
         3 => layout::COUNT.put(&mut forged, another_count(random, &state)),
-        4 => fill_an_empty_byte(random, &mut forged, place),
+        4 => fill_an_empty_byte(random, &mut forged, state.entries.len()),
         kind => {
             let nominal = state.levels.speed(judged.nominal);
             change_an_entry(random, &mut state.entries[place], kind, nominal);
@@ -280,20 +295,27 @@ fn another_count(random: &mut Random, state: &State) -> u64 {
     random.pick(&[0, 1, most, most + 1, 255, count - 1, count + 1])
 }
 
-/// Anything into a byte that is zero in a sound state: of the head, of the entry at this place, or
-/// of the last entry.
-fn fill_an_empty_byte(random: &mut Random, block: &mut [u8], place: usize) {
-    let zeros = layout::of_task(place, layout::ENTRY_ZERO).range();
+/// Anything into a byte that is zero in a sound state: of the head, of the first entry past the
+/// count, or of the last entry. With sixteen tasks the last entry is in use.
+fn fill_an_empty_byte(random: &mut Random, block: &mut [u8], count: usize) {
+    let past = layout::entry_at(count.min(ENTRIES - 1));
     let last = layout::entry_at(ENTRIES - 1);
     let (head, end) = (layout::HEAD_ZERO.at, ENTRIES_END - 1);
-    let empty = [head, zeros.start, zeros.end - 1, last, end];
+    let empty = [head, past, past + ENTRY_BYTES - 1, last, end];
     block[random.pick(&empty)] = random.number() as u8;
 }
 
-/// Other work or plain ticks left, or another period or worst case.
+/// Other work, fixed ticks or plain ticks left, or another period, worst case or fixed ticks.
 fn change_an_entry(random: &mut Random, entry: &mut Entry, kind: u64, nominal: u64) {
-    let Task { period, worst } = entry.task;
-    let work = entry.left.work;
+    let Task {
+        period,
+        worst,
+        fixed,
+    } = entry.task;
+    let Left {
+        fixed: fixed_left,
+        work,
+    } = entry.left;
     match kind {
         5 => {
             entry.left.work = random.pick(&[0, 1, worst - 1, worst, worst + 1, work + 1]);
@@ -310,10 +332,20 @@ fn change_an_entry(random: &mut Random, entry: &mut Entry, kind: u64, nominal: u
             let choices = [0, 1, period - 1, longer, LARGEST_PERIOD, twice];
             entry.task.period = random.pick(&choices);
         }
-        _ => {
+        8 => {
             let past = LARGEST_WORST + 1;
             let choices = [0, 1, worst - 1, worst + 1, work, LARGEST_WORST, past];
             entry.task.worst = random.pick(&choices);
+        }
+        9 => {
+            let fewer = fixed.saturating_sub(1);
+            let choices = [0, 1, fewer, fixed + 1, fixed_left, LARGEST_FIXED];
+            entry.task.fixed = random.pick(&choices);
+        }
+        _ => {
+            let fewer = fixed_left.saturating_sub(1);
+            let choices = [0, 1, fewer, fixed_left + 1, fixed, fixed + 1, LARGEST_FIXED];
+            entry.left.fixed = random.pick(&choices);
         }
     }
 }

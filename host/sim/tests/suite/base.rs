@@ -3,16 +3,17 @@
 
 use sim::job::Left;
 use sim::plan::{Judged, Task};
-use sim::{Levels, Order, PlainBook, Schedule};
+use sim::{ActualBook, Levels, Order, PlainBook, Schedule};
 
 /// The level block of 01's speeds, packed by hand.
 pub const BASE_LEVELS: [u8; 11] = [
     0x80, 0x28, 0x14, 0x07, 0x82, 0x80, 0xc8, 0x3c, 0x14, 0x06, 0x40,
 ];
 
-/// The time that so much work needs at a level.
+/// The time that so much work needs at a level, with no fixed ticks before it.
 pub fn time_needed(work: u64, level: usize) -> u64 {
-    sim::job::time_needed(Left { work }, Levels::base().speed(level))
+    let left = Left { fixed: 0, work };
+    sim::job::time_needed(left, Levels::base().speed(level))
 }
 
 pub fn admission_sum(tasks: &[Task], hyperperiod: u64, level: usize) -> u64 {
@@ -46,6 +47,10 @@ pub fn listing(rest: &[u8]) -> Vec<u8> {
 
 pub fn plain_schedule(tasks: &[Task], nominal: usize) -> Schedule {
     Schedule::new(&Levels::base(), tasks, nominal)
+}
+
+pub fn actual_book(plan: &[Task], first: Order) -> ActualBook {
+    ActualBook::new(&Levels::base(), plan, first)
 }
 
 pub fn plain_book(plan: &[Task]) -> PlainBook {

@@ -85,7 +85,7 @@ fn a_refused_reading_is_the_only_line() {
     // Nothing after the level block, and a single byte.
     assert_eq!(text(&[]), "refused 1\n");
     assert_eq!(text(&[0x10]), "refused 1\n");
-    assert_eq!(text(&[0x20, 0x80]), "refused 2\n");
+    assert_eq!(text(&[0x30, 0x80]), "refused 2\n");
     // Count 0 and count 17, each with bytes to follow.
     assert_eq!(text(&[0x10, 0x00, 0x00]), "refused 3\n");
     assert_eq!(text(&[0x18, 0x80, 0x00]), "refused 3\n");

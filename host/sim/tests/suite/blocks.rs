@@ -33,13 +33,7 @@ fn the_example_block_is_written() {
 
 #[test]
 fn one_task_takes_6_bytes_and_sixteen_take_74() {
-    let sixteen = vec![
-        Task {
-            period: 1_000,
-            worst: 37
-        };
-        16
-    ];
+    let sixteen = tasks(&[(1_000, 37); 16]);
     let mut buffer = [0; 74];
     assert_eq!(write_plan(1, &sixteen, &mut buffer), Ok(6));
     assert_eq!(write_plan(16, &sixteen, &mut buffer), Ok(74));
@@ -70,6 +64,7 @@ fn entries_past_the_count_are_not_looked_at() {
     long.push(Task {
         period: 0,
         worst: u64::MAX,
+        fixed: u64::MAX,
     });
     assert_eq!(judge(3, &long), judge_list(&bench_plan()));
     assert_eq!(judge(4, &long), Err(6));

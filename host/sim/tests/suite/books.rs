@@ -1,6 +1,6 @@
 //! The books, and that demand 3 checked on them can fail.
 
-use crate::base::{plain_book, plain_schedule};
+use crate::base::{actual_book, plain_book, plain_schedule};
 use crate::common::{bench_plan, idle, run, tasks};
 use sim::books::{demand3_holds, ActualBook, BookJob, PlainBook};
 use sim::plan::Task;
@@ -15,7 +15,7 @@ struct Books {
 impl Books {
     fn new(plan: Vec<Task>, first: sim::Order) -> Books {
         Books {
-            actual: ActualBook::new(&plan, first),
+            actual: actual_book(&plan, first),
             plain: plain_book(&plan),
             plan,
         }
@@ -136,7 +136,7 @@ fn each_part_of_the_check_can_fail() {
         book.pass(ticks, Ok(idle(1)));
         book
     };
-    let fresh = ActualBook::new(&plan, run(0, 0, 1));
+    let fresh = actual_book(&plan, run(0, 0, 1));
     assert_eq!(demand3_holds(&plan, &fresh, &plain_at(0)), Ok(()));
     assert!(demand3_holds(&plan, &fresh, &plain_at(1))
         .unwrap_err()
@@ -150,7 +150,7 @@ fn each_part_of_the_check_can_fail() {
     // Both late: told a period of 1, jobs from 0 have their deadline at 1.
     let shorter = tasks(&[(1, 10)]);
     let slow = tasks(&[(2, 20)]);
-    let mut actual = ActualBook::new(&slow, run(0, 0, 2));
+    let mut actual = actual_book(&slow, run(0, 0, 2));
     let mut plain = plain_book(&slow);
     actual.pass(1, false, Ok(run(0, 0, 1)));
     plain.pass(1, Ok(run(0, 0, 1)));
@@ -159,7 +159,7 @@ fn each_part_of_the_check_can_fail() {
         .unwrap_err()
         .starts_with("late in the dispatcher"));
     // Late in the plain schedule alone: the dispatcher's job ended early.
-    let mut ended = ActualBook::new(&slow, run(0, 0, 2));
+    let mut ended = actual_book(&slow, run(0, 0, 2));
     ended.pass(1, true, Ok(idle(1)));
     assert_eq!(demand3_holds(&slow, &ended, &plain), Ok(()));
     assert!(demand3_holds(&shorter, &ended, &plain)
@@ -171,14 +171,14 @@ fn each_part_of_the_check_can_fail() {
 fn finished_closes_the_latest_job_and_no_older_one() {
     // Period 1, the job from tick 0 replaced at tick 1 while open.
     let plan = tasks(&[(1, 10)]);
-    let mut book = ActualBook::new(&plan, run(0, 0, 1));
+    let mut book = actual_book(&plan, run(0, 0, 1));
     book.pass(1, false, Ok(run(0, 0, 1)));
     book.pass(1, true, Ok(run(0, 0, 1)));
     assert_eq!(open_jobs(book.jobs()), [(0, 0), (0, 2)]);
 
     // The latest job already closed and forgotten: the older one stays open all the same.
     let plan = tasks(&[(2, 10)]);
-    let mut book = ActualBook::new(&plan, run(0, 0, 1));
+    let mut book = actual_book(&plan, run(0, 0, 1));
     book.pass(2, false, Ok(run(0, 0, 1)));
     book.pass(1, true, Ok(run(0, 0, 1)));
     book.forget_closed();

@@ -21,19 +21,35 @@ pub const BENCH_PASSES: [(u32, bool); 6] = [
     (2, false),
 ];
 
-/// Tasks from pairs of period and worst case.
+/// Tasks from pairs of period and worst case, without fixed ticks.
 pub fn tasks(pairs: &[(u64, u64)]) -> Vec<Task> {
-    pairs
-        .iter()
-        .map(|(period, worst)| Task {
-            period: *period,
-            worst: *worst,
-        })
-        .collect()
+    let task = |(period, worst): &(u64, u64)| task(*period, *worst, 0);
+    pairs.iter().map(task).collect()
+}
+
+/// Tasks from period, worst case and fixed ticks.
+pub fn fixed_tasks(triples: &[(u64, u64, u64)]) -> Vec<Task> {
+    let task = |(period, worst, fixed): &(u64, u64, u64)| task(*period, *worst, *fixed);
+    triples.iter().map(task).collect()
+}
+
+fn task(period: u64, worst: u64, fixed: u64) -> Task {
+    Task {
+        period,
+        worst,
+        fixed,
+    }
 }
 
 pub fn bench_plan() -> Vec<Task> {
     tasks(&[(10, 400), (10, 400), (30, 600)])
+}
+
+/// A plan with fixed ticks. At 40 units a tick its tasks take 2 + 3 ticks of 10 and 6 + 13 of 40,
+/// so 20 and 19 of 40. At 30 they take 2 + 4 and 6 + 17, so 24 and 23: too much. Nominal is level
+/// 3.
+pub fn sensor_plan() -> Vec<Task> {
+    fixed_tasks(&[(10, 100, 2), (40, 500, 6)])
 }
 
 pub fn run(task: u8, level: u8, hold: u32) -> Order {

@@ -4,18 +4,12 @@ use crate::base::{admission_sum, judge, judge_list, read_plan, write_plan};
 use crate::common::{bench_plan, led, queue, refuses_pass, refuses_show, run, tasks, BENCH_PASSES};
 use sim::block::{pack_block, Edition};
 use sim::dispatch::{pass, show};
-use sim::plan::{Judged, Task};
+use sim::plan::Judged;
 
 #[test]
 fn empty_block_and_count_17() {
     assert_eq!(read_plan(&[]), Err(1));
-    let seventeen = vec![
-        Task {
-            period: 1_000,
-            worst: 1
-        };
-        17
-    ];
+    let seventeen = tasks(&[(1_000, 1); 17]);
     let block = pack_block(Edition::FIRST, 17, &seventeen);
     assert_eq!(read_plan(&block), Err(3));
     assert_eq!(judge_list(&seventeen), Err(3));

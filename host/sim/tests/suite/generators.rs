@@ -5,7 +5,7 @@ use sim::dispatch::{pass, show};
 use sim::layout::STATE_BYTES;
 use sim::levels::Levels;
 use sim::plan::Task;
-use sim::random::blocks::{bench_input, block_of, damaged_block};
+use sim::random::blocks::{bench_input, block_of, block_of_no_additions, damaged_block};
 use sim::random::passes::{any_pass, likely_pass};
 use sim::random::plans::{
     edge_count_and_entries, edge_list, full_plan, plan_above_largest_hyperperiod,
@@ -72,6 +72,43 @@ fn plans_vary() {
     assert!(hyperperiods.len() > 40);
 }
 
+fn has_fixed(tasks: &[Task]) -> bool {
+    tasks.iter().any(|task| task.fixed > 0)
+}
+
+#[test]
+fn plans_come_with_and_without_fixed_ticks() {
+    let mut random = Random::new(17);
+    let mut seen: BTreeMap<(&str, bool), u32> = BTreeMap::new();
+    let mut fixed_ticks = BTreeSet::new();
+    let mut counts = BTreeSet::new();
+    for round in 0..800 {
+        let levels = some_or_base_levels(&mut random);
+        let level = random.place(levels.count());
+        let plans = [
+            ("level", plan_at_level(&mut random, &levels, level)),
+            ("small", small_plan(&mut random, round)),
+            ("largest", plan_at_largest_hyperperiod(&mut random, &levels)),
+            ("above", plan_above_largest_hyperperiod(&mut random)),
+            ("full", full_plan(&mut random, &levels, level)),
+            ("over", plan_one_over(&mut random, &levels, level)),
+            ("unit", plan_one_unit_over(&mut random, &levels, level)),
+        ];
+        for (kind, tasks) in plans {
+            *seen.entry((kind, has_fixed(&tasks))).or_default() += 1;
+            fixed_ticks.extend(tasks.iter().map(|task| task.fixed));
+            if has_fixed(&tasks) {
+                counts.insert(tasks.len());
+            }
+        }
+    }
+    // Each kind both ways, in all numbers of tasks and of fixed ticks.
+    assert_eq!(seen.len(), 14);
+    assert!(seen.values().all(|times| *times > 200), "{seen:?}");
+    assert_eq!(counts, (1..=16).collect());
+    assert_eq!(fixed_ticks, (0..=255).collect());
+}
+
 #[test]
 fn plans_around_the_largest_hyperperiod() {
     let levels = Levels::base();
@@ -122,16 +159,20 @@ fn edge_lists_meet_every_answer_and_agree() {
     let levels = Levels::base();
     let mut random = Random::new(5);
     let mut answers = BTreeSet::new();
+    let mut editions = BTreeSet::new();
+    let mut refused_for_fixed = 0;
     for _ in 0..600 {
         let list = edge_list(&mut random, &levels);
         answers.insert(judge_list(&list).err());
+        refused_for_fixed += u32::from(only_fixed_is_out_of_range(&list));
         let (count, entries) = edge_count_and_entries(&mut random, &levels);
         let judged = judge(count, &entries);
         answers.insert(judged.err());
         // Writing says the same, and what is written reads back as the same plan.
-        let mut buffer = [0xa5; 80];
+        let mut buffer = [0xa5; 100];
         match write_plan(count, &entries, &mut buffer) {
             Ok(length) => {
+                editions.insert(buffer[0] >> 4);
                 let (tasks, read) = read_plan(&buffer[..length]).unwrap();
                 assert_eq!(tasks, entries[..count as usize]);
                 assert_eq!(Ok(read), judged);
@@ -139,7 +180,7 @@ fn edge_lists_meet_every_answer_and_agree() {
             }
             Err(number) => {
                 assert_eq!(judged, Err(number));
-                assert_eq!(buffer, [0xa5; 80]);
+                assert_eq!(buffer, [0xa5; 100]);
             }
         }
     }
@@ -147,6 +188,19 @@ fn edge_lists_meet_every_answer_and_agree() {
         answers,
         BTreeSet::from([None, Some(3), Some(6), Some(7), Some(8)])
     );
+    assert_eq!(editions, BTreeSet::from([1, 2]));
+    assert!(refused_for_fixed > 20, "{refused_for_fixed}");
+}
+
+/// Refused with 6, and not if the fixed ticks past 255 were none.
+fn only_fixed_is_out_of_range(list: &[Task]) -> bool {
+    let mut within = list.to_vec();
+    for task in &mut within {
+        if task.fixed > 255 {
+            task.fixed = 0;
+        }
+    }
+    judge_list(list) == Err(6) && judge_list(&within) != Err(6)
 }
 
 #[test]
@@ -154,6 +208,7 @@ fn damaged_blocks_meet_every_answer_and_write_back() {
     let levels = Levels::base();
     let mut random = Random::new(6);
     let mut answers = BTreeSet::new();
+    let mut editions = BTreeSet::new();
     for round in 0..1_500 {
         let tasks = plan_at_level(&mut random, &levels, round % levels.count());
         let block = damaged_block(&mut random, &block_of(&tasks));
@@ -172,6 +227,7 @@ fn damaged_blocks_meet_every_answer_and_write_back() {
                 assert_eq!(buffer, block);
                 assert!(started.is_ok());
                 assert!(is_sound(&state));
+                editions.insert(block[0] >> 4);
             }
             Err(number) => {
                 assert_eq!(started, Err(number));
@@ -179,7 +235,44 @@ fn damaged_blocks_meet_every_answer_and_write_back() {
             }
         }
     }
-    assert_eq!(answers.len(), 9, "accepted and 1 to 8: {answers:?}");
+    assert_eq!(answers.len(), 10, "accepted, 1 to 8, 21: {answers:?}");
+    assert_eq!(editions, BTreeSet::from([1, 2]));
+}
+
+#[test]
+fn damaged_blocks_of_edition_2_have_spare_bits_set_or_no_additions() {
+    let levels = Levels::base();
+    let mut random = Random::new(18);
+    let (mut spare, mut closing, mut none) = (0, 0, 0);
+    for round in 0..2_000 {
+        let tasks = plan_at_level(&mut random, &levels, round % levels.count());
+        if !has_fixed(&tasks) {
+            assert_eq!(read_plan(&block_of_no_additions(&tasks)), Err(21));
+            continue;
+        }
+        let end = 9 + 47 * tasks.len();
+        let block = block_of(&tasks);
+        let damaged = damaged_block(&mut random, &block);
+        if damaged.len() != block.len() {
+            continue;
+        }
+        let set = |place: usize| damaged[place / 8] & (0x80 >> (place % 8)) != 0;
+        let spare_set = (9..end).any(|place| (place - 9) % 47 >= 44 && set(place));
+        let closing_set = (end..8 * block.len()).any(set);
+        match read_plan(&damaged) {
+            Err(5) => {
+                assert!(spare_set || closing_set);
+                spare += u32::from(!closing_set);
+                closing += u32::from(!spare_set);
+            }
+            Err(21) => none += 1,
+            _ => {}
+        }
+    }
+    assert!(
+        spare > 40 && closing > 40 && none > 40,
+        "{spare} {closing} {none}"
+    );
 }
 
 #[test]
@@ -232,8 +325,8 @@ fn sound_states_stay_sound_whatever_is_passed() {
     let levels = Levels::base();
     let mut random = Random::new(8);
     let mut answers = BTreeSet::new();
-    let (mut still_sound, mut unsound) = (0, 0);
-    for round in 0..1_200 {
+    let (mut still_sound, mut unsound, mut part_of_both) = (0, 0, 0);
+    for round in 0..2_400 {
         let tasks = small_plan(&mut random, round);
         let start = match round % 3 {
             0 => invented_state(&mut random, &levels, &tasks),
@@ -249,12 +342,18 @@ fn sound_states_stay_sound_whatever_is_passed() {
             continue;
         }
         still_sound += 1;
+        let entries = sim::state::unpack(&state).unwrap().entries;
+        let partly =
+            |entry: &sim::state::Entry| entry.left.fixed > 0 && entry.left.work < entry.task.worst;
+        part_of_both += u32::from(entries.iter().any(partly));
         lead_on(&mut random, &mut state, &mut answers);
     }
     assert!(
-        still_sound > 200 && unsound > 200,
+        still_sound > 400 && unsound > 400,
         "{still_sound} sound, {unsound} not"
     );
+    // With fixed ticks left and work below the worst case, which no run can reach.
+    assert!(part_of_both > 10, "{part_of_both}");
     assert_eq!(answers, BTreeSet::from([11, 12, 13, 14, 15]));
 }
 

@@ -21,7 +21,7 @@ fn refuses(levels: &[u8], number: u32) {
         assert_eq!(sim::judge_list(levels, &list), Err(number));
         refuses_buffers(levels, &list, number);
     }
-    for block in [&BENCH_BLOCK[..], &[], &[0x20, 0x00]] {
+    for block in [&BENCH_BLOCK[..], &[], &[0x30, 0x00]] {
         assert_eq!(sim::read_plan(levels, block), Err(number));
     }
     // In a listing, where 17 alone comes before it.

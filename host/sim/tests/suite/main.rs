@@ -7,6 +7,8 @@ mod blocks;
 mod books;
 mod common;
 mod edges;
+mod fixed_plans;
+mod fixed_ticks;
 mod generators;
 mod level_blocks;
 mod passes;

@@ -1,5 +1,5 @@
 //! Each refusal number from 1 to 17 is reached, from every call that can give it, and the questions
-//! come in 01's order. 18 to 20 are in `level_blocks`.
+//! come in 01's order. 18 to 20 are in `level_blocks`, and 21 is in `fixed_plans`.
 
 use crate::base::{judge, judge_list, listing, read_plan, start, write_plan};
 use crate::common::{bench_plan, led, refuses_pass, refuses_show, tasks, BENCH_BLOCK};
@@ -44,7 +44,7 @@ fn number_1() {
 
 #[test]
 fn number_2() {
-    for edition in (0..16).filter(|edition| *edition != 1).map(Edition) {
+    for edition in [0].into_iter().chain(3..16).map(Edition) {
         refuses_block(&pack_block(edition, 3, &bench_plan()), 2);
         // Before the count and the length.
         refuses_block(&pack_block(edition, 0, &[]), 2);
@@ -58,13 +58,7 @@ fn number_3() {
     }
     // Before 6.
     refuses_tasks(&[], 3);
-    refuses_tasks(
-        &[Task {
-            period: 0,
-            worst: 0,
-        }; 17],
-        3,
-    );
+    refuses_tasks(&tasks(&[(0, 0); 17]), 3);
     for count in [0, 17, 32, 256, u64::MAX] {
         assert_eq!(judge(count, &bench_plan()), Err(3));
         assert_eq!(write_plan(count, &bench_plan(), &mut []), Err(3));
@@ -135,7 +129,7 @@ fn number_7() {
         65_521, 65_519, 65_497, 65_479, 65_449, 65_447, 65_437, 65_423, 65_419, 65_413, 65_407,
         65_393, 65_381, 65_371, 65_357, 65_353,
     ];
-    refuses_tasks(&primes.map(|period| Task { period, worst: 1 }), 7);
+    refuses_tasks(&tasks(&primes.map(|period| (period, 1))), 7);
 }
 
 #[test]

@@ -14,9 +14,10 @@ use sim::random::plans::{full_plan, plan_at_level, plan_at_level_within, SMALL_B
 use sim::random::tables::some_levels;
 use sim::random::Random;
 use sim::schedule::urgency;
+use sim::state::unpack;
 
 /// What went on in the runs, to be sure that they met what they are for.
-#[derive(Default)]
+#[derive(Default, Debug)]
 struct Tally {
     runs: u64,
     accepted: u64,
@@ -26,6 +27,26 @@ struct Tally {
     interrupted: u64,
     below_nominal: u64,
     idle: u64,
+    /// Runs of plans that have fixed ticks.
+    with_fixed: u64,
+    /// Passes that end with fixed ticks of the running job left: it ended there, goes on, or was
+    /// interrupted by an arrival.
+    finished_in_fixed: u64,
+    stayed_in_fixed: u64,
+    interrupted_in_fixed: u64,
+}
+
+impl Tally {
+    /// So many runs with fixed ticks and as many without, and passes of each kind that end inside
+    /// them.
+    #[track_caller]
+    fn wants_fixed_ticks(&self, runs: u64) {
+        let without = self.runs - self.with_fixed;
+        assert!(self.with_fixed > runs && without > runs, "{self:?}");
+        assert!(self.finished_in_fixed > 4 * runs, "{self:?}");
+        assert!(self.stayed_in_fixed > 2 * runs, "{self:?}");
+        assert!(self.interrupted_in_fixed > runs / 4, "{self:?}");
+    }
 }
 
 struct Run {
@@ -35,8 +56,8 @@ struct Run {
     order: Order,
     actual: ActualBook,
     plain: PlainBook,
-    /// Work left of each task's latest job, told by the passes and replies alone.
-    work: Vec<u64>,
+    /// What is left of each task's latest job, told by the passes and replies alone, tick by tick.
+    left: Vec<Left>,
 }
 
 impl Run {
@@ -44,9 +65,9 @@ impl Run {
         let mut state = [0; STATE_BYTES];
         let order = start(levels, &block_of(&plan), &mut state).unwrap();
         let run = Run {
-            actual: ActualBook::new(&plan, order),
+            actual: ActualBook::new(levels, &plan, order),
             plain: PlainBook::new(levels, &plan),
-            work: plan.iter().map(|task| task.worst).collect(),
+            left: plan.iter().map(Task::whole_job).collect(),
             levels: levels.clone(),
             plan,
             state,
@@ -81,18 +102,27 @@ impl Run {
 
     /// Checks the order against the definitions, after an accepted pass.
     fn follow(&mut self, d: u32, finished: bool, order: Order, tally: &mut Tally) {
+        let mut in_fixed = false;
         if let Order::Run { task, level, .. } = self.order {
-            let work = &mut self.work[usize::from(task)];
-            let done = u64::from(d) * self.levels.speed(usize::from(level));
-            if finished && done < *work {
+            let left = &mut self.left[usize::from(task)];
+            for _ in 0..d {
+                one_tick(left, self.levels.speed(usize::from(level)));
+            }
+            in_fixed = left.fixed > 0;
+            if finished && left.is_open() {
                 tally.finished_early += 1;
             }
-            *work = if finished { 0 } else { *work - done };
+            if finished {
+                *left = Left::NOTHING;
+            } else {
+                assert!(left.is_open());
+            }
         }
+        tally.finished_in_fixed += u64::from(finished && in_fixed);
         let mut arrived = false;
-        for (task, work) in self.plan.iter().zip(&mut self.work) {
+        for (task, left) in self.plan.iter().zip(&mut self.left) {
             if self.actual.clock() % task.period == 0 {
-                *work = task.worst;
+                *left = task.whole_job();
                 arrived = true;
             }
         }
@@ -100,9 +130,11 @@ impl Run {
             assert_eq!(order, self.new_order());
             if !finished && matches!(self.order, Order::Run { .. }) {
                 tally.interrupted += 1;
+                tally.interrupted_in_fixed += u64::from(in_fixed);
             }
         } else {
             tally.stayed += 1;
+            tally.stayed_in_fixed += u64::from(in_fixed);
             assert_eq!(order, with_less_hold(self.order, d));
         }
         self.order = order;
@@ -117,7 +149,7 @@ impl Run {
         }
     }
 
-    /// A new order as 01 defines it, from the books and the work left.
+    /// A new order as 01 defines it, from the books and what is left of the jobs.
     fn new_order(&self) -> Order {
         let clock = self.actual.clock();
         let to_arrival = |task: &Task| task.period - clock % task.period;
@@ -139,8 +171,8 @@ impl Run {
                 allowance += plain.left;
             }
         }
-        let work = self.work[job.task];
-        let needed = |level| time_needed(Left { work }, self.levels.speed(level));
+        let left = self.left[job.task];
+        let needed = |level| time_needed(left, self.levels.speed(level));
         let level = (0..self.levels.count())
             .find(|level| needed(*level) <= allowance)
             .unwrap();
@@ -166,6 +198,11 @@ impl Run {
             .map(|job| (job.task, job.left))
             .collect();
         assert_eq!(queue(&self.state), plain, "{:?}", self.plan);
+        // What the dispatcher's book keeps of the jobs is what the state says of them.
+        assert_eq!(self.actual.left(), self.left, "{:?}", self.plan);
+        let entries = unpack(&self.state).unwrap().entries;
+        let in_state: Vec<Left> = entries.iter().map(|entry| entry.left).collect();
+        assert_eq!(in_state, self.left, "{:?}", self.plan);
         let shown = 3 * plain.len();
         if shown > 0 {
             let mut short = [0xa5; 48];
@@ -173,6 +210,16 @@ impl Run {
             assert_eq!(show(&self.state, room), Err(9));
             assert_eq!(short, [0xa5; 48]);
         }
+    }
+}
+
+/// A tick of a job: a fixed one while there are some, then one at the speed, whose last may be used
+/// only partly.
+fn one_tick(left: &mut Left, speed: u64) {
+    if left.fixed > 0 {
+        left.fixed -= 1;
+    } else {
+        left.work -= speed.min(left.work);
     }
 }
 
@@ -202,6 +249,7 @@ fn run_on_a_small_plan(levels: &Levels, random: &mut Random, round: u32, tally: 
         return;
     }
     tally.runs += 1;
+    tally.with_fixed += u64::from(plan.iter().any(|task| task.fixed > 0));
     let mut run = Run::new(levels, plan);
     for _ in 0..120 {
         run.step(random, tally);
@@ -228,6 +276,7 @@ fn random_runs_on_small_plans() {
     assert!(tally.interrupted > 200, "{}", tally.interrupted);
     assert!(tally.below_nominal > 1_000, "{}", tally.below_nominal);
     assert!(tally.idle > 1_000, "{}", tally.idle);
+    tally.wants_fixed_ticks(100);
 }
 
 #[test]
@@ -259,4 +308,5 @@ fn random_runs_with_random_tables() {
     assert!(tally.finished_early > 2_000, "{}", tally.finished_early);
     assert!(tally.interrupted > 100, "{}", tally.interrupted);
     assert!(tally.below_nominal > 500, "{}", tally.below_nominal);
+    tally.wants_fixed_ticks(60);
 }

@@ -243,14 +243,17 @@ fn soundness_is_asked_with_the_states_own_table() {
 fn ticks_take_their_time_from_a_job_at_every_speed() {
     for speed in [1, 2, 3, 7, 29, 99, 100, 999, 1_000] {
         for work in (1..400).chain([999, 1_000, 1_001, 1_048_575]) {
-            let left = Left { work };
-            let needed = time_needed(left, speed);
-            // The last tick is needed, and no tick more.
-            assert!((needed - 1) * speed < work && work <= needed * speed);
-            for d in (1..needed).take(20) {
-                let rest = left_after(left, d, speed);
-                assert!(rest.is_open() && rest.is_within(left));
-                assert_eq!(time_needed(rest, speed), needed - d);
+            for fixed in [0, 1, 2, 7, 255] {
+                let left = Left { fixed, work };
+                let needed = time_needed(left, speed);
+                // The last tick is needed, and no tick more.
+                let for_work = needed - fixed;
+                assert!((for_work - 1) * speed < work && work <= for_work * speed);
+                for d in (1..needed).take(20).chain([needed - 1]) {
+                    let rest = left_after(left, d, speed);
+                    assert!(rest.is_open() && rest.is_within(left));
+                    assert_eq!(time_needed(rest, speed), needed - d);
+                }
             }
         }
         assert_eq!(time_needed(Left::NOTHING, speed), 0);

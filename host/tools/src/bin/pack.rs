@@ -21,15 +21,18 @@ The text form, line by line:
 
   speeds S1 S2 ..        the levels' speeds, before all else; without this line
                          10 20 30 40 50 60 80 100
-  task PERIOD WORST      a task; all tasks come before the passes
+  task PERIOD WORST [FIXED]
+                         a task, FIXED being its fixed ticks, 0 where it is left
+                         out; all tasks come before the passes
   pass D                 D ticks went by, the running job has not finished
   finish D               D ticks went by, the running job finished at their end
   # ...                  a comment, also after one of the above
 
 Blank lines are ignored. Numbers are decimal: a speed 0 to 1023, PERIOD 0 to
-65535, WORST 0 to 1048575, D 0 to 32767; at most 15 speeds and 31 tasks. What
-the dispatcher would refuse can be packed too, as long as it fits; a warning
-then names the refusal.
+65535, WORST 0 to 1048575, FIXED 0 to 255, D 0 to 32767; at most 15 speeds and
+31 tasks. The plan block is of edition 2 if a task has fixed ticks, else of
+edition 1. What the dispatcher would refuse can be packed too, as long as it
+fits; a warning then names the refusal.
 
 Errors name the line of the text (from 1) or the byte of the input (from 0).
 ";

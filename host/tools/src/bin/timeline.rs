@@ -20,8 +20,8 @@ to one hyperperiod past that end. Long runs are scaled down to fit.
 
 Each task has a row: its jobs as bars where they ran, as high as the level is
 fast among the loaded speeds, and beneath them the canonical (\"plain\")
-schedule. Refused passes are
-marked at their tick with their number. The legend tells the rest.
+schedule. Fixed ticks are hatched in both. Refused passes are marked at their
+tick with their number. The legend tells the rest.
 ";
 
 #[derive(Default)]

@@ -51,7 +51,11 @@ fn title_words(run: &Run) -> Vec<String> {
         } else {
             ','
         };
-        parts.push(format!("({}, {}){mark}", task.period, task.worst));
+        let fixed = match task.fixed {
+            0 => String::new(),
+            ticks => format!(", {ticks}"),
+        };
+        parts.push(format!("({}, {}{fixed}){mark}", task.period, task.worst));
     }
     parts.push(format!("nominal level {}", run.judged.nominal));
     parts

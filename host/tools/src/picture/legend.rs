@@ -1,8 +1,9 @@
 //! What the signs mean.
 
 use super::style::{
-    arrival_mark, bar, canonical_bar, colour, deadline_mark, finish_mark, idle_bar, level_height,
-    nominal_line, ordered_box, refused_mark, soft_words, text_width, unused_box, words, INK,
+    arrival_mark, bar, canonical_bar, colour, deadline_mark, finish_mark, fixed_part, idle_bar,
+    level_height, nominal_line, ordered_box, rectangle, refused_mark, soft_words, text_width,
+    unused_box, words, INK,
 };
 use crate::svg::Element;
 use sim::levels::Levels;
@@ -17,10 +18,11 @@ const SCALE: f64 = 24.0;
 /// A sign drawn into a box with this left edge and this middle line, and its meaning.
 type Item = (fn(f64, f64) -> Element, &'static str);
 
-const ITEMS: [Item; 9] = [
+const ITEMS: [Item; 10] = [
     (|x, y| arrival_mark(x + 13.0, y - 4.0), "arrival of a job"),
     (|x, y| deadline_mark(x + 13.0, y + 4.0), "deadline of a job"),
     (|x, y| finish_mark(x + 13.0, y), "the job finished"),
+    (hatched, "fixed ticks: as long at every level"),
     (
         |x, y| unused_box(x, y - 6.0, 24.0, 12.0),
         "unused: the job ended so many ticks early",
@@ -40,6 +42,15 @@ const ITEMS: [Item; 9] = [
         "refused pass, with its number",
     ),
 ];
+
+/// Fixed ticks, on a bar of some level.
+fn hatched(x: f64, y: f64) -> Element {
+    let (y, wide, high) = (y - 6.0, 24.0, 12.0);
+    let below = rectangle(x, y, wide, high).set("fill", colour(5));
+    Element::new("g")
+        .with(below.set("stroke", INK))
+        .with(fixed_part("fixed", x, y, wide, high))
+}
 
 /// The legend and its height.
 pub fn draw(levels: &Levels, left: f64, top: f64, right: f64) -> (Element, f64) {
@@ -76,6 +87,6 @@ fn add_levels(levels: &Levels, left: f64, top: f64, group: &mut Element) {
         group.add(speed.set("text-anchor", "middle"));
     }
     let x = first + levels.count() as f64 * (SWATCH + 2.0) + 10.0;
-    let text = "a bar is as high as its level is fast: its area is the work done";
+    let text = "a bar is as high as its level is fast: its area, unless hatched, is the work done";
     group.add(soft_words(x, base + 13.0, SIZE, text));
 }

@@ -1,9 +1,9 @@
 //! The rows of the tasks, and the row of idle time below them.
 
 use super::style::{
-    arrival_mark, bar, canonical_bar, colour, deadline_mark, finish_mark, idle_bar, level_height,
-    line, narrow_idle_bar, nominal_line, ordered_box, soft_words, text_width, ticks, unused_box,
-    words, INK, SHADE,
+    arrival_mark, bar, canonical_bar, colour, deadline_mark, finish_mark, fixed_part, idle_bar,
+    level_height, line, narrow_idle_bar, nominal_line, ordered_box, soft_words, text_width, ticks,
+    unused_box, words, INK, SHADE,
 };
 use super::view::View;
 use super::{LEFT, MARGIN};
@@ -86,11 +86,14 @@ impl Row<'_> {
         group.add(words(MARGIN, self.top + 26.0, 13.0, &name).set("font-weight", "bold"));
         let run = self.view.run;
         let ticks = allotment(&task, run.levels.speed(run.judged.nominal));
-        let figures = [
+        let mut figures = vec![
             format!("period {}", task.period),
             format!("worst case {}", task.worst),
             format!("allotment {ticks}"),
         ];
+        if task.fixed > 0 {
+            figures.push(format!("fixed {}", task.fixed));
+        }
         for (place, text) in figures.iter().enumerate() {
             let y = self.top + 41.0 + 13.0 * place as f64;
             group.add(soft_words(MARGIN, y, LABEL_SIZE, text));
@@ -106,27 +109,34 @@ impl Row<'_> {
         group.add(line(left, self.base, right, self.base, INK).set("stroke-opacity", 0.5));
     }
 
-    /// The canonical turns as a faint strip beneath the bars.
+    /// The canonical turns as a faint strip beneath the bars, their fixed ticks hatched.
     fn add_canonical(&self, group: &mut Element) {
-        let scale = &self.view.scale;
-        let mut drawn: Option<(f64, f64)> = None;
-        for turn in self.view.turns.iter().filter(|turn| turn.task == self.task) {
-            let (from, to) = (scale.x(turn.span.from), scale.x(turn.span.to));
-            drawn = match drawn {
-                Some((first, last)) if from - last < SMALLEST_GAP => Some((first, to)),
-                earlier => {
-                    self.add_turn(earlier, group);
-                    Some((from, to))
-                }
-            };
+        let turns = &self.view.turns;
+        let own = || turns.iter().filter(|turn| turn.task == self.task);
+        for (x, width) in self.joined(own().map(|turn| turn.span)) {
+            group.add(canonical_bar(x, self.strip, width, STRIP));
         }
-        self.add_turn(drawn, group);
+        let fixed = own().filter(|turn| turn.fixed > 0);
+        for (x, width) in self.joined(fixed.map(|turn| turn.span.first(turn.fixed))) {
+            let hint = "fixed ticks in the canonical schedule";
+            let part = fixed_part("canonical-fixed", x, self.strip, width, STRIP);
+            group.add(part.hint(hint));
+        }
     }
 
-    fn add_turn(&self, turn: Option<(f64, f64)>, group: &mut Element) {
-        if let Some((from, to)) = turn {
-            group.add(canonical_bar(from, self.strip, to - from, STRIP));
+    /// Where the spans stand, and how wide they are; those with hardly a gap between them are one.
+    fn joined(&self, spans: impl Iterator<Item = Span>) -> Vec<(f64, f64)> {
+        let mut joined: Vec<(f64, f64)> = Vec::new();
+        for span in spans {
+            let (x, width) = self.place(span);
+            match joined.last_mut() {
+                Some((first, wide)) if x - (*first + *wide) < SMALLEST_GAP => {
+                    *wide = x + width - *first;
+                }
+                _ => joined.push((x, width)),
+            }
         }
+        joined
     }
 
     /// Where a job that ended early would have run on to, at its level.
@@ -173,11 +183,25 @@ impl Row<'_> {
             drawn = drawn.set("stroke", INK).hint(&story(stretch, speed));
         }
         group.add(drawn);
+        self.add_fixed("fixed", stretch.span.first(stretch.fixed), high, group);
         let ends_here = stretch.early.is_some() && shown.to == stretch.span.to;
         if ends_here && self.view.scale.has_room_for_finishes() {
             group.add(finish_mark(x + width, self.base - high));
         }
         self.add_label(x, width, high, &[format!("L{}", stretch.level)], group);
+    }
+
+    /// The fixed ticks at the beginning of a bar of this height.
+    fn add_fixed(&self, class: &str, fixed: Span, high: f64, group: &mut Element) {
+        if let Some(shown) = fixed.within(self.view.window) {
+            let (x, width) = self.place(shown);
+            let hint = format!(
+                "fixed ticks from tick {} to {}, the same at every level",
+                fixed.from, fixed.to
+            );
+            let part = fixed_part(class, x, self.base - high, width, high);
+            group.add(part.hint(&hint));
+        }
     }
 
     /// The last order, if it is for this task.
@@ -202,6 +226,8 @@ impl Row<'_> {
         let order = format!("the last order: level {level}, hold {hold}");
         let drawn = ordered_box(x, self.base - high, width, high, colour(level));
         group.add(drawn.hint(&order));
+        let fixed = run.fixed_left.min(span.ticks());
+        self.add_fixed("ordered-fixed", span.first(fixed), high, group);
         self.add_label(
             x,
             width,

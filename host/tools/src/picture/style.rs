@@ -137,6 +137,13 @@ pub fn canonical_bar(x: f64, y: f64, width: f64, height: f64) -> Element {
         .set("fill", CANONICAL)
 }
 
+/// The fixed ticks of a bar, in lines between which that bar shows.
+pub fn fixed_part(class: &str, x: f64, y: f64, width: f64, height: f64) -> Element {
+    rectangle(x, y, width, height)
+        .set("class", class)
+        .set("fill", "url(#fixed-lines)")
+}
+
 pub fn idle_bar(x: f64, y: f64, width: f64, height: f64) -> Element {
     rectangle(x, y, width, height)
         .set("class", "idle")
@@ -171,7 +178,16 @@ pub fn patterns() -> Element {
         .px(&[("width", 8.0), ("height", 8.0)])
         .with(rectangle(0.0, 0.0, 8.0, 8.0).set("fill", SHADE))
         .with(stripe);
-    Element::new("defs").with(stripes)
+    let hatch = Element::new("path")
+        .set("d", "M-1 -1L7 7M-1 5L1 7M5 -1L7 1")
+        .set("stroke", PAPER)
+        .set("stroke-width", 1.6);
+    let hatching = Element::new("pattern")
+        .set("id", "fixed-lines")
+        .set("patternUnits", "userSpaceOnUse")
+        .px(&[("width", 6.0), ("height", 6.0)])
+        .with(hatch);
+    Element::new("defs").with(stripes).with(hatching)
 }
 
 /// `1 tick`, `2 ticks`.

@@ -1,10 +1,11 @@
 //! The turns of the canonical schedule, against the simulator's own book of it.
 
-use crate::common::tasks;
+use crate::common::{tasks, tasks_with_fixed};
 use sim::plan::{Judged, Task};
 use sim::random::plans::{full_plan, plan_at_level_within, SMALL_BASES};
 use sim::random::tables::some_or_base_levels;
 use sim::random::Random;
+use sim::schedule::allotment;
 use sim::{Levels, Order, PlainBook};
 use tools::canonical::{turns_within, Turn};
 use tools::run::Span;
@@ -17,29 +18,38 @@ fn turns(levels: &Levels, plan: &[Task], window: Span) -> Vec<Turn> {
     turns_within(levels, plan, judged(levels, plan), window)
 }
 
+/// The task and the arrival of a job that gets a tick, and whether that is one of its fixed ticks.
+type Got = Option<(usize, u64, bool)>;
+
 /// Which job gets each tick, told by the book fed one tick at a time: the one with a tick less
-/// left afterwards.
-fn by_the_book(levels: &Levels, plan: &[Task], ticks: u64) -> Vec<Option<(usize, u64)>> {
+/// left afterwards. Its first ticks are the fixed ones.
+fn by_the_book(levels: &Levels, plan: &[Task], ticks: u64) -> Vec<Got> {
     let mut book = PlainBook::new(levels, plan);
+    let nominal = levels.speed(judged(levels, plan).nominal);
     let mut got = Vec::new();
     for _ in 0..ticks {
         let before = book.open_jobs();
         book.pass(1, Ok(Order::Idle { hold: 1 }));
         let after = book.open_jobs();
         let served = before.iter().find(|job| !after.contains(job));
-        got.push(served.map(|job| (job.task, job.arrival)));
+        got.push(served.map(|job| {
+            let task = &plan[job.task];
+            let had = allotment(task, nominal) - job.left;
+            (job.task, job.arrival, had < task.fixed)
+        }));
         book.forget_closed();
     }
     got
 }
 
-fn by_the_turns(turns: &[Turn], window: Span) -> Vec<Option<(usize, u64)>> {
+fn by_the_turns(turns: &[Turn], window: Span) -> Vec<Got> {
     let mut got = vec![None; window.ticks() as usize];
     for turn in turns {
         for tick in turn.span.from..turn.span.to {
             let place = &mut got[(tick - window.from) as usize];
             assert_eq!(*place, None, "one tick given twice");
-            *place = Some((turn.task, turn.arrival));
+            let is_fixed = tick < turn.span.from + turn.fixed;
+            *place = Some((turn.task, turn.arrival, is_fixed));
         }
     }
     got
@@ -96,6 +106,27 @@ fn the_example() {
         (2, 18, 22),
         (0, 22, 26),
         (1, 26, 30),
+    ];
+    assert_eq!(spans, expected);
+}
+
+#[test]
+fn fixed_ticks_come_first() {
+    // Task 0 has 2 ticks, task 1 has 3 fixed ones and 2 more.
+    let plan = tasks_with_fixed(&[(4, 20, 0), (12, 20, 3)]);
+    let levels = Levels::new(&[10]);
+    agrees(&levels, &plan, 0, 36);
+    let turns = turns(&levels, &plan, Span { from: 0, to: 12 });
+    let spans: Vec<(usize, u64, u64, u64)> = turns
+        .iter()
+        .map(|turn| (turn.task, turn.span.from, turn.span.to, turn.fixed))
+        .collect();
+    let expected = [
+        (0, 0, 2, 0),
+        (1, 2, 4, 2),
+        (0, 4, 6, 0),
+        (1, 6, 9, 1),
+        (0, 9, 11, 0),
     ];
     assert_eq!(spans, expected);
 }

@@ -126,6 +126,19 @@ fn pack_there_and_back_with_other_speeds() {
 }
 
 #[test]
+fn pack_there_and_back_with_fixed_ticks() {
+    let text = "task 40 300 5\n\nfinish 7\n";
+    let block = [0x20, 0x80, 0x14, 0x00, 0x09, 0x60, 0x28];
+    let bytes = with_levels(&[&block[..], &[0x80, 0x07]].concat());
+    gives(pack(&["to-bytes"], text.as_bytes()), &bytes);
+    gives(pack(&["to-text"], &bytes), text.as_bytes());
+    let byte = "pack: standard input: byte 17: the spare bits of task 0 are not zero";
+    let mut spare = bytes;
+    spare[17] |= 1;
+    stops(pack(&["to-text"], &spare), 1, byte);
+}
+
+#[test]
 fn timeline_draws_the_picture() {
     let expected = picture(&EXAMPLE, None, None);
     gives(timeline(&[], &EXAMPLE), expected.as_bytes());
@@ -138,12 +151,16 @@ fn timeline_draws_the_picture() {
 
 #[test]
 fn timeline_stops_where_the_bench_program_does() {
-    let refused =
-        "timeline: the input is refused with 4: the plan block's length is not the count's";
+    let refused = "timeline: the input is refused with 4: the plan block's length is not the \
+                   edition's and the count's";
     stops(timeline(&[], &EXAMPLE[..PLAN_END - 1]), 1, refused);
     let levels = "timeline: the input is refused with 19: the level block's length is not the \
                   count's, or its closing bits are not zero";
     stops(timeline(&[], &EXAMPLE[..LEVELS_END - 1]), 1, levels);
+    let additions = "timeline: the input is refused with 21: the edition is 2, but no task has \
+                     fixed ticks";
+    let block = [0x20, 0x80, 0x14, 0x00, 0x09, 0x60, 0x00];
+    stops(timeline(&[], &with_levels(&block)), 1, additions);
     let nothing = "timeline: nothing to draw from tick 25 to tick 25";
     stops(timeline(&["--from", "25"], &EXAMPLE), 1, nothing);
 }
@@ -187,7 +204,7 @@ fn help_says_the_text_form_and_the_options() {
         "to-bytes",
         "to-text",
         "speeds S1 S2 ..",
-        "task PERIOD WORST",
+        "task PERIOD WORST [FIXED]",
         "pass D",
         "finish D",
         "# ...",

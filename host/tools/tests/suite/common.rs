@@ -1,6 +1,6 @@
 //! What several tests need.
 
-use sim::block::{PERIOD_BITS, WORST_BITS};
+use sim::block::{FIXED_BITS, PERIOD_BITS, WORST_BITS};
 use sim::level_block::SPEED_BITS;
 use sim::plan::Task;
 use sim::random::blocks::bench_input;
@@ -40,15 +40,27 @@ finish 4
 pass 2
 ";
 
+/// Tasks without fixed ticks.
 pub fn tasks(pairs: &[(u64, u64)]) -> Vec<Task> {
     let task = |(period, worst): &(u64, u64)| Task {
         period: *period,
         worst: *worst,
+        fixed: 0,
     };
     pairs.iter().map(task).collect()
 }
 
-/// Any script that fits its fields: most plans in it are refused.
+/// Period, worst case and fixed ticks of each task.
+pub fn tasks_with_fixed(triples: &[(u64, u64, u64)]) -> Vec<Task> {
+    let task = |(period, worst, fixed): &(u64, u64, u64)| Task {
+        period: *period,
+        worst: *worst,
+        fixed: *fixed,
+    };
+    triples.iter().map(task).collect()
+}
+
+/// Any script that fits its fields: most plans in it are refused, and half of them have no fixed ticks.
 pub fn any_script(random: &mut Random) -> Script {
     let field = |random: &mut Random, bits: usize| match random.below(4) {
         0 => 0,
@@ -63,10 +75,12 @@ pub fn any_script(random: &mut Random) -> Script {
             script.speeds.push(speed);
         }
     }
+    let fixed_bits = random.pick(&[0, FIXED_BITS]);
     for _ in 0..random.below(32) {
         script.tasks.push(Task {
             period: field(random, PERIOD_BITS),
             worst: field(random, WORST_BITS),
+            fixed: field(random, fixed_bits),
         });
     }
     for _ in 0..random.below(40) {
@@ -78,8 +92,8 @@ pub fn any_script(random: &mut Random) -> Script {
     script
 }
 
-/// A bench input with any speeds and an accepted plan of short periods; most of its passes are
-/// accepted, some are refused, and now and then an odd byte is left.
+/// A bench input with any speeds and an accepted plan of short periods, with fixed ticks or without;
+/// most of its passes are accepted, some are refused, and now and then an odd byte is left.
 pub fn any_run(random: &mut Random, passes: usize) -> Vec<u8> {
     let levels = some_or_base_levels(random);
     run_at(random, &levels, passes)

@@ -1,7 +1,7 @@
 //! The bench input: each reason why it can't be said in text, with its byte; and the refusals that
 //! can.
 
-use crate::common::{tasks, with_levels, EXAMPLE, LEVELS_END, PLAN_END};
+use crate::common::{tasks, tasks_with_fixed, with_levels, EXAMPLE, LEVELS_END, PLAN_END};
 use sim::listing;
 use tools::bench::{from_bytes, refusal, to_bytes, BytesError, Why};
 use tools::script::{Pass, Script};
@@ -66,10 +66,10 @@ fn too_short_for_a_count() {
 
 #[test]
 fn bad_edition() {
-    for edition in (0..16).filter(|edition| *edition != 1) {
+    for edition in (0..16).filter(|edition| ![1, 2].contains(edition)) {
         let mut input = EXAMPLE;
         input[LEVELS_END] = edition << 4 | 0x01;
-        let message = format!("byte 11: the edition is {edition}, not 1");
+        let message = format!("byte 11: the edition is {edition}, not 1 or 2");
         fails(&input, 11, Why::Edition(u64::from(edition)), &message);
     }
 }
@@ -102,6 +102,76 @@ fn closing_bits() {
     fails(&with_levels(&[0x10, 0x40]), 12, Why::ClosingBits, message);
     let passes = with_levels(&[0x10, 0x01, 0x80, 0x01]);
     fails(&passes, 12, Why::ClosingBits, message);
+}
+
+/// The block of tasks (40, 300) with 255 fixed ticks and (10, 7) with none, behind 01's levels.
+fn with_fixed_ticks() -> Vec<u8> {
+    with_levels(&SECOND_EDITION)
+}
+
+/// 0010 00010, then 0000000000101000 00000000000100101100 11111111 000, then 0000000000001010
+/// 00000000000000000111 00000000 000, then a closing bit.
+const SECOND_EDITION: [u8; 13] = [
+    0x21, 0x00, 0x14, 0x00, 0x09, 0x67, 0xf8, 0x00, 0x0a, 0x00, 0x00, 0x70, 0x00,
+];
+
+#[test]
+fn a_block_with_fixed_ticks() {
+    let script = plan_of(&[(40, 300, 255), (10, 7, 0)]);
+    assert_eq!(to_bytes(&script), with_fixed_ticks());
+    assert_eq!(from_bytes(&with_fixed_ticks()), Ok(script));
+}
+
+#[test]
+fn a_cut_block_with_fixed_ticks() {
+    for length in 2..SECOND_EDITION.len() {
+        let byte = LEVELS_END + length;
+        let why = Why::CutBlock {
+            count: 2,
+            needed: 13,
+        };
+        let message = format!(
+            "byte {byte}: the input ends here, within the plan block: its count is 2, so it \
+             needs 13 bytes"
+        );
+        fails(&with_fixed_ticks()[..byte], byte, why, &message);
+    }
+}
+
+/// Task 0 has its spare bits at the end of the block's seventh byte, task 1 in the last byte, before the
+/// closing bit.
+#[test]
+fn spare_bits() {
+    let first = [(6, 2, 0), (6, 1, 0), (6, 0, 0)];
+    let second = [(12, 3, 1), (12, 2, 1), (12, 1, 1)];
+    for (place, bit, task) in first.into_iter().chain(second) {
+        let byte = LEVELS_END + place;
+        let mut input = with_fixed_ticks();
+        input[byte] |= 1 << bit;
+        let message = format!("byte {byte}: the spare bits of task {task} are not zero");
+        fails(&input, byte, Why::SpareBits { task }, &message);
+    }
+    let mut input = with_fixed_ticks();
+    input[LEVELS_END + 12] |= 1;
+    let message = "byte 23: the closing bits of the plan block are not zero";
+    fails(&input, 23, Why::ClosingBits, message);
+}
+
+/// Text can't say it: without fixed ticks it means the first edition.
+#[test]
+fn the_second_edition_without_fixed_ticks() {
+    let message =
+        "byte 11: the edition is 2, but no task has fixed ticks; text without them means \
+                   edition 1";
+    let mut input = with_fixed_ticks();
+    input[LEVELS_END + 5] &= 0xf8;
+    input[LEVELS_END + 6] &= 0x07;
+    fails(&input, 11, Why::NoAddition, message);
+    fails(&with_levels(&[0x20, 0x00]), 11, Why::NoAddition, message);
+    // Bits that are not zero are told before it, as the questions have it.
+    input[LEVELS_END + 12] |= 1;
+    let message = "byte 23: the closing bits of the plan block are not zero";
+    fails(&input, 23, Why::ClosingBits, message);
 }
 
 #[test]
@@ -144,6 +214,22 @@ fn blocks_of_every_count() {
     }
 }
 
+/// One task with fixed ticks, the last, is enough.
+#[test]
+fn blocks_with_fixed_ticks_of_every_count() {
+    for count in 1..=31 {
+        let mut tasks = tasks(&vec![(7, 9); count]);
+        tasks[count - 1].fixed = 1;
+        let script = Script {
+            tasks,
+            ..Script::default()
+        };
+        let bytes = to_bytes(&script);
+        assert_eq!(bytes.len(), 11 + (9 + 47 * count + 7) / 8);
+        assert_eq!(from_bytes(&bytes), Ok(script));
+    }
+}
+
 /// The number of the warning is the one that the bench program prints.
 #[track_caller]
 fn is_refused(plan: &[(u64, u64)], passes: usize, number: u32) {
@@ -166,6 +252,14 @@ fn is_refused_so(script: &Script, number: u32) {
     assert_eq!(printed, format!("refused {number}\n").into_bytes());
 }
 
+/// A plan with fixed ticks and no pass.
+fn plan_of(triples: &[(u64, u64, u64)]) -> Script {
+    Script {
+        tasks: tasks_with_fixed(triples),
+        ..Script::default()
+    }
+}
+
 #[test]
 fn refusals_that_can_be_packed() {
     is_refused(&[], 0, 3);
@@ -176,6 +270,10 @@ fn refusals_that_can_be_packed() {
     is_refused(&[(10, 0)], 1, 6);
     is_refused(&[(1_000, 1), (1_001, 1)], 1, 7);
     is_refused(&[(10, 400), (10, 400), (30, 601)], 1, 8);
+    is_refused_so(&plan_of(&[(0, 400, 1)]), 6);
+    is_refused_so(&plan_of(&[(1_000, 1, 1), (1_001, 1, 0)]), 7);
+    is_refused_so(&plan_of(&[(10, 400, 0), (10, 400, 0), (30, 600, 1)]), 8);
+    is_refused_so(&plan_of(&[(255, 1, 255)]), 8);
     // 11 + 6 + 2 * 32,760 bytes are one too many.
     is_refused(&[(40, 300)], 32_760, 17);
     is_refused(&[(0, 300)], 32_760, 17);
@@ -215,6 +313,7 @@ fn refused_speeds_that_can_be_packed() {
 #[test]
 fn accepted_inputs_have_no_refusal() {
     assert_eq!(refusal(&from_bytes(&EXAMPLE).unwrap()), None);
+    assert_eq!(refusal(&plan_of(&[(256, 10, 255)])), None);
     // 2 + 6 + 2 * 32,764 bytes are just enough.
     let mut script = Script {
         speeds: vec![8],

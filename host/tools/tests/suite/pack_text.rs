@@ -1,6 +1,6 @@
 //! The text form: what it says, and each mistake with its line.
 
-use crate::common::{tasks, with_levels, EXAMPLE, EXAMPLE_TEXT};
+use crate::common::{tasks, tasks_with_fixed, with_levels, EXAMPLE, EXAMPLE_TEXT};
 use tools::bench::{from_bytes, to_bytes};
 use tools::script::{Pass, Script};
 use tools::text::{parse, write};
@@ -28,6 +28,25 @@ fn the_block_that_document_01_shows() {
     let script = parse("task 40 300").unwrap();
     let block = [0x10, 0x80, 0x14, 0x00, 0x09, 0x60];
     assert_eq!(to_bytes(&script), with_levels(&block));
+}
+
+#[test]
+fn a_task_with_fixed_ticks() {
+    let script = parse("task 40 300 5").unwrap();
+    assert_eq!(script.tasks, tasks_with_fixed(&[(40, 300, 5)]));
+    // 0010 00001 0000000000101000 00000000000100101100 00000101 000.
+    let block = [0x20, 0x80, 0x14, 0x00, 0x09, 0x60, 0x28];
+    assert_eq!(to_bytes(&script), with_levels(&block));
+    assert_eq!(write(&script), "task 40 300 5\n");
+}
+
+#[test]
+fn fixed_ticks_are_written_unless_there_are_none() {
+    let text = "task 40 300 255\ntask 10 7\n\npass 1\n";
+    let script = parse(text).unwrap();
+    assert_eq!(write(&script), text);
+    assert_eq!(parse("task 40 300 255\ntask 10 7 0\npass 1"), Ok(script));
+    assert_eq!(write(&parse("task 40 300 000").unwrap()), "task 40 300\n");
 }
 
 #[test]
@@ -79,6 +98,10 @@ fn not_numbers() {
             &format!("line 2: the worst case {quoted} is not a decimal number"),
         );
         fails(
+            &format!("task 1 1 {word}"),
+            &format!("line 1: the number of fixed ticks {quoted} is not a decimal number"),
+        );
+        fails(
             &format!("\n\nfinish {word}"),
             &format!("line 3: the d {quoted} is not a decimal number"),
         );
@@ -87,8 +110,8 @@ fn not_numbers() {
 
 #[test]
 fn numbers_out_of_range() {
-    assert!(parse("task 65535 1048575\npass 32767\nfinish 32767").is_ok());
-    assert!(parse("task 0 0\npass 0\nfinish 0").is_ok());
+    assert!(parse("task 65535 1048575 255\npass 32767\nfinish 32767").is_ok());
+    assert!(parse("task 0 0 0\npass 0\nfinish 0").is_ok());
     let period = "is out of range: its 16 bits hold 0 to 65535";
     fails(
         "task 65536 1",
@@ -98,6 +121,10 @@ fn numbers_out_of_range() {
     fails(
         "\ntask 1 1048576",
         &format!("line 2: the worst case 1048576 {worst}"),
+    );
+    fails(
+        "task 1 1 256",
+        "line 1: the number of fixed ticks 256 is out of range: its 8 bits hold 0 to 255",
     );
     let d = "is out of range: its 15 bits hold 0 to 32767";
     fails("pass 32768", &format!("line 1: the d 32768 {d}"));
@@ -112,7 +139,7 @@ fn numbers_out_of_range() {
 
 #[test]
 fn words_left_over() {
-    fails("task 1 2 3", "line 1: \"3\" is one word too many");
+    fails("task 1 2 3 4", "line 1: \"4\" is one word too many");
     fails(
         "pass 1\npass 1 finish",
         "line 2: \"finish\" is one word too many",

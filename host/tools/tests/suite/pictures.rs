@@ -1,10 +1,11 @@
 //! The picture, read back from its SVG: bars, idle time, canonical strips, marks.
 
-use crate::common::{any_run, run_at, tasks, EXAMPLE};
+use crate::common::{any_run, run_at, tasks, tasks_with_fixed, EXAMPLE};
 use crate::told::{told, Ran};
 use crate::xml::{read, Node};
 use sim::random::blocks::block_of;
 use sim::random::Random;
+use sim::schedule::allotment;
 use sim::{write_levels, Levels, Order, PlainBook};
 use tools::picture::{draw, window};
 use tools::run::{follow, Run, Span};
@@ -190,19 +191,107 @@ fn the_canonical_strip_is_the_plain_schedule() {
         let end = run.end_of_order();
         let seen = Seen::new(&picture(&input, None, None));
         let mut served = vec![Vec::new(); run.tasks.len()];
+        let mut fixed = served.clone();
+        let nominal = run.levels.speed(run.judged.nominal);
         let mut book = PlainBook::new(&run.levels, &run.tasks);
         for tick in 0..end {
             if let Some(job) = book.open_jobs().first() {
+                let task = &run.tasks[job.task];
                 served[job.task].push(tick);
+                if allotment(task, nominal) - job.left < task.fixed {
+                    fixed[job.task].push(tick);
+                }
             }
             book.pass(1, Ok(Order::Idle { hold: 1 }));
             book.forget_closed();
         }
-        for (task, ticks) in served.iter().enumerate() {
-            let spans = seen.spans("canonical", &format!("task-{task}"));
-            let drawn: Vec<u64> = spans.iter().flat_map(|(from, to)| *from..*to).collect();
-            assert_eq!(&drawn, ticks);
+        for task in 0..run.tasks.len() {
+            let drawn = |class| -> Vec<u64> {
+                let spans = seen.spans(class, &format!("task-{task}"));
+                spans.iter().flat_map(|(from, to)| *from..*to).collect()
+            };
+            assert_eq!(drawn("canonical"), served[task]);
+            assert_eq!(drawn("canonical-fixed"), fixed[task]);
         }
+    }
+}
+
+/// The fixed ticks of the bars, as the listing and the plan tell them: task, from, to.
+fn fixed_of(ran: &Ran) -> Option<(usize, u64, u64)> {
+    (ran.fixed > 0).then_some((ran.task, ran.from, ran.from + ran.fixed))
+}
+
+#[test]
+fn fixed_ticks_are_hatched_in_the_bars() {
+    let mut random = Random::new(38);
+    let mut all = 0;
+    for round in 0..100 {
+        let input = any_run(&mut random, 40);
+        let end = follow(&input).unwrap().end_of_order();
+        // Every other picture is cut.
+        let to = random.between(if round % 2 == 0 { 1 } else { end }, end);
+        let from = random.below(if round % 2 == 0 { to } else { 1 });
+        let seen = Seen::new(&picture(&input, Some(from), Some(to)));
+        let cut = |(task, first, last): (usize, u64, u64)| (task, first.max(from), last.min(to));
+        let parts = told(&input)
+            .ran
+            .iter()
+            .filter_map(fixed_of)
+            .map(cut)
+            .collect::<Vec<_>>();
+        for task in 0..count(&input) {
+            let expected = parts
+                .iter()
+                .filter(|part| part.0 == task && part.1 < part.2);
+            let expected: Vec<(u64, u64)> = expected.map(|part| (part.1, part.2)).collect();
+            assert_eq!(seen.spans("fixed", &format!("task-{task}")), expected);
+            all += expected.len();
+        }
+    }
+    assert!(all > 100, "{all}");
+}
+
+/// At 50, which is nominal, task 0 has 4 ticks, and task 1 has 9 fixed ones and 3 more.
+fn sensor_with(passes: &[u8]) -> Vec<u8> {
+    let plan = tasks_with_fixed(&[(10, 200, 0), (30, 150, 9), (30, 300, 0)]);
+    [&write_levels(&Levels::base())[..], &block_of(&plan), passes].concat()
+}
+
+#[test]
+fn fixed_ticks_are_hatched_up_to_the_hold_of_the_last_order() {
+    let seen = Seen::new(&picture(&sensor_with(&[0x80, 4]), None, Some(30)));
+    assert_eq!(seen.spans("ordered", "task-1"), [(4, 10)]);
+    assert_eq!(seen.spans("ordered-fixed", "task-1"), [(4, 10)]);
+    assert_eq!(seen.spans("fixed", "task-1"), []);
+}
+
+#[test]
+fn a_sensor_in_the_picture() {
+    // Task 1 is stopped by an arrival at tick 10, with 3 of its fixed ticks to go.
+    let run = follow(&sensor_with(&[0x80, 4, 0, 6, 0x80, 1])).unwrap();
+    let seen = Seen::new(&drawn(&run, None, Some(30)));
+    assert_eq!(seen.bars(3), [(0, 4, 0, 4), (1, 4, 4, 10), (0, 4, 10, 11)]);
+    assert_eq!(seen.spans("fixed", "task-1"), [(4, 10)]);
+    assert_eq!(seen.spans("ordered", "task-1"), [(11, 19)]);
+    assert_eq!(seen.spans("ordered-fixed", "task-1"), [(11, 14)]);
+    assert_eq!(seen.spans("canonical", "task-1"), [(4, 10), (14, 20)]);
+    assert_eq!(seen.spans("canonical-fixed", "task-1"), [(4, 10), (14, 17)]);
+    for part in ["task-0", "task-2"] {
+        for class in ["fixed", "ordered-fixed", "canonical-fixed"] {
+            assert_eq!(seen.spans(class, part), [], "{class} in {part}");
+        }
+    }
+    assert_eq!(seen.all("fixed", "legend").count(), 1);
+    let texts: Vec<&str> = seen.nodes.iter().map(|node| node.text.as_str()).collect();
+    for text in [
+        "Plan (10, 200), (30, 150, 9), (30, 300); nominal level 4",
+        "allotment 12",
+        "fixed 9",
+        "fixed ticks: as long at every level",
+        "fixed ticks from tick 4 to 10, the same at every level",
+        "fixed ticks in the canonical schedule",
+    ] {
+        assert!(texts.contains(&text), "{text}");
     }
 }
 

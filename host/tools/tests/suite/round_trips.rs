@@ -7,7 +7,7 @@ use sim::random::tables::{damaged_level_block, some_or_base_levels};
 use sim::random::Random;
 use sim::{listing, write_levels};
 use std::collections::BTreeMap;
-use tools::bench::{from_bytes, refusal, to_bytes};
+use tools::bench::{from_bytes, refusal, to_bytes, Why};
 use tools::text::{parse, write};
 
 #[test]
@@ -62,25 +62,42 @@ fn fault_past_levels(input: &[u8]) -> Option<usize> {
     if input.len() < 2 {
         return Some(input.len());
     }
-    if input[0] >> 4 != 1 {
-        return Some(0);
-    }
+    let each = match input[0] >> 4 {
+        1 => 36,
+        2 => 47,
+        _ => return Some(0),
+    };
     let count = usize::from(input[0] & 0x0f) * 2 + usize::from(input[1] >> 7);
-    let needed = (9 + 36 * count + 7) / 8;
+    let used = 9 + each * count;
+    let needed = (used + 7) / 8;
     if input.len() < needed {
         return Some(input.len());
     }
-    let closing = if count % 2 == 0 { 0x7f } else { 0x07 };
-    if input[needed - 1] & closing != 0 {
+    let spare = |task: usize| 9 + 47 * task + 44..9 + 47 * task + 47;
+    let fixed = |task: usize| 9 + 47 * task + 36..9 + 47 * task + 44;
+    if each == 47 {
+        let set = (0..count).flat_map(spare).find(|bit| is_set(input, *bit));
+        if let Some(bit) = set {
+            return Some(bit / 8);
+        }
+    }
+    if (used..8 * needed).any(|bit| is_set(input, bit)) {
         return Some(needed - 1);
     }
+    if each == 47 && !(0..count).flat_map(fixed).any(|bit| is_set(input, bit)) {
+        return Some(0);
+    }
     ((input.len() - needed) % 2 == 1).then_some(input.len() - 1)
+}
+
+fn is_set(input: &[u8], bit: usize) -> bool {
+    input[bit / 8] >> (7 - bit % 8) & 1 == 1
 }
 
 #[test]
 fn damaged_inputs_fail_at_their_byte_or_come_back() {
     let mut random = Random::new(3);
-    let (mut failed, mut came_back) = (0, 0);
+    let (mut failed, mut came_back) = (BTreeMap::new(), [0; 2]);
     for round in 0..4_000 {
         let levels = some_or_base_levels(&mut random);
         let level = random.place(levels.count());
@@ -96,17 +113,29 @@ fn damaged_inputs_fail_at_their_byte_or_come_back() {
         match from_bytes(&input) {
             Err(error) => {
                 assert_eq!(fault(&input), Some(error.byte), "{input:02x?}");
-                failed += 1;
+                *failed.entry(kind(error.why)).or_insert(0) += 1;
             }
             Ok(script) => {
                 assert_eq!(fault(&input), None, "{input:02x?}");
                 assert_eq!(to_bytes(&script), input);
+                came_back[usize::from(script.tasks.iter().any(|task| task.fixed > 0))] += 1;
                 assert_eq!(parse(&write(&script)), Ok(script));
-                came_back += 1;
             }
         }
     }
-    assert!(failed > 500 && came_back > 500);
+    for kind in ["CutBlock", "SpareBits", "ClosingBits", "NoAddition"] {
+        assert!(failed.get(kind) > Some(&50), "{kind}: {failed:?}");
+    }
+    assert!(came_back.iter().all(|times| *times > 250), "{came_back:?}");
+}
+
+/// The first word of a reason's name.
+fn kind(why: Why) -> String {
+    let name = format!("{why:?}");
+    name.split(|c: char| !c.is_alphanumeric())
+        .next()
+        .unwrap_or("")
+        .to_string()
 }
 
 #[test]
@@ -119,6 +148,7 @@ fn the_refusal_is_the_one_that_the_bench_program_prints() {
         for task in &mut plan {
             task.period &= 0xffff;
             task.worst &= 0xf_ffff;
+            task.fixed &= 0xff;
         }
         let mut input = bench_input(&mut random, &levels, &plan, 3);
         let script = from_bytes(&input).unwrap_or_else(|_| {

@@ -13,6 +13,7 @@ fn ran(stretch: &Stretch) -> Ran {
         level: stretch.level,
         from: stretch.span.from,
         to: stretch.span.to,
+        fixed: stretch.fixed,
         finished: stretch.early.is_some(),
     }
 }
@@ -32,7 +33,7 @@ fn agrees(run: &Run, input: &[u8]) {
 #[test]
 fn random_runs_are_as_the_listing_tells() {
     let mut random = Random::new(11);
-    let (mut stretches, mut refusals, mut idle) = (0, 0, 0);
+    let (mut stretches, mut refusals, mut idle, mut fixed) = (0, 0, 0, 0);
     for _ in 0..1_000 {
         let input = any_run(&mut random, 60);
         let run = follow(&input).unwrap();
@@ -40,8 +41,10 @@ fn random_runs_are_as_the_listing_tells() {
         stretches += run.stretches.len();
         refusals += run.refusals.len();
         idle += run.idle.len();
+        let has_both = |ran: &&Stretch| 0 < ran.fixed && ran.fixed < ran.span.ticks();
+        fixed += run.stretches.iter().filter(has_both).count();
     }
-    assert!(stretches > 10_000 && refusals > 3_000 && idle > 1_000);
+    assert!(stretches > 10_000 && refusals > 3_000 && idle > 1_000 && fixed > 500);
 }
 
 #[test]
@@ -103,10 +106,15 @@ fn whole_inputs_refused() {
     assert_eq!(follow(&[0x10, 0x00, 0x10, 0x80]).unwrap_err(), 20);
     let refused = |rest: &[u8]| follow(&with_levels(rest)).unwrap_err();
     assert_eq!(refused(&[]), 1);
-    assert_eq!(refused(&[0x20, 0x80]), 2);
+    assert_eq!(refused(&[0x00, 0x80]), 2);
+    assert_eq!(refused(&[0x30, 0x80]), 2);
     assert_eq!(refused(&[0x18, 0x80, 0x00]), 3);
     assert_eq!(follow(&EXAMPLE[..PLAN_END - 1]).unwrap_err(), 4);
+    assert_eq!(refused(&[0x20, 0x80, 0x14, 0x00, 0x09, 0x60]), 4);
+    assert_eq!(refused(&[0x20, 0x80, 0x14, 0x00, 0x09, 0x60, 0x2c]), 5);
     assert_eq!(refused(&[0x10, 0x80, 0, 0, 0, 0x20]), 6);
+    assert_eq!(refused(&[0x20, 0x80, 0, 0, 0, 0x20, 0]), 6);
+    assert_eq!(refused(&[0x20, 0x80, 0x14, 0x00, 0x09, 0x60, 0]), 21);
     let long = [&EXAMPLE[..PLAN_END], &vec![0; 65_537 - PLAN_END]].concat();
     assert_eq!(follow(&long).unwrap_err(), 17);
     assert_eq!(follow(&long[..65_536]).unwrap().refusals.len(), 32_755);

@@ -1,6 +1,7 @@
 //! What the bench program's listing tells about a run, read from its lines alone.
 
-use sim::{listing, read_plan};
+use sim::{listing, read_plan, Task};
+use std::collections::BTreeMap;
 use tools::bench::{split, unpack_pass};
 
 /// Ticks that went to a task at a level, without a break.
@@ -10,6 +11,8 @@ pub struct Ran {
     pub level: usize,
     pub from: u64,
     pub to: u64,
+    /// How many of them, the first ones, were fixed ticks: a job has so many first as its task says.
+    pub fixed: u64,
     pub finished: bool,
 }
 
@@ -20,6 +23,8 @@ pub struct Told {
     /// The clock at each refused pass, and its number.
     pub refused: Vec<(u64, u32)>,
     pub clock: u64,
+    /// The ticks that each job has had, by task and arrival.
+    had: BTreeMap<(usize, u64), u64>,
 }
 
 /// Each line after the first two answers one pass. An accepted pass ran what the last order before
@@ -27,12 +32,7 @@ pub struct Told {
 pub fn told(input: &[u8]) -> Told {
     let text = String::from_utf8(listing(input)).unwrap();
     let parts = split(input);
-    let periods: Vec<u64> = read_plan(parts.levels, parts.plan)
-        .unwrap()
-        .0
-        .iter()
-        .map(|task| task.period)
-        .collect();
+    let (tasks, _) = read_plan(parts.levels, parts.plan).unwrap();
     let mut lines = text
         .lines()
         .skip(1)
@@ -46,14 +46,14 @@ pub fn told(input: &[u8]) -> Told {
         }
         let to = line[0].parse().unwrap();
         let finished = unpack_pass(&parts.passes[2 * place..]).finished;
-        enter(&mut told, &order, &periods, to, finished);
+        enter(&mut told, &order, &tasks, to, finished);
         told.clock = to;
         order = line;
     }
     told
 }
 
-fn enter(told: &mut Told, order: &[&str], periods: &[u64], to: u64, finished: bool) {
+fn enter(told: &mut Told, order: &[&str], tasks: &[Task], to: u64, finished: bool) {
     let from = told.clock;
     if order[1] == "idle" {
         match told.idle.last_mut() {
@@ -64,7 +64,11 @@ fn enter(told: &mut Told, order: &[&str], periods: &[u64], to: u64, finished: bo
     }
     let task: usize = order[2].parse().unwrap();
     let level: usize = order[3].parse().unwrap();
-    let new_job = from % periods[task] == 0;
+    let period = tasks[task].period;
+    let new_job = from % period == 0;
+    let had = told.had.entry((task, from / period * period)).or_default();
+    let fixed = tasks[task].fixed.saturating_sub(*had).min(to - from);
+    *had += to - from;
     match told.ran.last_mut() {
         Some(last)
             if !last.finished
@@ -72,6 +76,7 @@ fn enter(told: &mut Told, order: &[&str], periods: &[u64], to: u64, finished: bo
                 && (last.task, last.level, last.to) == (task, level, from) =>
         {
             last.to = to;
+            last.fixed += fixed;
             last.finished = finished;
         }
         _ => told.ran.push(Ran {
@@ -79,6 +84,7 @@ fn enter(told: &mut Told, order: &[&str], periods: &[u64], to: u64, finished: bo
             level,
             from,
             to,
+            fixed,
             finished,
         }),
     }
