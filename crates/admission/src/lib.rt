@@ -1,10 +1,11 @@
-// Whether a plan is admitted: its ranges, its hyperperiod and its nominal level.
+// Whether a plan is admitted: after its ranges and its hyperperiod, its nominal level.
 use plan::Plan;
-use plan::Task;
 use plan::Verdict;
+use ranges::hyperperiod_of;
+use ranges::in_range;
 ghost use mathlib.Core.Path.{_≡_};
 ghost use mathlib.Core.Bool.{true};
-ghost use Prim.Native.Nat.{ℕ, _*_, _/_, _<_, _≤_, min};
+ghost use Prim.Native.Nat.{ℕ, _*_, _/_, _<_, _≤_};
 ghost use lib.Dec.{leb};
 ghost use lib.ListN.{getD};
 ghost use Rattle.arith.specs.Arrays.{padded};
@@ -14,64 +15,10 @@ ghost use Rattle.arith.specs.Sum.{sumTo};
 ghost use Rattle.plan.specs.Levels.{hyperperiod, nominal};
 ghost use Rattle.plan.specs.Times.{taskTime};
 ghost use Rattle.levels.specs.Code.{loaded, Table};
-ghost use Rattle.plan.specs.Questions.{inRange, rangeQuestion, taskQuestions};
+ghost use Rattle.plan.specs.Questions.{inRange, taskQuestions};
 ghost use Rattle.arith.specs.Asking.{firstNo};
 ghost use Rattle.plan.specs.Blocks.{noTask, tasksOf};
 ghost use Rattle.plan.specs.Answers.{answered};
-
-fn task_in_range(t: Task) -> bool
-    ensures { λ r. ⌜ r ≡ inRange t ⌝ }
-{
-    if t.period < 1 {
-        return false;
-    }
-    if t.period > 65535 {
-        return false;
-    }
-    if t.worst < 1 {
-        return false;
-    }
-    if t.worst > 1048575 {
-        return false;
-    }
-    t.fixed <= 255
-}
-
-// Question 6: whether each task's period, worst case and fixed ticks are in their range.
-pub fn in_range(p: Plan) -> bool
-    requires { ⌜ p .count ≤ 16 ⌝ }
-    ensures { λ r. ⌜ r ≡ rangeQuestion (tasksOf p) .reply ⌝ }
-{
-    let count = p.count;
-    let mut i: usize = 0;
-    while i < count {
-        let t = p.tasks[i];
-        if !task_in_range(t) {
-            return false;
-        }
-        i += 1;
-    }
-    true
-}
-
-// What question 7 asks about: the hyperperiod, or 1,000,001 where it is above 1,000,000.
-pub fn hyperperiod_of(p: Plan) -> u32
-    requires { ⌜ (p .count ≤ 16) × (every inRange (tasksOf p) ≡ true) ⌝ }
-    ensures { λ r. ⌜ r ≡ min (hyperperiod (tasksOf p)) 1000001 ⌝ }
-{
-    let mut i = p.count;
-    let mut h: u32 = 1;
-    while 0 < i {
-        i -= 1;
-        let t = p.tasks[i];
-        let l = numeric::lcm_of(t.period, h);
-        if l > 1000000 {
-            return 1000001;
-        }
-        h = l as u32;
-    }
-    h
-}
 
 // How many jobs each task has within a span, and 0 past the count.
 fn jobs_within(p: Plan, span: u32) -> [u32; 16]

@@ -54,7 +54,7 @@ pub fn plan_cut(input: &[u8]) -> usize
     if count > 16 {
         return n;
     }
-    let wanted = plan_reading::block_length(edition, count);
+    let wanted = plan_fields::block_length(edition, count);
     if wanted < n {
         return wanted;
     }

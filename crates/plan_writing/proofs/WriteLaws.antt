@@ -23,7 +23,7 @@ use Rattle.plan.specs.Questions.{taskQuestions, judging, reading, writing, room
 use Rattle.arith.specs.Asking.{Question, firstNo}
 use Rattle.plan.specs.Answers.{answered, beside, judgedBy, readBlock, writeNumber, writtenBy, storedBy, writePlan, writeBuffer, copyNumber}
 use Rattle.plan.specs.Laws.{Bytes}
-use Rattle.admission.proofs.Admissions.{Held, count-is}
+use Rattle.ranges.proofs.TaskRanges.{Held, count-is}
 use Rattle.judging.proofs.Judgements.{count-low, count-high, count-good}
 use Rattle.plan.proofs.Facts.{fine-block}
 use Rattle.arith.proofs.QuestionLaws.{ask-no, ask-yes, no-before, yes-before, yes-of, yes-after}

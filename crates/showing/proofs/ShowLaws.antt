@@ -17,12 +17,12 @@ use Rattle.plan.specs.Answers.{roomNumber}
 use Rattle.plan.proofs.AnswerLaws.{Leaves, leaves-refused, leaves-written}
 use Rattle.schedule.specs.PlainSchedule.{Timing, Pending, queueOf}
 use Rattle.schedule.proofs.QueueLaws.{queueOf-cong}
-use Rattle.urgency.specs.declared.ReadyList.{ReadyList}
+use Rattle.readying.specs.declared.ReadyList.{ReadyList}
 use Rattle.soundness.specs.declared.Tested.{Tested}
 use Rattle.reclaiming.specs.declared.Entry.{Entry}
 use Rattle.reclaiming.specs.StateBlock.{remainingOf, decode, stateCount}
 use Rattle.reclaiming.specs.Calls.{queueBytes, readyQueue, shownBytes, showNumber}
-use Rattle.urgency.specs.Code.{tasksBytes}
+use Rattle.readying.specs.Code.{tasksBytes}
 use Rattle.state.specs.Code.{timingIn}
 use Rattle.levels.specs.Code.{loaded}
 use Rattle.tables.specs.declared.OwnTable.{OwnTable}
@@ -33,8 +33,8 @@ use Rattle.soundness.proofs.SoundLaws.{tested-sound}
 use Rattle.reclaiming.specs.Questions.{soundAt}
 use Rattle.state.proofs.BlockLaws.{remainingIn, count-in, entry-at}
 use Rattle.urgency.proofs.OpenJobs.{timing-count}
-use Rattle.urgency.proofs.KeyLaws.{ready-bytes}
-use Rattle.urgency.proofs.ReadySteps.{Listed, listed-front}
+use Rattle.readying.proofs.ReadyLaws.{ready-bytes}
+use Rattle.readying.proofs.ReadySteps.{Listed, listed-front}
 
 -- how many bytes tasks take
 length-tasksBytes : (left : ℕ → ℕ) (ts : List ℕ) → length (tasksBytes left ts) ≡ 3 * length ts

@@ -1,11 +1,11 @@
 // Showing the queue: the tasks that have remaining ticks, most urgent first.
 use plan::Written;
+use readying::ReadyList;
+use readying::ready;
 use soundness::test_block;
 use state::count_at;
 use state::remaining_at;
 use tables::own_table;
-use urgency::ReadyList;
-use urgency::ready;
 ghost use mathlib.Core.Path.{_≡_};
 ghost use mathlib.Core.List.{_++_};
 ghost use Prim.Native.Nat.{ℕ, _*_, _<_, _≤_};
@@ -14,7 +14,7 @@ ghost use Rattle.reclaiming.specs.StateBlock.{places, stateLength};
 ghost use Rattle.reclaiming.specs.Calls.{showReply, showBuffer};
 ghost use Rattle.state.specs.Code.{entryIn};
 ghost use Rattle.tables.specs.Code.{Owns};
-ghost use Rattle.urgency.specs.Code.{tasksBytes};
+ghost use Rattle.readying.specs.Code.{tasksBytes};
 
 // The number of a state that is not sound.
 const UNSOUND: u32 = 10;

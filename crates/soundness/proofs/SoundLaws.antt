@@ -5,9 +5,9 @@ use mathlib.Core.Path.{_≡_, refl, sym, subst, ap, ap₂, _∙_}
 use mathlib.Core.Bool.{Bool, true, false}
 use mathlib.Core.List.{List, []}
 use native.Mathlib.Omega.{arith}
-use borrow.Author.Tests.{le-leb, lt-leb, eq-eqb, ne-eqb}
+use borrow.Author.Tests.{eq-eqb, ne-eqb}
 use lib.Dec.{leb, eqb}
-use lib.ListN.{length, getD, take, drop, set}
+use lib.ListN.{length, getD, set}
 use lib.Seq.{take-all}
 use Rattle.arith.specs.Choice.{both, every}
 use Rattle.plan.specs.declared.Task.{Task}
@@ -16,8 +16,6 @@ use Rattle.plan.specs.declared.Verdict.{Verdict}
 use Rattle.plan.specs.declared.Verdict.the-variants as verdict
 use Rattle.plan.specs.Answers.{answered}
 use Rattle.plan.specs.Blocks.{noTask, tasksOf, planOf}
-use Rattle.plan.specs.declared.Rest.{Rest}
-use Rattle.plan.specs.Times.{timeOf, whole}
 use Rattle.plan.specs.Levels.{Rising, speedOf, nominal}
 use Rattle.plan.specs.Questions.{taskQuestions, judging}
 use Rattle.arith.specs.Asking.{firstNo}
@@ -26,22 +24,21 @@ use Rattle.plan.proofs.RoundTrip.{tasksOf-planOf}
 use Rattle.arith.proofs.ArrayLaws.{value-at}
 use Rattle.judging.proofs.Judgements.{Filled, filled-more, filled-all, count-low, count-high, count-good}
 use Rattle.arith.proofs.Tests.{both-false}
-use Rattle.arith.proofs.Loops.{every-again, every-not, every-end}
-use Rattle.reclaiming.specs.declared.Entry.{Entry}
 use Rattle.soundness.specs.declared.Tested.{Tested}
-use Rattle.reclaiming.specs.StateBlock.{State, noEntry, restIn, taskOf, planIn, timing, decode, laidOut, places, stateCount}
-use Rattle.reclaiming.specs.Orders.{allowance, openJobs, runningTime}
+use Rattle.reclaiming.specs.StateBlock.{State, taskOf, planIn, timing, decode, laidOut, places, stateCount}
+use Rattle.reclaiming.specs.Orders.{openJobs}
 use Rattle.reclaiming.specs.Questions.{largestClock, inTime, entrySound, orderSound, stateSound, soundAt}
 use Rattle.state.specs.Code.{Holds, entryIn, timingIn}
-use Rattle.urgency.specs.Code.{Keyed, latestKey, keysIn, noKey}
-use Rattle.soundness.specs.Code.{Good, restSound, orderIn, timedSound, testedBy}
+use Rattle.urgency.specs.Code.{Keyed, latestKey, keysIn}
+use Rattle.sound_parts.specs.Code.{orderIn}
+use Rattle.soundness.specs.Code.{Good, timedSound, testedBy}
 use Rattle.levels.specs.Code.{loaded, Table}
 use Rattle.levels.proofs.Tables.{levels-are, speed-is, speed-positive, speed-most}
 use Rattle.soundness.proofs.SoundFacts.{sound-holds, sound-plan-yes}
 use Rattle.reclaiming.proofs.Soundness.{sound-clock}
-use Rattle.urgency.proofs.HeadLaws.{task-is, period-is, Looked, none-open, Told, first-open, Read, read-rest, read-allowed}
+use Rattle.urgency.proofs.HeadLaws.{task-is, period-is}
 use Rattle.urgency.proofs.OpenJobs.{timing-count}
-use Rattle.state.proofs.BlockLaws.{count-in, entry-at}
+use Rattle.state.proofs.BlockLaws.{count-in}
 
 -- the plan in a block, of which the tasks below i are copied
 pub record Copying (b : List ℕ) (count : ℕ) (p : Plan) (i : ℕ) : Type 0 where
@@ -73,164 +70,6 @@ module _ {b : List ℕ} {count : ℕ} {p : Plan} {i : ℕ} (now : Copying b coun
 
 pub plan-few : {b : List ℕ} → Holds b → {p : Plan} → p ≡ planOf (planIn (decode b)) → p .count ≤ places
 plan-few {b} holds e = subst (λ (q : Plan). q .count ≤ places) (sym e) (omega (arith, holds .few, timing-count b))
-
--- what is left of a job, beside a whole one: each test as the code makes it
-module _ (rest full : Rest) where
-  pub work-over : full .work < rest .work → false ≡ restSound rest full
-  work-over h = simp (lt-leb (rest .work) (full .work) h)
-
-  module _ (work : rest .work ≤ full .work) where
-    pub fixed-over : full .fixed < rest .fixed → false ≡ restSound rest full
-    fixed-over h = simp (le-leb (rest .work) (full .work) work, lt-leb (rest .fixed) (full .fixed) h)
-
-    module _ (fixed : rest .fixed ≤ full .fixed) where
-      pub finished-fixed : rest .work ≡ 0 → eqb (rest .fixed) 0 ≡ restSound rest full
-      finished-fixed z =
-          simp (le-leb (rest .work) (full .work) work, le-leb (rest .fixed) (full .fixed) fixed, eq-eqb (rest .work) 0 z)
-
-      pub open-fixed : (rest .work ≡ 0 → ⊥) → true ≡ restSound rest full
-      open-fixed n =
-          simp (le-leb (rest .work) (full .work) work, le-leb (rest .fixed) (full .fixed) fixed, ne-eqb (rest .work) 0 n)
-
--- what is left of an entry's job, and a whole job of its task, as they are read, at a speed
-pub record Compared (b : List ℕ) (i speed : ℕ) (rest full : Rest) : Type 0 where
-  pub rest-in : rest ≡ restIn (entryIn b i)
-  pub whole-in : full ≡ whole (taskOf (entryIn b i))
-
-module _ {b : List ℕ} {i speed : ℕ} {rest full : Rest} (k : Compared b i speed rest full) where
-  abbrev entry : Entry
-  entry = entryIn b i
-
-  -- the three tests as the code makes them
-  entry-tests :
-      (remaining : ℕ) →
-      remaining ≡ entry .remaining →
-      entrySound speed entry
-      ≡ both (restSound rest full) (both (leb remaining (timeOf speed full)) (leb (timeOf speed rest) remaining))
-  entry-tests remaining d =
-      sym
-      (ap₂ both (ap₂ restSound (k .rest-in) (k .whole-in))
-      (ap₂ both
-      (ap₂ (λ (n : ℕ) (y : Rest). leb n (timeOf speed y)) d (k .whole-in))
-      (ap₂ (λ (x : Rest) (n : ℕ). leb (timeOf speed x) n) (k .rest-in) d)))
-
-  pub rest-high : {found : Bool} → found ≡ restSound rest full → found ≡ false → false ≡ entrySound speed entry
-  rest-high f e =
-      sym
-      (entry-tests (entry .remaining) refl
-      ∙ ap (λ (t : Bool). both t (both (leb (entry .remaining) (timeOf speed full)) (leb (timeOf speed rest) (entry .remaining))))
-      (sym f ∙ e))
-
--- and its plain ticks left, of which it was found whether they are within the time of a whole job
-pub record Measured (b : List ℕ) (i speed : ℕ) (rest full : Rest) (remaining : ℕ) (found : Bool) : Type 0 where
-  pub compared : Compared b i speed rest full
-  pub low : restSound rest full ≡ true
-  pub remaining-in : remaining ≡ entryIn b i .remaining
-  pub found-is : found ≡ leb remaining (timeOf speed full)
-
-module _ {b : List ℕ} {i speed : ℕ} {rest full : Rest} {remaining : ℕ} {found : Bool} (k : Measured b i speed rest full remaining found) where
-  last-test : (t : Bool) → found ≡ t → both t (leb (timeOf speed rest) remaining) ≡ entrySound speed (entryIn b i)
-  last-test t e =
-      sym
-      (entry-tests (k .compared) remaining (k .remaining-in)
-      ∙ ap₂ (λ (u v : Bool). both u (both v (leb (timeOf speed rest) remaining))) (k .low)
-      (sym (k .found-is) ∙ e))
-
-  pub remaining-high : found ≡ false → false ≡ entrySound speed (entryIn b i)
-  remaining-high e = last-test false e
-
-  pub remaining-last : found ≡ true → {last : Bool} → last ≡ leb (timeOf speed rest) remaining → last ≡ entrySound speed (entryIn b i)
-  remaining-last e f = f ∙ last-test true e
-
--- every entry of a block, tested from the front: those from i on decide
-pub record Testing (b : List ℕ) (count speed i : ℕ) : Type 0 where
-  pub holds : Holds b
-  pub same : count ≡ stateCount b
-  pub below : i ≤ count
-  pub decide : every (entrySound speed) (drop i (take count (decode b .entries))) ≡ every (entrySound speed) (take count (decode b .entries))
-
-module _ {b : List ℕ} {count speed i : ℕ} (now : Testing b count speed i) where
-  size : count ≡ length (decode b .entries)
-  size = now .same ∙ sym (count-in b)
-
-  all-entries : every (entrySound speed) (take count (decode b .entries)) ≡ every (entrySound speed) (decode b .entries)
-  all-entries = ap (every (entrySound speed)) (take-all count (decode b .entries) (omega (arith, size)))
-
-  pub entries-end : count ≤ i → true ≡ every (entrySound speed) (decode b .entries)
-  entries-end h =
-      every-end (entrySound speed) (decode b .entries) count noEntry (omega (arith, size)) i (omega (arith, now .below)) (now .decide) ∙ all-entries
-
-  module _ (h : i < count) {found : Bool} (e : found ≡ entrySound speed (entryIn b i)) where
-    tested-is : entrySound speed (getD (decode b .entries) i noEntry) ≡ found
-    tested-is = ap (entrySound speed) (entry-at b i (omega (arith, now .same))) ∙ sym e
-
-    pub entries-stop : found ≡ false → false ≡ every (entrySound speed) (decode b .entries)
-    entries-stop f =
-        every-not (entrySound speed) (decode b .entries) count noEntry (omega (arith, size)) i h (now .decide) (tested-is ∙ f) ∙ all-entries
-
-    pub entries-again : found ≡ true → Testing b count speed (i + 1)
-    entries-again t = record {
-      holds = now .holds;
-      same = now .same;
-      below = omega arith;
-      decide = every-again (entrySound speed) (decode b .entries) count noEntry (omega (arith, size)) i h (now .decide) (tested-is ∙ t);
-    }
-
--- no job is open
-module _ {speeds b l : List ℕ} {count best : ℕ} (k : Looked speeds b l count best) (highest : ℕ) (none : best ≡ noKey) where
-  idle-sound : orderIn speeds b highest ≡ both (eqb (decode b .task) 255) (eqb (decode b .level) 0)
-  idle-sound = ap (orderSound speeds (timingIn speeds b) highest (decode b)) (none-open k none)
-
-  pub not-idle : (decode b .task ≡ 255 → ⊥) → false ≡ orderIn speeds b highest
-  not-idle n = sym (idle-sound ∙ ap (λ (t : Bool). both t (eqb (decode b .level) 0)) (ne-eqb (decode b .task) 255 n))
-
-  pub idle-level : decode b .task ≡ 255 → eqb (decode b .level) 0 ≡ orderIn speeds b highest
-  idle-level e = sym (idle-sound ∙ ap (λ (t : Bool). both t (eqb (decode b .level) 0)) (eq-eqb (decode b .task) 255 e))
-
--- the level that the order names meets the allowance
-abbrev meetsIn : List ℕ → List ℕ → Bool
-meetsIn speeds b = leb (runningTime speeds (decode b)) (allowance (timingIn speeds b) (decode b) (decode b .task))
-
--- task i's job is the most urgent open one
-module _ {speeds b l : List ℕ} {count best i : ℕ} (k : Told speeds b l count best i) (highest : ℕ) where
-  run-sound : orderIn speeds b highest ≡ both (eqb (decode b .task) i) (both (leb (decode b .level) highest) (meetsIn speeds b))
-  run-sound =
-      ap (orderSound speeds (timingIn speeds b) highest (decode b)) (first-open k .queue)
-      ∙ ap (λ (n : ℕ). both (eqb (decode b .task) n) (both (leb (decode b .level) highest) (meetsIn speeds b))) (first-open k .task)
-
-  pub other-task : (decode b .task ≡ i → ⊥) → false ≡ orderIn speeds b highest
-  other-task n =
-      sym (run-sound ∙ ap (λ (t : Bool). both t (both (leb (decode b .level) highest) (meetsIn speeds b))) (ne-eqb (decode b .task) i n))
-
--- it is the order's
-module _ {speeds b l : List ℕ} {count best : ℕ} (k : Told speeds b l count best (decode b .task)) (highest : ℕ) where
-  level-decides : orderIn speeds b highest ≡ both (leb (decode b .level) highest) (meetsIn speeds b)
-  level-decides =
-      run-sound k highest
-      ∙ ap (λ (t : Bool). both t (both (leb (decode b .level) highest) (meetsIn speeds b))) (eq-eqb (decode b .task) (decode b .task) refl)
-
-  pub level-high : highest < decode b .level → false ≡ orderIn speeds b highest
-  level-high h = sym (level-decides ∙ ap (λ (t : Bool). both t (meetsIn speeds b)) (lt-leb (decode b .level) highest h))
-
--- at a level no higher than nominal, whose speed tells whether the allowance is enough
-pub record Weighed (held : List ℕ) (levels : ℕ) (b l : List ℕ) (count best highest : ℕ) (rest : Rest) (allowed : ℕ) (found : Bool) : Type 0 where
-  pub table : Table held levels
-  pub read : Read (loaded held levels) b l count best (decode b .task) rest allowed
-  pub top : highest < levels
-  pub low : decode b .level ≤ highest
-  pub found-is : found ≡ leb (timeOf (getD held (decode b .level) 0) rest) allowed
-
-module _ {held : List ℕ} {levels : ℕ} {b l : List ℕ} {count best highest : ℕ} {rest : Rest} {allowed : ℕ} {found : Bool}
-    (k : Weighed held levels b l count best highest rest allowed found) where
-  abbrev table-speeds : List ℕ
-  table-speeds = loaded held levels
-
-  pub level-meets : found ≡ orderIn (loaded held levels) b highest
-  level-meets =
-      k .found-is
-      ∙ ap (λ (x : ℕ). leb (timeOf x rest) allowed) (speed-is (k .table) (decode b .level) (omega (arith, k .low, k .top)))
-      ∙ ap₂ (λ (x : Rest) (a : ℕ). leb (timeOf (speedOf table-speeds (decode b .level)) x) a) (read-rest (k .read)) (read-allowed (k .read))
-      ∙ sym (level-decides (k .read .told) highest ∙ ap (λ (t : Bool). both t (meetsIn table-speeds b)) (le-leb (decode b .level) highest (k .low)))
 
 -- a state, by each of the three things that are asked of it
 both-not : (a b : Bool) → b ≡ false → both a b ≡ false

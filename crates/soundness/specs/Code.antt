@@ -5,13 +5,10 @@ use mathlib.Core.Path.{_≡_}
 use mathlib.Core.Bool.{Bool, true, false}
 use mathlib.Core.List.{List}
 use lib.ListN.{replicate}
-use lib.Dec.{leb, eqb}
-use Rattle.arith.specs.Choice.{pick, both}
-use Rattle.plan.specs.declared.Rest.{Rest}
+use Rattle.arith.specs.Choice.{both}
 use Rattle.plan.specs.Levels.{nominal}
 use Rattle.reclaiming.specs.StateBlock.{State, stateCount, decode, planIn, places}
-use Rattle.reclaiming.specs.Orders.{openJobs}
-use Rattle.reclaiming.specs.Questions.{inTime, orderSound, stateSound, soundAt}
+use Rattle.reclaiming.specs.Questions.{inTime, stateSound, soundAt}
 use Rattle.state.specs.Code.{Holds, timingIn}
 use Rattle.urgency.specs.Code.{Keyed, keysIn}
 use Rattle.soundness.specs.declared.Tested.{Tested}
@@ -22,16 +19,6 @@ pub record Good (speeds bytes keys : List ℕ) (highest : ℕ) : Type 0 where
   pub holds : Holds bytes
   pub keyed : Keyed (timingIn speeds bytes) (decode bytes .clock) keys
   pub nominal : highest ≡ nominal speeds (planIn (decode bytes))
-
--- whether what is left of a job is sound, beside a whole one
-abbrev pub restSound : Rest → Rest → Bool
-restSound rest whole =
-    both (leb (rest .work) (whole .work))
-    (both (leb (rest .fixed) (whole .fixed)) (pick (eqb (rest .work) 0) (eqb (rest .fixed) 0) true))
-
--- whether the order that stands in a block is sound
-abbrev pub orderIn : List ℕ → List ℕ → ℕ → Bool
-orderIn speeds b highest = orderSound speeds (timingIn speeds b) highest (decode b) (openJobs (timingIn speeds b) (decode b))
 
 -- whether a state is sound and its clock in range
 abbrev pub timedSound : List ℕ → State → Bool

@@ -1,3 +1,2 @@
-pub mod DrainLaws
 pub mod ArriveLaws
 pub mod TickSteps

@@ -1,10 +1,10 @@
 -- What is found by the keys of the latest jobs is what the definitions find by deadline, arrival and task.
 -- Assumes nothing.
 use Prim.Native.Nat.{ℕ, zero, suc, _+_, _-_, _*_, _/_, _%_, _<_, _≤_, min}
-use mathlib.Core.Path.{_≡_, refl, sym, ap, ap₂, subst, _∙_}
+use mathlib.Core.Path.{_≡_, refl, sym, ap, subst, _∙_}
 use mathlib.Core.Bool.{Bool, false}
-use mathlib.Core.List.{List, [], _∷_, _++_, map}
-use mathlib.Core.Logic.{inl, inr}
+use mathlib.Core.List.{List, [], _∷_}
+use mathlib.Core.Logic.{inl}
 use native.Mathlib.Nat.{mod-add-div', mod-lt, mod-add-mod, mod-eq-of-lt, mod-self, div-mul-le-self}
 use native.Mathlib.Decide.{ℕ-discrete}
 use native.Mathlib.Omega.{arith}
@@ -12,7 +12,6 @@ use borrow.Author.Tests.{lt-ltb, le-ltb, eq-eqb, ne-eqb}
 use lib.Dec.{ltb, eqb}
 use lib.ListN.{getD}
 use Rattle.arith.specs.Choice.{pick, lex}
-use Rattle.arith.specs.Digits.{digits}
 use Rattle.arith.specs.Sum.{sumTo}
 use Rattle.arith.proofs.Sums.{sumTo-eq}
 use Rattle.arith.proofs.Tests.{passed, failed, tested, le-yes, le-not, testLe, eq-yes, eq-not, testEq, lex-less, lex-same, lex-more, testLex}
@@ -24,19 +23,14 @@ use Rattle.reclaiming.specs.StateBlock.{State, remainingOf, places}
 use Rattle.reclaiming.specs.Orders.{nextArrival, allowance}
 use Rattle.arith.specs.Ranges.{leastTo}
 use Rattle.reclaiming.specs.Passes.{drainedOf, arrivesAt}
-use Rattle.reclaiming.specs.Calls.{queueBytes}
 use Rattle.reclaiming.specs.Questions.{largestClock}
-use Rattle.urgency.specs.Code.{Keyed, keyOf, noKey, deadlineIn, dueAt, urgentBy, leastKey, allowedBy, drainedBy, placed, readyTo, tasksBytes}
+use Rattle.urgency.specs.Code.{Keyed, keyOf, noKey, deadlineIn, dueAt, urgentBy, leastKey, allowedBy, drainedBy}
 use Rattle.arith.proofs.RangeLaws.{least-le, Attained, least-at}
 
 -- the key at the head of a queue
 abbrev pub headKey : List ℕ → List Pending → ℕ
 headKey keys [] = noKey
 headKey keys (e ∷ q) = getD keys (e .job .task) 0
-
--- the tasks of a queue's entries
-abbrev pub queueTasks : List Pending → List ℕ
-queueTasks q = map (λ (e : Pending). e .job .task) q
 
 -- the parts of a key
 module _ (due p i : ℕ) (h : i < places) where
@@ -78,16 +72,6 @@ key-enqueue τ keys e f q =
     elim (tested (moreUrgent τ (f .job) (e .job)))
     as (λ b _. headKey keys (pick b (f ∷ enqueue τ e q) (e ∷ f ∷ q)) ≡ pick b (getD keys (f .job .task) 0) (getD keys (e .job .task) 0))
     [ passed ↦ refl | failed ↦ refl ]
-
--- a standing queue's bytes
-standing-bytes : (τ : Timing) (t : ℕ) (left : ℕ → ℕ) (n : ℕ) (q : List Pending) → ((e : Pending) → In e q → Stands τ t left n e) →
-    queueBytes q ≡ tasksBytes left (queueTasks q)
-standing-bytes τ t left n [] s = refl
-standing-bytes τ t left n (e ∷ q) s =
-    let a : Stands τ t left n e = s e (inl refl) in
-    let r : e .remaining ≡ left (e .job .task) =
-    ap (λ (p : Pending). p .remaining) (a .is) ∙ ap left (sym (ap (λ (p : Pending). p .job .task) (a .is))) in
-    ap₂ (λ (x : ℕ) (y : List ℕ). e .job .task ∷ digits 256 2 x ++ y) r (standing-bytes τ t left n q (λ f m. s f (inr m)))
 
 -- d ticks up to the next multiple of a period p after c: they reach it, or stay short of it
 module _ (p c d : ℕ) (pos : 0 < p) (some : 1 ≤ d) (le : d ≤ p - c % p) where
@@ -169,7 +153,7 @@ module _ (τ : Timing) (t : ℕ) (keys : List ℕ) (keyed : Keyed τ t keys) whe
       (λ j k. ap (λ (b : Bool). pick {A = ℕ} b 0 (f j)) (urgent-is x j h k))
 
   -- an entry of a standing queue, against a task's job
-  urgent-standing : (left : ℕ → ℕ) (n : ℕ) (e : Pending) → Stands τ t left n e → n < τ .count →
+  pub urgent-standing : (left : ℕ → ℕ) (n : ℕ) (e : Pending) → Stands τ t left n e → n < τ .count →
       urgentBy keys (e .job .task) n ≡ moreUrgent τ (e .job) (latest τ t n)
   urgent-standing left n e s h =
       let k : e .job .task ≡ s .number = ap (λ (p : Pending). p .job .task) (s .is) in
@@ -194,34 +178,6 @@ module _ (τ : Timing) (t : ℕ) (keys : List ℕ) (keyed : Keyed τ t keys) whe
           min-pick (getD keys (e .job .task) 0) (getD keys n 0)
           ∙ ap (λ (b : Bool). pick b (getD keys (e .job .task) 0) (getD keys n 0)) (urgent-standing left n e (s e (inl refl)) h)
           ∙ sym (key-enqueue τ keys (latestPending τ t left n) e q)
-
-  -- the ready tasks are those of the queue
-  pub ready-is : (left : ℕ → ℕ) (n : ℕ) → n ≤ τ .count → readyTo keys left n ≡ queueTasks (queueOf τ t left n)
-  ready-is left zero h = refl
-  ready-is left (suc n) h =
-      ap (λ (q : List ℕ). pick (eqb (left n) 0) q (placed keys n q)) (ready-is left n (omega arith))
-      ∙ elim (testEq (left n) 0)
-      as (λ b _.
-      pick b (queueTasks (queueOf τ t left n)) (placed keys n (queueTasks (queueOf τ t left n)))
-      ≡ queueTasks (pick b (queueOf τ t left n) (enqueue τ (latestPending τ t left n) (queueOf τ t left n))))
-      [ eq-yes w ↦ refl | eq-not w ↦ go (queueOf τ t left n) (queueOf-in τ t left n) ]
-    where
-      go : (q : List Pending) → ((e : Pending) → In e q → Stands τ t left n e) →
-          placed keys n (queueTasks q) ≡ queueTasks (enqueue τ (latestPending τ t left n) q)
-      go [] s = refl
-      go (e ∷ q) s =
-          ap (λ (b : Bool). pick b (e .job .task ∷ placed keys n (queueTasks q)) (n ∷ e .job .task ∷ queueTasks q))
-          (urgent-standing left n e (s e (inl refl)) h)
-          ∙ ap (λ (r : List ℕ). pick (moreUrgent τ (e .job) (latest τ t n)) (e .job .task ∷ r) (n ∷ e .job .task ∷ queueTasks q)) (go q (λ f m. s f (inr m)))
-          ∙ elim (tested (moreUrgent τ (e .job) (latest τ t n)))
-          as (λ b _.
-          pick b (e .job .task ∷ queueTasks (enqueue τ (latestPending τ t left n) q)) (n ∷ e .job .task ∷ queueTasks q)
-          ≡ queueTasks (pick b (e ∷ enqueue τ (latestPending τ t left n) q) (latestPending τ t left n ∷ e ∷ q)))
-          [ passed ↦ refl | failed ↦ refl ]
-
-  pub ready-bytes : (left : ℕ → ℕ) (n : ℕ) → n ≤ τ .count → queueBytes (queueOf τ t left n) ≡ tasksBytes left (readyTo keys left n)
-  ready-bytes left n h =
-      standing-bytes τ t left n (queueOf τ t left n) (queueOf-in τ t left n) ∙ ap (tasksBytes left) (sym (ready-is left n h))
 
   -- the ticks to the next arrival
   pub next-is : 1 ≤ τ .count → deadlineIn (leastTo (τ .count) (λ i. getD keys i 0)) - t ≡ nextArrival τ t

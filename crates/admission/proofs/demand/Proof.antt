@@ -5,7 +5,8 @@ use mathlib.Core.Path.{refl}
 use native.Mathlib.Omega.{arith}
 use borrow.Author.Needs.{needs}
 use Rattle.arith.proofs.Loops.{length-mapped}
-use Rattle.admission.proofs.Admissions.{Asked, Added, Summed, task-at, added-small, summed-more, summed-all}
+use Rattle.ranges.proofs.TaskRanges.{task-at}
+use Rattle.admission.proofs.Admissions.{Asked, Added, Summed, added-small, summed-more, summed-all}
 use Rattle.admission.proofs.demand.Statement.{statement}
 use Rattle.admission.proofs.demand.Tie as tie
 

@@ -8,7 +8,8 @@ use Rattle.arith.specs.Arrays.{padded}
 use Rattle.arith.specs.Ranges.{listTo}
 use Rattle.arith.proofs.ArrayLaws.{padded-none, values-more}
 use Rattle.arith.proofs.Loops.{length-mapped}
-use Rattle.admission.proofs.Admissions.{Ranged, task-at, jobsIn}
+use Rattle.ranges.proofs.TaskRanges.{Ranged, task-at}
+use Rattle.admission.proofs.Admissions.{jobsIn}
 use Rattle.admission.proofs.jobs_within.Statement.{statement}
 use Rattle.admission.proofs.jobs_within.Tie as tie
 

@@ -3,7 +3,7 @@
 use borrow.Author.Needs.{needs}
 use Rattle.plan.specs.Blocks.{tasksOf}
 use Rattle.arith.proofs.Loops.{length-mapped}
-use Rattle.admission.proofs.Admissions.{Held}
+use Rattle.ranges.proofs.TaskRanges.{Held}
 use Rattle.plan_writing.proofs.WriteLaws.{bit-edition, bit-count}
 use Rattle.plan_writing.proofs.plan_bit.Statement.{statement}
 use Rattle.plan_writing.proofs.plan_bit.Tie as tie

@@ -1,0 +1,2 @@
+pub mod DrainLaws
+pub mod WorkLaws

@@ -1,0 +1,64 @@
+// Whether the tasks of a plan are in range, and their hyperperiod.
+use plan::Plan;
+use plan::Task;
+ghost use mathlib.Core.Path.{_≡_};
+ghost use mathlib.Core.Bool.{true};
+ghost use Prim.Native.Nat.{_≤_, min};
+ghost use Rattle.arith.specs.Choice.{every};
+ghost use Rattle.plan.specs.Levels.{hyperperiod};
+ghost use Rattle.plan.specs.Questions.{inRange, rangeQuestion};
+ghost use Rattle.plan.specs.Blocks.{tasksOf};
+
+fn task_in_range(t: Task) -> bool
+    ensures { λ r. ⌜ r ≡ inRange t ⌝ }
+{
+    if t.period < 1 {
+        return false;
+    }
+    if t.period > 65535 {
+        return false;
+    }
+    if t.worst < 1 {
+        return false;
+    }
+    if t.worst > 1048575 {
+        return false;
+    }
+    t.fixed <= 255
+}
+
+// Question 6: whether each task's period, worst case and fixed ticks are in their range.
+pub fn in_range(p: Plan) -> bool
+    requires { ⌜ p .count ≤ 16 ⌝ }
+    ensures { λ r. ⌜ r ≡ rangeQuestion (tasksOf p) .reply ⌝ }
+{
+    let count = p.count;
+    let mut i: usize = 0;
+    while i < count {
+        let t = p.tasks[i];
+        if !task_in_range(t) {
+            return false;
+        }
+        i += 1;
+    }
+    true
+}
+
+// What question 7 asks about: the hyperperiod, or 1,000,001 where it is above 1,000,000.
+pub fn hyperperiod_of(p: Plan) -> u32
+    requires { ⌜ (p .count ≤ 16) × (every inRange (tasksOf p) ≡ true) ⌝ }
+    ensures { λ r. ⌜ r ≡ min (hyperperiod (tasksOf p)) 1000001 ⌝ }
+{
+    let mut i = p.count;
+    let mut h: u32 = 1;
+    while 0 < i {
+        i -= 1;
+        let t = p.tasks[i];
+        let l = numeric::lcm_of(t.period, h);
+        if l > 1000000 {
+            return 1000001;
+        }
+        h = l as u32;
+    }
+    h
+}
