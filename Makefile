@@ -7,6 +7,8 @@
 # make clean   removes all that was made
 
 ARCHIVES := target/staticlib/libplan_calls.a target/staticlib/libdispatcher_calls.a
+# For the tests alone: the rounding-up division, which the calls have built in.
+ROUNDING := target/staticlib/libtime_needed.a
 CODE := crates.txt $(shell find crates -name '*.rt')
 PREFIX ?= /usr/local
 
@@ -23,7 +25,7 @@ host: archives programs
 	cd host && cargo test --release --offline
 	host/c/test.sh
 
-archives: $(ARCHIVES)
+archives: $(ARCHIVES) $(ROUNDING)
 
 programs:
 	@tools/program bench
@@ -43,6 +45,9 @@ target/staticlib/libkilmstra.a: $(ARCHIVES)
 	mkdir target/joined
 	cd target/joined && for archive in $(ARCHIVES); do ar x ../../$$archive || exit; done
 	ar rcs $@ target/joined/*.o
+
+$(ROUNDING): crates/numeric/src/lib.rt
+	tools/visible numeric time_needed
 
 target/staticlib/lib%.a: $(CODE)
 	rt staticlib $*

@@ -1,7 +1,8 @@
 #!/usr/bin/env bash
 # Builds the C programs of this folder over the proved library, as C99 and as C++, plain and with the
 # compiler's checks at run time, then over an installed copy. What a program prints must be what its
-# file .out has. readme.c has in it the very lines of C in the README at the top. Tries './run' too.
+# file .out has. readme.c has in it the very lines of C in the README at the top. Looks at the code of the
+# rounding-up division, and tries './run' too.
 # The very last line is 'N passed, M failed'.
 set -u -o pipefail
 cd "$(dirname "${BASH_SOURCE[0]}")" || exit 2
@@ -95,6 +96,26 @@ wants_no_more_than_memory_functions() {
     ! awk 'NF > 1 { print $1 }' <<<"$wanted" | grep -vxE 'memcpy|memmove|memset|memcmp'
 }
 
+# How many instructions of a function have such a name.
+instructions() { # PATTERN FUNCTION ARCHIVE
+    objdump -d --no-show-raw-insn "$top/target/staticlib/lib$3.a" |
+        awk -v pattern="^($1)" -v function_line="<$2>:" '
+            NF == 0 { inside = 0 }
+            inside && $2 ~ pattern { found++ }
+            $2 == function_line { inside = seen = 1 }
+            END { if (seen) print found + 0 }'
+}
+
+# 02, No. 3: the rounding-up division has no jump of any kind, and no call that may hide one. That jumps
+# are seen at all, a pass shows.
+rounds_up_without_a_branch() {
+    local jumps='j|loop|call'
+    objdump -d --no-show-raw-insn "$top/target/staticlib/libtime_needed.a"
+    [ "$(instructions div time_needed time_needed)" = 1 ] &&
+        [ "$(instructions "$jumps" time_needed time_needed)" = 0 ] &&
+        [ "$(instructions "$jumps" kilmstra_pass dispatcher_calls)" -gt 0 ]
+}
+
 runs_the_bench_program() {
     { echo 'target/bin/bench < examples/bench.in' && cat "$top/examples/bench.out"; } >"$work/wanted"
     prints "$work/wanted" "$top/run"
@@ -115,6 +136,7 @@ for source in *.c; do
     try "${source%.c}, over the installed copy" over_the_installed_copy "${source%.c}"
 done
 try 'the installed archive wants no more than memory functions' wants_no_more_than_memory_functions
+try 'the rounding-up division has no branch' rounds_up_without_a_branch
 try './run' runs_the_bench_program
 
 echo "$passed passed, $failed failed"

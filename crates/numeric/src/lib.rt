@@ -8,16 +8,14 @@ ghost use Rattle.arith.specs.Divisor.{gcd, lcm};
 ghost use Rattle.arith.specs.Digits.{number, digits};
 ghost use Rattle.arith.specs.Bits.{unpacked};
 
-// Ticks that work needs at a speed, rounded up.
+// Ticks that work needs at a speed, rounded up: speed less one is added before dividing.
 pub fn time_needed(speed: u32, work: u32) -> u32
     requires { ⌜ (0 < speed) × (speed ≤ 1000) × (work < 16777216) ⌝ }
     ensures { λ r. ⌜ r ≡ need speed work ⌝ }
 {
-    let whole = work / speed;
-    if work % speed == 0 {
-        return whole;
-    }
-    whole + 1
+    // A number of 16 bits, and one, is never 0, and the compiler sees it; before a plain `/ speed` it puts a test for 0 and a jump.
+    let less = ((speed - 1) as u16) as u32;
+    (work + less) / (less + 1)
 }
 
 // The greatest common divisor, by recursion on a falling remainder.

@@ -16,6 +16,7 @@ mod passes;
 mod plans;
 mod queues;
 mod refusals;
+mod rounding;
 mod runs;
 mod starts;
 mod states;
