@@ -119,7 +119,7 @@ impl Plans {
     /// From the start to the second jobs: the ticks held and queued are those that task 0 needs, one
     /// fewer leave it one to go, and as many are refused with 14 if it hasn't finished.
     #[track_caller]
-    fn run(&self, levels: &[u8]) {
+    fn played(&self, levels: &[u8]) {
         let ticks = self.ticks;
         let mut state = [0; STATE_BYTES];
         assert_eq!(start(levels, &self.refused_block, &mut state), Err(8));
@@ -136,6 +136,7 @@ impl Plans {
     }
 }
 
+/// The order to run a task at the only level.
 fn run(task: u8, hold: u32) -> Result<Order, u32> {
     let level = 0;
     Ok(Order::Run { task, level, hold })
@@ -172,7 +173,7 @@ fn small_works_in_the_calls() {
                 made += 1;
             }
             plans.judged(levels);
-            plans.run(levels);
+            plans.played(levels);
             tried += 1;
         }
     }
@@ -191,7 +192,7 @@ fn large_works_in_the_calls() {
             if work <= LARGEST_WORST && ticks < LONGEST_PERIOD {
                 let plans = Plans::new(work, ticks);
                 plans.judged(&levels);
-                plans.run(&levels);
+                plans.played(&levels);
                 tried += 1;
             }
         }
