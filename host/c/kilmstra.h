@@ -16,6 +16,11 @@
  * left divided by the speed, rounded up, and every order, hold and question counts with that time. So
  * the worst case, which is in units of work, leaves the fixed ticks out.
  *
+ * An order names the lowest level at which the job ends within the ticks that it is allowed: those
+ * that the plain schedule has left for it and for all more urgent jobs. A job that is the only open
+ * one is allowed at least the ticks to the next arrival. So it may end after its plain job, but no
+ * later than the first arrival after that, and every deadline is met all the same.
+ *
  * What holds for every call:
  * - It answers with one number, a reply. The functions at the end of this file take it apart.
  * - A reply is a refusal, with a number of enum kilmstra_refusal, or else what the call says below.
@@ -110,7 +115,7 @@ uint64_t kilmstra_pass(uint8_t *state, size_t state_len, uint32_t d, uint8_t fin
 
 /* Shows the queue and answers with the count of bytes. For each job with ticks left in the plain
  * schedule, the most urgent first, these are its task (1 byte) and those ticks (2 bytes, the higher
- * one first).
+ * one first). A job that is open past its plain finish, as the only open one may be, is not in it.
  * Leaves the state, and the bytes of buffer past those written, as they were.
  * Refuses with 10 if the state is not sound, then with 9 if the queue does not fit. */
 uint64_t kilmstra_show(const uint8_t *state, size_t state_len, uint8_t *buffer, size_t buffer_len);

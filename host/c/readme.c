@@ -1,7 +1,7 @@
 /* What the loop in the README at the top needs around it, so that it can be built and run as it stands
  * there: 01's speeds and bench plan, and a processor, a timer and jobs that are played. Up to tick 20
- * the jobs end as in 01's example, where the processor idles at tick 18. The last job never ends, so
- * that its pass is refused. */
+ * the jobs end as in 01's example with the passes of 02's No. 4, where the processor idles at tick 19.
+ * The last job never ends, so that its pass is refused. */
 
 #include "kilmstra.h"
 
@@ -21,7 +21,7 @@ enum { TASKS = 3, MOST_ORDERS = 20 };
 static const uint32_t plan[3 * TASKS] = {10, 400, 0, 10, 400, 0, 30, 600, 0};
 
 /* The ticks that each job takes, in the order in which they run; one with 0 never ends. */
-static const uint32_t taken[MOST_ORDERS] = {1, 7, 2, 4, 4, 5};
+static const uint32_t taken[MOST_ORDERS] = {1, 7, 2, 4, 5, 5};
 
 static uint32_t now;
 

@@ -11,8 +11,8 @@ use borrow.Author.Tests.{eqb-true}
 use lib.Dec.{eqb}
 use lib.ListN.{length, getD, List·getD-append, List·getD-eq-default}
 use lib.Seq.{getD-append-add}
-use Rattle.arith.specs.Choice.{every}
-use Rattle.arith.proofs.Tests.{both-left, both-right, both-true}
+use Rattle.arith.specs.Choice.{both, every}
+use Rattle.arith.proofs.Tests.{both-left, both-right, both-true, both-swap}
 
 -- an element of the first of two lists joined, and one of the second
 module _ {ℓ} {A : Type ℓ} (xs ys : List A) (n k : ℕ) (d : A) (e : length xs ≡ n) where
@@ -45,3 +45,9 @@ zero-at ds h k =
 pub map-snoc : {A B : Type 0} (f : A → B) (l : List A) (x : A) → map f (l ++ (x ∷ [])) ≡ map f l ++ (f x ∷ [])
 map-snoc f [] x = refl
 map-snoc f (y ∷ l) x = ap (λ m. f y ∷ m) (map-snoc f l x)
+
+-- two tests of every element, each by itself and both at once
+pub every-both {ℓ} : {A : Type ℓ} (f g : A → Bool) (l : List A) → every (λ (x : A). both (f x) (g x)) l ≡ both (every f l) (every g l)
+every-both f g [] = refl
+every-both f g (x ∷ xs) =
+    ap (both (both (f x) (g x))) (every-both f g xs) ∙ both-swap (f x) (g x) (every f xs) (every g xs)

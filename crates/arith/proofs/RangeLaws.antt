@@ -89,6 +89,11 @@ module _ (f : ℕ → Bool) where
         | failed ↦ λ x. refl
       ] refl
 
+-- tests that agree at each index
+pub some-same : (n : ℕ) (f g : ℕ → Bool) → ((i : ℕ) → i < n → f i ≡ g i) → someTo n f ≡ someTo n g
+some-same zero f g h = refl
+some-same (suc n) f g h = ap₂ (λ (x y : Bool). pick x true y) (h n (omega arith)) (some-same n f g (λ i k. h i (omega arith)))
+
 -- a list whose values are known
 pub listTo-is {ℓ} :
     {A : Type ℓ} (n : ℕ) (f : ℕ → A) (l : List A) (d : A) → length l ≡ n → ((i : ℕ) → i < n → getD l i d ≡ f i) → l ≡ listTo n f

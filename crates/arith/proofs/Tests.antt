@@ -57,10 +57,21 @@ both-right false b h = absurd (subst T (sym h) tt)
 pub both-true : {a b : Bool} → a ≡ true → b ≡ true → both a b ≡ true
 both-true {a} {b} p q = subst (λ (x : Bool). both x b ≡ true) (sym p) q
 
+-- the second passed, so the first decides
+pub both-yes : (a : Bool) → both a true ≡ a
+both-yes true = refl
+both-yes false = refl
+
 -- the second did not
 pub both-false : (a : Bool) → both a false ≡ false
 both-false true = refl
 both-false false = refl
+
+-- of two pairs of tests, all four
+pub both-swap : (a b c d : Bool) → both (both a b) (both c d) ≡ both (both a c) (both b d)
+both-swap false b c d = refl
+both-swap true true c d = refl
+both-swap true false c d = sym (both-false c)
 
 -- a test that counts only where another passes
 pub only-if : (a b : Bool) → (a ≡ true → b ≡ true) → pick a b true ≡ true
@@ -78,6 +89,11 @@ neither-first false b h = refl
 pub neither-second : (a b : Bool) → pick a true b ≡ false → b ≡ false
 neither-second true b h = absurd (true≢false h)
 neither-second false b h = h
+
+-- the second of two tests passed, so one did
+pub either-second : (a : Bool) {b : Bool} → b ≡ true → pick a true b ≡ true
+either-second true h = refl
+either-second false h = h
 
 -- the three outcomes of an order by a first key
 pub data TestLex (m n : ℕ) (rest : Bool) : Bool → Type 0 where

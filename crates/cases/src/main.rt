@@ -40,7 +40,8 @@ fn at_the_start(levels: &[u8], block: &[u8]) {
     );
 }
 
-// "At tick 18, 2 finished: 13", the levels at ticks 10 and 20 where a scheduler goes astray, and the whole listing's orders.
+// A finish while idle, which by 02, No. 4 is at tick 19 with 1 tick: 13; the levels at ticks 10 and 20 where a scheduler goes astray, and
+// the whole listing's orders.
 fn along_the_listing(levels: &[u8], block: &[u8]) {
     let mut state = [0u8; STATE_LENGTH];
     tell(b"start", kilmstra_start(levels, block, &mut state));
@@ -48,9 +49,9 @@ fn along_the_listing(levels: &[u8], block: &[u8]) {
     tell(b"tick 8", kilmstra_pass(&mut state, 7, 1));
     tell(b"tick 10", kilmstra_pass(&mut state, 2, 1));
     tell(b"tick 14", kilmstra_pass(&mut state, 4, 1));
-    tell(b"tick 18", kilmstra_pass(&mut state, 4, 1));
-    tell(b"tick 18, 2 finished", kilmstra_pass(&mut state, 2, 1));
-    tell(b"tick 20", kilmstra_pass(&mut state, 2, 0));
+    tell(b"tick 19", kilmstra_pass(&mut state, 5, 1));
+    tell(b"tick 19, 1 finished", kilmstra_pass(&mut state, 1, 1));
+    tell(b"tick 20", kilmstra_pass(&mut state, 1, 0));
 }
 
 // A byte as two hexadecimal digits.

@@ -12,7 +12,7 @@ ghost use lib.ListN.{length, drop};
 ghost use Rattle.reclaiming.specs.Calls.{isOrder, startReply, passReply, passBytes};
 ghost use Rattle.reclaiming.specs.Run.{trace, bytesAfter};
 ghost use Rattle.reclaiming.specs.Numbers.{replyNumber};
-ghost use Rattle.reclaiming.specs.Play.{passFrom, playedPasses, replyNumbers, playedState, playedReplies, PlayedOnTime, PlayedMostUrgent};
+ghost use Rattle.reclaiming.specs.Play.{passFrom, playedPasses, replyNumbers, playedState, playedReplies, PlayedOnTime, PlayedInTime, PlayedMostUrgent};
 ghost use Rattle.reclaiming.specs.Play.{playedShown, playedQueue, PlayedQueueShown};
 
 // One pass, as a number, played on a state; the reply as a number.
@@ -68,6 +68,7 @@ pub fn play(
     ensures { λ _. ⌜ now (state .exit) ≡ playedState (now (levels .entry)) (now (block .entry)) (now (state .entry)) (playedPasses (now (passes .entry)) (length (now (replies .entry)))) ⌝ }
     ensures { λ _. ⌜ now (replies .exit) ≡ playedReplies (now (levels .entry)) (now (block .entry)) (now (state .entry)) (playedPasses (now (passes .entry)) (length (now (replies .entry)))) (now (replies .entry)) ⌝ }
     ensures { λ r. ⌜ PlayedOnTime (now (levels .entry)) (now (block .entry)) r (playedPasses (now (passes .entry)) (length (now (replies .entry)))) (now (replies .exit)) ⌝ }
+    ensures { λ r. ⌜ PlayedInTime (now (levels .entry)) (now (block .entry)) r (playedPasses (now (passes .entry)) (length (now (replies .entry)))) (now (replies .exit)) ⌝ }
     ensures { λ r. ⌜ PlayedMostUrgent (now (levels .entry)) (now (block .entry)) r (playedPasses (now (passes .entry)) (length (now (replies .entry)))) (now (replies .exit)) ⌝ }
 {
     let first = start(levels, block, state);

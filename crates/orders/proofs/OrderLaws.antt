@@ -31,9 +31,11 @@ use Rattle.urgency.specs.Code.{Keyed, noKey, deadlineIn}
 use Rattle.orders.specs.Code.{choiceOf, runOf, chosenIn, chosenReply, holdBy, orderOf, Runnable, Enough}
 use Rattle.reclaiming.proofs.PassedStates.{choose-clock, choose-entries, choose-speeds}
 use Rattle.reclaiming.proofs.Allowances.{allowance-is}
+use Rattle.reclaiming.proofs.Lone.{allowance-least}
 use Rattle.state.proofs.BlockLaws.{count-in, store-order}
 use Rattle.urgency.proofs.KeyLaws as keys
-use Rattle.urgency.proofs.HeadLaws.{rest-is, Looked, none-open, Head, first-open, told-task, Read, read-below, read-rest, read-allowed}
+use Rattle.urgency.proofs.HeadLaws.{rest-is, Looked, none-open, Head, first-open, told-task}
+use Rattle.lone.proofs.LoneLaws.{Read, read-below, read-rest, read-allowed}
 use Rattle.urgency.proofs.OpenJobs.{timing-count}
 
 -- the lowest level that meets an allowance is no higher than one that does
@@ -112,24 +114,25 @@ chosen-none {speeds} {b} k e = ap (λ (q : List Pending). choiceOf speeds (order
 
 -- one is: a level at which every job can be done in its own ticks meets the allowance, of which they are a part
 pub read-enough :
-    {speeds b l : List ℕ} {count best i : ℕ} {rest : Rest} {allowed highest : ℕ} →
-    Read speeds b l count best i rest allowed →
+    {speeds b l : List ℕ} {count best i : ℕ} {rest : Rest} {next allowed highest : ℕ} →
+    Read speeds b l count best i rest next allowed →
     Enough speeds (decode b) highest →
     timeOf (speedOf speeds highest) rest ≤ allowed
 read-enough {speeds} {b} {i = i} {highest = highest} k enough =
     let s : State = decode b in
     let τ : Timing = timingIn speeds b in
-    let own : remainingOf s i ≤ allowance τ s i = omega (arith, allowance-is τ (s .clock) (remainingOf s) (τ .count) i (read-below k)) in
+    let own : remainingOf s i ≤ allowance τ s i =
+    omega (arith, allowance-is τ (s .clock) (remainingOf s) (τ .count) i (read-below k), allowance-least τ s i) in
     let can : timeOf (speedOf speeds highest) (restOf s i) ≤ remainingOf s i = enough .each i (omega (arith, read-below k, timing-count b, count-in b)) in
     omega (arith, read-allowed k, ap (timeOf (speedOf speeds highest)) (read-rest k))
 
 -- and its level was found
-pub record Picked (speeds b l : List ℕ) (count best i : ℕ) (rest : Rest) (allowed level : ℕ) : Type 0 where
-  pub read : Read speeds b l count best i rest allowed
+pub record Picked (speeds b l : List ℕ) (count best i : ℕ) (rest : Rest) (next allowed level : ℕ) : Type 0 where
+  pub read : Read speeds b l count best i rest next allowed
   pub level-is : level ≡ lowestLevel speeds rest allowed
   pub low : level < 8
 
-module _ {speeds b l : List ℕ} {count best i : ℕ} {rest : Rest} {allowed level : ℕ} (k : Picked speeds b l count best i rest allowed level) where
+module _ {speeds b l : List ℕ} {count best i : ℕ} {rest : Rest} {next allowed level : ℕ} (k : Picked speeds b l count best i rest next allowed level) where
   abbrev s : State
   s = decode b
 

@@ -1,4 +1,5 @@
 // Choosing an order: the task, the level and the hold.
+use lone::allowance_until;
 use plan::Rest;
 use reclaiming::Reply;
 use state::LEVEL_AT;
@@ -12,7 +13,6 @@ use state::clock_at;
 use state::count_at;
 use state::rest_at;
 use urgency::NO_KEY;
-use urgency::allowance_of;
 use urgency::most_urgent;
 use urgency::next_arrival;
 use urgency::task_in;
@@ -74,7 +74,7 @@ fn running_order(speeds: &[u32; 8], levels: usize, i: usize, level: usize, rest:
     }
 }
 
-// The order that is chosen in a state, where a level is known at which every job can be done in time.
+// The order that is chosen in a state, where a level is known at which every job can be done in time, and the ticks to the next arrival.
 pub fn chosen(
     speeds: &[u32; 8],
     levels: usize,
@@ -82,10 +82,12 @@ pub fn chosen(
     keys: &[u64; PLACES],
     count: usize,
     highest: usize,
+    next: u32,
 ) -> Choice
     requires { ⌜ Table (now speeds) levels × Holds (now block) × (count ≡ stateCount (now block)) ⌝ }
     requires { ⌜ Enough (loaded (now speeds) levels) (decode (now block)) highest ⌝ }
     requires { ⌜ Keyed (timingIn (loaded (now speeds) levels) (now block)) (decode (now block) .clock) (now keys) ⌝ }
+    requires { ⌜ next ≡ nextArrival (timingIn (loaded (now speeds) levels) (now block)) (decode (now block) .clock) ⌝ }
     ensures { λ r. ⌜ r ≡ choiceOf (loaded (now (speeds .entry)) levels) (chosenIn (loaded (now (speeds .entry)) levels) (now (block .entry))) ⌝ }
     ensures { λ r. ⌜ (r .task < 256) × (r .level < 256) ⌝ }
 {
@@ -99,7 +101,7 @@ pub fn chosen(
     }
     let i = task_in(best);
     let rest = rest_at(block, i);
-    let allowed = allowance_of(block, keys, count, best);
+    let allowed = allowance_until(block, keys, count, best, next);
     let level = level_for(speeds, levels, rest, allowed, highest);
     running_order(speeds, levels, i, level, rest)
 }
@@ -173,7 +175,7 @@ pub fn choose_until(
     ensures { λ r. ⌜ r ≡ chosenReply (loaded (now (speeds .entry)) levels) (now (block .entry)) ⌝ }
     ensures { λ _. ⌜ now (block .exit) ≡ encode (chosenIn (loaded (now (speeds .entry)) levels) (now (block .entry))) ⌝ }
 {
-    let c = chosen(speeds, levels, block, keys, count_at(block), highest);
+    let c = chosen(speeds, levels, block, keys, count_at(block), highest, next);
     put_order(block, c);
     order_of(c, hold_of(c, next))
 }

@@ -40,11 +40,11 @@ use Rattle.orders.specs.Code.{choiceOf, chosenIn, chosenReply, holdBy, orderOf,
 use Rattle.soundness.specs.Code.{Good, testedBy}
 use Rattle.ticks.specs.Code.{Stepping, renewedKeys}
 use Rattle.reclaiming.proofs.Fine.{FineEntries, Accepted}
-use Rattle.reclaiming.proofs.StateCodec.{Storable, StorableEntry, StorableTable, decode-encode, length-encode}
-use Rattle.reclaiming.proofs.Soundness.{planIn-at, length-planIn, pass-accepted, fine-storable, fine-small, sound-state}
+use Rattle.reclaiming.proofs.StateCodec.{Storable, StorableTable, decode-encode, length-encode}
+use Rattle.reclaiming.proofs.Soundness.{planIn-at, length-planIn, pass-accepted, entries-storable, fine-small, sound-state}
 use Rattle.reclaiming.proofs.NextArrival.{next-arrives, before-next, next-on}
-use Rattle.reclaiming.proofs.PassedStates.{choose-clock, choose-entries, choose-speeds, passed-entries}
-use Rattle.reclaiming.proofs.PassSound.{fine-chosen, moved-fine}
+use Rattle.reclaiming.proofs.PassedStates.{passed-entries}
+use Rattle.reclaiming.proofs.PassSound.{moved-fine, anew-ahead}
 use Rattle.state.proofs.BlockLaws.{count-in, entry-at}
 use Rattle.urgency.proofs.KeyLaws.{key-below, keyed-after, keyed-on}
 use Rattle.orders.proofs.OrderLaws.{hold-is}
@@ -124,28 +124,23 @@ module _ {speeds : List ℕ} {s : State} {d : ℕ} {finished : Bool} (k : Lettin
   moved-storable : Storable moved
   moved-storable =
       let old = fine-small speeds (planIn s) s plan (k .few) (sound-facts speeds (k .rising) s (k .ok)) in
-      let clock : chooseOrder speeds τ moved .clock ≡ s .clock + d = choose-clock speeds τ moved in
-      let new : Storable (chooseOrder speeds τ moved) =
-      fine-storable speeds (planIn s) (chooseOrder speeds τ moved) plan (k .rising) (k .few)
-      (fine-chosen speeds (planIn s) (plan .tasks .admitted) moved moved-facts) (omega (arith, clock, late))
-      (subst StorableTable (sym (choose-speeds speeds τ moved)) (k .stored)) in
-      let same : chooseOrder speeds τ moved .entries ≡ moved .entries = choose-entries speeds τ moved in
       record {
         clock = omega (arith, late);
         task = old .0;
         level = old .1;
         count = omega (arith, moved-count, entries-few speeds (k .rising) s (k .ok));
-        entries = subst (λ (l : List Entry). (i : ℕ) → i < length l → StorableEntry (getD l i noEntry)) same (new .entries);
+        entries = entries-storable speeds (planIn s) moved plan (k .rising) moved-facts;
         table = k .stored;
       }
 
-  -- at the nominal level every job can be done in its ticks
-  moved-enough : {highest : ℕ} → highest ≡ nominal speeds (planIn s) → Enough speeds moved highest
-  moved-enough e = record {
+  -- where an order is chosen anew, every job can be done in its ticks at the nominal level
+  moved-enough : choosesAnew τ s d finished ≡ true → {highest : ℕ} → highest ≡ nominal speeds (planIn s) → Enough speeds moved highest
+  moved-enough anew e = record {
     level = omega (arith, nominal-small speeds (k .rising) s (k .ok));
     each = λ i h.
         subst (λ (level : ℕ). timeOf (speedOf speeds level) (restOf moved i) ≤ remainingOf moved i) (sym e)
-        (moved-facts .ahead i (omega (arith, moved-count, length-planIn s)));
+        (anew-ahead speeds (k .rising) (planIn s) plan s (sound-facts speeds (k .rising) s (k .ok)) d finished lets anew i
+        (omega (arith, moved-count, length-planIn s)));
   }
 
   -- the order where it stays, and where it is chosen anew
@@ -257,8 +252,8 @@ module _ {speeds bytes keys : List ℕ} {highest next d : ℕ} {finished : Bool}
   pub after-again : encode (decode m) ≡ m
   after-again = ap encode back ∙ sym (k .moved)
 
-  pub after-enough : Enough speeds (decode m) highest
-  after-enough = subst (λ (x : State). Enough speeds x highest) (sym back) (moved-enough allowed (k .passing .good .nominal))
+  pub after-enough : choosesAnew T start d finished ≡ true → Enough speeds (decode m) highest
+  after-enough anew = subst (λ (x : State). Enough speeds x highest) (sym back) (moved-enough allowed anew (k .passing .good .nominal))
 
   -- keys at its clock are keys of its block
   keyed-then : (r : List ℕ) → Keyed T (start .clock + d) r → Keyed (timingIn speeds m) (decode m .clock) r

@@ -15,7 +15,6 @@ use state::count_at;
 use tables::own_table;
 use ticks::move_on;
 use ticks::renewed;
-use urgency::next_arrival;
 ghost use mathlib.Core.Path.{_≡_};
 ghost use mathlib.Core.Bool.{true};
 ghost use Prim.Native.Nat.{_≤_};
@@ -96,11 +95,9 @@ fn pass_over(speeds: &[u32; 8], levels: usize, state: &mut [u8], d: u32, finishe
     if !b.sound {
         return Reply::Refused(UNSOUND);
     }
-    let keys = b.keys;
-    let clock = clock_at(state);
-    let next = next_arrival(&keys, count_at(state), clock);
+    let next = b.next;
     let c = standing(speeds, levels, state);
-    let n = pass_number(Clock::new(clock), c, next, d, finished);
+    let n = pass_number(Clock::new(clock_at(state)), c, next, d, finished);
     if n != 0 {
         return Reply::Refused(n);
     }
@@ -108,7 +105,7 @@ fn pass_over(speeds: &[u32; 8], levels: usize, state: &mut [u8], d: u32, finishe
         speeds,
         levels,
         state,
-        &keys,
+        &b.keys,
         c,
         b.nominal,
         next,

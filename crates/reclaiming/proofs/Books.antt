@@ -11,10 +11,12 @@ use native.Mathlib.Decide.{decLe, ℕ-discrete}
 use native.Mathlib.Omega.{arith}
 use Rattle.arith.specs.Choice.{pick}
 use Rattle.arith.proofs.Tests.{passed, failed, tested}
-use Rattle.schedule.specs.PlainSchedule.{Timing, Job, latest, deadline}
+use Rattle.schedule.specs.PlainSchedule.{Timing, Job, Book, latest, deadline, canonicalAt, queueOf}
 use Rattle.schedule.specs.Feasibility.{In}
 use Rattle.schedule.proofs.Periods.{multiple-last}
 use Rattle.schedule.proofs.Drain.{Quiet, latest-kept}
+use Rattle.schedule.proofs.QueueLaws.{in-queueOf}
+use Rattle.schedule.proofs.Closing.{Entered}
 use Rattle.reclaiming.specs.Run.{Arrived}
 
 -- a job is its task's latest, with work left
@@ -53,6 +55,38 @@ held-start τ work periods some j a =
 -- a latest job's deadline has not come
 pub latest-deadline : (τ : Timing) (t : ℕ) (i : ℕ) → 0 < τ .period i → t < deadline τ (latest τ t i)
 latest-deadline τ t i p = lt-div-mul-add p
+
+-- d ticks with no arrival before their end
+module _ (τ : Timing) (t d : ℕ) (periods : (i : ℕ) → i < τ .count → 0 < τ .period i) (quiet : Quiet τ (τ .count) t d) where
+  -- a job that arrives within them arrives at their end
+  at-end : (j : Job) → Arrived τ (t + d) j → t < j .arrival → j .arrival ≡ t + d
+  at-end j a l = go (decLe (suc (j .arrival)) (t + d))
+    where
+      go : Dec (j .arrival < t + d) → j .arrival ≡ t + d
+      go (yes h) =
+          let e : t + (j .arrival - t) ≡ j .arrival = omega arith in
+          absurd
+          (quiet (j .task) (j .arrival - t) (a .task) (omega arith) (omega arith)
+          (subst (λ (k : ℕ). k % τ .period (j .task) ≡ 0) (sym e) (a .multiple)))
+      go (no h) = omega (arith, a .arrival)
+
+  -- a job that had arrived before and is still the latest was so then, and none arrives now
+  still-latest :
+      0 < d →
+      (j : Job) →
+      Arrived τ t j →
+      j ≡ latest τ (t + d) (j .task) →
+      ((t + d) % τ .period (j .task) ≢ 0) × (j ≡ latest τ t (j .task))
+  still-latest later j a e = (no-arrival, e ∙ sym (latest-kept τ (τ .count) t d (j .task) (a .task) (periods (j .task) (a .task)) quiet no-arrival))
+    where
+      no-arrival : (t + d) % τ .period (j .task) ≢ 0
+      no-arrival z =
+          omega (
+            arith,
+            a .arrival,
+            ap (λ (k : Job). k .arrival) e,
+            multiple-last (τ .period (j .task)) (periods (j .task) (a .task)) (t + d) z,
+          )
 
 -- a pass over d ticks keeps it
 module _ (τ : Timing) (t d : ℕ) (work work′ : ℕ → ℕ) (closed : List Job) (finished : Bool) (x : ℕ)
@@ -99,17 +133,9 @@ module _ (τ : Timing) (t d : ℕ) (work work′ : ℕ → ℕ) (closed : List J
     newer : (j : Job) → Arrived τ (t + d) j → t < j .arrival → OpenLatest τ (t + d) work′ j
     newer j a l =
         let i : ℕ = j .task in
-        let place : j .arrival ≡ t + d = at-end (decLe (suc (j .arrival)) (t + d)) in
+        let place : j .arrival ≡ t + d = at-end τ t d periods quiet j a l in
         let z : (t + d) % τ .period i ≡ 0 = subst (λ (k : ℕ). k % τ .period i ≡ 0) place (a .multiple) in
         (arrived-now τ (t + d) j (periods i (a .task)) z place, renewed i (a .task) z)
-      where
-        at-end : Dec (j .arrival < t + d) → j .arrival ≡ t + d
-        at-end (yes h) =
-            let e : t + (j .arrival - t) ≡ j .arrival = omega arith in
-            absurd
-            (quiet (j .task) (j .arrival - t) (a .task) (omega arith) (omega arith)
-            (subst (λ (k : ℕ). k % τ .period (j .task) ≡ 0) (sym e) (a .multiple)))
-        at-end (no h) = omega (arith, a .arrival)
 
     pub held-pass : Held τ t work closed → Held τ (t + d) work′ closed′
     held-pass held j a =
@@ -137,19 +163,6 @@ module _ (τ : Timing) (t d : ℕ) (work work′ : ℕ → ℕ) (closed : List J
     since : (j : Job) → Arrived τ t j → Arrived τ (t + d) j
     since j a = record { task = a .task; arrival = omega (arith, a .arrival); multiple = a .multiple }
 
-    -- a job that had arrived before and is still the latest was so then, and none arrives now
-    still-latest : (j : Job) → Arrived τ t j → j ≡ latest τ (t + d) (j .task) → ((t + d) % τ .period (j .task) ≢ 0) × (j ≡ latest τ t (j .task))
-    still-latest j a e = (no-arrival, e ∙ sym (latest-kept τ (τ .count) t d (j .task) (a .task) (periods (j .task) (a .task)) quiet no-arrival))
-      where
-        no-arrival : (t + d) % τ .period (j .task) ≢ 0
-        no-arrival z =
-            omega (
-              arith,
-              a .arrival,
-              ap (λ (k : Job). k .arrival) e,
-              multiple-last (τ .period (j .task)) (periods (j .task) (a .task)) (t + d) z,
-            )
-
     -- one that was closed before, or has just finished
     earlier : Ended τ t work closed → (j : Job) → In j closed″ → In j closed ⊎ ((j ≡ latest τ t x) × (finished ≡ true))
     earlier ended j =
@@ -167,9 +180,63 @@ module _ (τ : Timing) (t d : ℕ) (work work′ : ℕ → ℕ) (closed : List J
       arrived = λ j m. since j (before ended j m);
       done = λ j m e.
           let a : Arrived τ t j = before ended j m in
-          let was = still-latest j a e in
+          let was = still-latest τ t d periods quiet later j a e in
           ⊎-elim (λ k. nothing (j .task) (a .task) (was .0) (ended .done j k (was .1)))
           (λ k. let same : j .task ≡ x = ap (λ (i : Job). i .task) (k .0) in
           subst (λ (i : ℕ). work′ i ≡ 0) (sym same) (finishes (k .1) (subst (λ (i : ℕ). (t + d) % τ .period i ≢ 0) same (was .0))))
           (earlier ended j m);
     }
+
+-- a task's latest job is open in the plain schedule, where its ready queue is known and the task has ticks left
+pub in-plain :
+    (τ : Timing) (t : ℕ) (left : ℕ → ℕ) (n : ℕ) {b : Book} →
+    b ≡ record { clock = t; pending = queueOf τ t left n } →
+    (j : Job) →
+    j .task < n →
+    j ≡ latest τ t (j .task) →
+    0 < left (j .task) →
+    Entered (b .pending) j
+in-plain τ t left n queue j h e some = (
+  left (j .task),
+  subst (λ (b : Book). In (record { job = j; remaining = left (j .task) }) (b .pending)) (sym queue)
+      (in-queueOf τ t left n (record { job = j; remaining = left (j .task) })
+      (record { number = j .task; below = h; some = some; is = λ k. record { job = e k; remaining = left (j .task) } })),
+)
+
+-- at each arrival since its own, an open job was open in the plain schedule
+abbrev pub OpenSince : Timing → ℕ → (ℕ → ℕ) → Type 0
+OpenSince τ t work =
+    (j : Job) →
+    Arrived τ t j →
+    OpenLatest τ t work j →
+    (k : Job) →
+    Arrived τ t k →
+    j .arrival < k .arrival →
+    Entered (canonicalAt τ (k .arrival) .pending) j
+
+pub since-start : (τ : Timing) (work : ℕ → ℕ) → OpenSince τ 0 work
+since-start τ work j a o k b h = absurd (omega (arith, b .arrival))
+
+-- a pass keeps that
+module _ (τ : Timing) (t d : ℕ) (work work′ : ℕ → ℕ)
+    (later : 0 < d)
+    (periods : (i : ℕ) → i < τ .count → 0 < τ .period i)
+    (quiet : Quiet τ (τ .count) t d)
+    -- what is open after it, of a task without an arrival, was open before
+    (was : (i : ℕ) → i < τ .count → (t + d) % τ .period i ≢ 0 → 0 < work′ i → 0 < work i)
+    -- where a job arrives at its end, what is open then is open in the plain schedule
+    (ahead : (k : Job) → Arrived τ (t + d) k → k .arrival ≡ t + d → (j : Job) → Arrived τ (t + d) j → OpenLatest τ (t + d) work′ j →
+    Entered (canonicalAt τ (t + d) .pending) j)
+  where
+    pub since-pass : OpenSince τ t work → OpenSince τ (t + d) work′
+    since-pass since j a o k b h =
+        elim (decLe (k .arrival) t) [
+          | yes early ↦
+              let before : Arrived τ t j = record { task = a .task; arrival = omega arith; multiple = a .multiple } in
+              let then : Arrived τ t k = record { task = b .task; arrival = early; multiple = b .multiple } in
+              let old = still-latest τ t d periods quiet later j before (o .0) in
+              since j before (old .1, was (j .task) (a .task) (old .0) (o .1)) k then h
+          | no late ↦
+              let end : k .arrival ≡ t + d = at-end τ t d periods quiet k b (omega arith) in
+              subst (λ (x : ℕ). Entered (canonicalAt τ x .pending) j) (sym end) (ahead k b end j a o)
+        ]

@@ -1,17 +1,18 @@
 -- The promises of the dispatcher, for any accepted level block: demand 3 in one piece, the queue shown, soundness kept, and no dead end.
 -- Assumes nothing.
-use Prim.Native.Nat.{ℕ, _+_, _≤_, _<_}
+use Prim.Native.Nat.{ℕ, zero, suc, _+_, _-_, _%_, _≤_, _<_}
 use mathlib.Core.Path.{_≡_, refl, sym, subst, subst₂, ap, ap₂, _∙_}
 use mathlib.Core.Bool.{Bool, true, true≢false, not}
 use mathlib.Core.List.{List, [], _∷_}
 use mathlib.Core.Logic.{_⊎_, inl, inr, ⊎-elim}
-use native.Mathlib.Decide.{ℕ-discrete}
+use native.Mathlib.Decide.{decLe, ℕ-discrete}
 use native.Mathlib.Omega.{arith}
 use borrow.Author.Tests.{eq-eqb}
 use lib.Dec.{eqb}
 use lib.ListN.{length, getD, take, drop}
 use lib.Seq.{take-at, drop-at}
-use Rattle.arith.specs.Choice.{both}
+use Rattle.arith.specs.Choice.{pick, both}
+use Rattle.arith.specs.Asking.{firstNo}
 use Rattle.arith.specs.Ranges.{listTo}
 use Rattle.arith.proofs.Tests.{passed, failed, tested}
 use Rattle.arith.proofs.QuestionLaws.{ask-yes}
@@ -32,31 +33,40 @@ use Rattle.schedule.proofs.Urgency.{MoreUrgent, urgent-true}
 use Rattle.schedule.proofs.Invariant.{canonical-good}
 use Rattle.schedule.proofs.Invariant as invariant
 use Rattle.schedule.proofs.Feasible.{never-late}
-use Rattle.schedule.proofs.QueueLaws.{queueOf-cong, in-queueOf}
+use Rattle.schedule.proofs.QueueLaws.{queueOf-cong}
+use Rattle.schedule.proofs.Closing.{entered-before}
 use Rattle.schedule.proofs.Span.{canonical-start}
 use Rattle.reclaiming.specs.declared.Reply.{Reply}
+use Rattle.reclaiming.specs.declared.Reply.the-variants as reply
 use Rattle.reclaiming.specs.declared.Entry.{Entry}
 use Rattle.reclaiming.specs.StateBlock.{State, encode, decode, planIn, timing, workOf, remainingOf, restIn, restOf, noEntry, stateLength}
-use Rattle.reclaiming.specs.Orders.{runningTime, holdOf, orderWith}
+use Rattle.reclaiming.specs.Orders.{nextArrival, runningTime, holdOf, orderWith}
 use Rattle.reclaiming.specs.Passes.{startState, newEntry, passedState, passedHold}
-use Rattle.reclaiming.specs.Questions.{largestClock, running}
+use Rattle.reclaiming.specs.Questions.{largestClock, running, passQuestions}
 use Rattle.reclaiming.specs.Calls.{repliedBy, isOrder, startReply, startBuffer, startNumber, startOrder, queueBytes, readyQueue, shownBytes, passReply}
 use Rattle.reclaiming.specs.Calls.{showNumber, showReply, showBuffer}
-use Rattle.reclaiming.specs.Run.{Pass, DispatcherBook, Arrived, bookedAll, ranAll, bytesAfter, trace, unopenedBook, openedBook, ordered, startedBytes}
-use Rattle.reclaiming.specs.Promises.{Started, OpenPlain, OpenActual, OnTime, MostUrgent, NamesMostUrgent, Shows}
+use Rattle.reclaiming.specs.Run.{Pass, DispatcherBook, Arrived, moved, booked, bookedAll, ranAll, bytesAfter, trace, unopenedBook, openedBook, ordered, startedBytes}
+use Rattle.reclaiming.specs.Promises.{Started, OpenPlain, OpenActual, InGap, OnTime, ClosesByArrival, ClosesInTime, MostUrgent, NamesMostUrgent, Shows}
 use Rattle.reclaiming.specs.Promises.{Demand3, QueueShown, StaysSound, SameSpeeds, RunsMostUrgent, SameLeft, NoDeadEnd, Open}
 use Rattle.reclaiming.specs.Promises.{timeLeft, isRun, holdIn, lastOrder, stateAfter, actualBook, plainBook, replies}
-use Rattle.reclaiming.proofs.Fine.{Fine, Accepted, nominalSpeed}
+use Rattle.reclaiming.proofs.Fine.{Ahead, Gap, Fine, Accepted, nominalSpeed}
 use Rattle.reclaiming.proofs.Replies.{is-idle, is-run, viewOrder, order-accepted, order-booked, order-runs, order-held, not-refused}
 use Rattle.reclaiming.proofs.Plans.{nominal-positive, plan-fits}
 use Rattle.reclaiming.proofs.StateCodec.{StorableTable, length-encode}
-use Rattle.reclaiming.proofs.Soundness.{fine-length, fine-stored, fine-storable, pass-yes, Starts, start-facts}
+use Rattle.reclaiming.proofs.Soundness.{fine-length, fine-stored, fine-storable, pass-accepted, pass-yes, Starts, start-facts}
+use Rattle.reclaiming.proofs.NextArrival.{next-soonest}
 use Rattle.reclaiming.proofs.PassedStates.{choose-clock, choose-entries, choose-speeds}
 use Rattle.reclaiming.proofs.PassSound.{start-fine, hold-accepted, finish-accepted}
-use Rattle.reclaiming.proofs.Books.{OpenLatest, Held, held-start, Ended, ended-start, latest-arrived, latest-deadline}
+use Rattle.reclaiming.proofs.Books.{OpenLatest, Held, held-start, Ended, ended-start, latest-arrived, latest-deadline, OpenSince, since-start, in-plain}
 use Rattle.reclaiming.proofs.OrderFacts.{Runs, Ordered, idles, runs}
 use Rattle.reclaiming.proofs.Worked as worked
 use Rattle.reclaiming.proofs.Runs.{Tied, Kept, idle-level, kept-pass, stored-sound, stored-length, speeds-are, decoded, reply-is}
+
+-- an order leaves a book's clock
+ordered-clock : (b : DispatcherBook) (r : Reply) → ordered b r .clock ≡ b .clock
+ordered-clock b (reply.Run task level hold) = refl
+ordered-clock b (reply.Idle hold) = refl
+ordered-clock b (reply.Refused n) = refl
 
 -- what an accepted start has shown
 module _ (levels block buffer : List ℕ) (ok : Started levels block buffer) where
@@ -170,6 +180,7 @@ module _ (levels block buffer : List ℕ) (ok : Started levels block buffer) whe
           subst (λ (c : ℕ). canonicalAt τ c ≡ record { clock = c; pending = queueOf τ c (remainingOf s) (τ .count) }) (sym clock)
           (canonical-start τ (hyperperiod ts) fits
           ∙ (λ k. record { clock = 0; pending = queueOf-cong τ 0 (τ .allotment) (remainingOf s) (τ .count) left k }));
+      since = subst (λ (c : ℕ). OpenSince τ c (workOf s)) (sym clock) (since-start τ (workOf s));
       order-is = replied ∙ ap (λ (l : List Task). orderWith s (holdOf speeds (timing speeds l) s)) (fine .entries .plan);
     };
   }
@@ -196,30 +207,8 @@ module _ (speeds : List ℕ) (table : FineTable speeds) where
       plain-is : b ≡ record { clock = s .clock; pending = queueOf (timing speeds ts) (s .clock) (remainingOf s) (length ts) }
       plain-is = t .plainly ∙ t .queue
 
-      -- a job that is open in the dispatcher has work left, and so ticks left in the plain schedule
-      ticks : (i : ℕ) → i < length ts → 0 < workOf s i → 0 < remainingOf s i
-      ticks i h w =
-          omega (
-            arith,
-            time-some (nominalSpeed speeds ts) (restOf s i) (nominal-positive speeds ts good rising) w,
-            t .fine .entries .ahead i h,
-          )
-
       here : (j : Job) → Arrived (timing speeds ts) (a .clock) j → Arrived (timing speeds ts) (s .clock) j
       here j r = subst (λ (c : ℕ). Arrived (timing speeds ts) c j) (t .clock) r
-
-      opened-plain : (j : Job) → j .task < length ts → (j ≡ latest (timing speeds ts) (s .clock) (j .task)) × (0 < workOf s (j .task)) → OpenPlain b j
-      opened-plain j h e = (
-        remainingOf s (j .task),
-        subst (λ (k : Book). In (record { job = j; remaining = remainingOf s (j .task) }) (k .pending)) (sym plain-is)
-            (in-queueOf (timing speeds ts) (s .clock) (remainingOf s) (length ts) (record { job = j; remaining = remainingOf s (j .task) })
-            (record {
-              number = j .task;
-              below = h;
-              some = ticks (j .task) h e.1;
-              is = λ k. record { job = e.0 k; remaining = remainingOf s (j .task) };
-            })),
-      )
 
       past : (j : Job) → j .task < length ts → j ≡ latest (timing speeds ts) (s .clock) (j .task) → deadline (timing speeds ts) j ≤ a .clock → ⊥
       past j h e l =
@@ -245,14 +234,104 @@ module _ (speeds : List ℕ) (table : FineTable speeds) where
       open-latest : (j : Job) → OpenActual (timing speeds ts) a j → OpenLatest (timing speeds ts) (s .clock) (workOf s) j
       open-latest j o = ⊎-elim (λ m. absurd (o .unclosed m)) (λ e. e) (t .held j (here j (o .arrived)))
 
-      stays-open : (j : Job) → OpenActual (timing speeds ts) a j → OpenPlain b j
-      stays-open j o = opened-plain j (o .arrived .task) (open-latest j o)
+      -- the running job's time left, by the book
+      time-below : s .task < length ts → timeLeft speeds a ≡ runningTime speeds s
+      time-below h =
+          ap₂ (λ (l i : ℕ). timeOf (speedOf speeds l) (a .left i)) (t .level) (t .task)
+          ∙ ap (timeOf (speedOf speeds (s .level))) (t .left (s .task) h)
 
-      on-time : OnTime (timing speeds ts) a b
+      -- where every task is ahead, such a job has ticks left in the plain schedule
+      open-ahead : Ahead speeds ts s → (j : Job) → OpenActual (timing speeds ts) a j → OpenPlain b j
+      open-ahead ahead j o =
+          let e : OpenLatest (timing speeds ts) (s .clock) (workOf s) j = open-latest j o in
+          let h : j .task < length ts = o .arrived .task in
+          in-plain (timing speeds ts) (s .clock) (remainingOf s) (length ts) plain-is j h (e .0)
+          (omega (
+            arith,
+            time-some (nominalSpeed speeds ts) (restOf s (j .task)) (nominal-positive speeds ts good rising) (e .1),
+            ahead (j .task) h,
+          ))
+
+      -- in a gap it is the order's
+      gap-task : Gap speeds ts s → (j : Job) → OpenActual (timing speeds ts) a j → j .task ≡ s .task
+      gap-task g j o =
+          elim (ℕ-discrete (j .task) (s .task)) [
+            | yes e ↦ e
+            | no e ↦ absurd (omega (arith, open-latest j o .1, g .others (j .task) (o .arrived .task) e))
+          ]
+
+      gap-job : Gap speeds ts s → (j : Job) → OpenActual (timing speeds ts) a j → j ≡ latest (timing speeds ts) (a .clock) (a .task)
+      gap-job g j o = open-latest j o .0 ∙ ap₂ (latest (timing speeds ts)) (sym (t .clock)) (gap-task g j o ∙ sym (t .task))
+
+      open-gap : Gap speeds ts s → (j : Job) → OpenActual (timing speeds ts) a j → InGap speeds (timing speeds ts) a j
+      open-gap g j o = record {
+        runs = gap-job g j o;
+        alone = λ k p. gap-job g k p ∙ sym (gap-job g j o);
+        time = omega (arith, book-time, ap (nextArrival (timing speeds ts)) (t .clock), g .time);
+      }
+        where
+          below : s .task < length ts
+          below = subst (λ (i : ℕ). i < length ts) (gap-task g j o) (o .arrived .task)
+
+          book-time : timeLeft speeds a ≡ runningTime speeds s
+          book-time = time-below below
+
+      stays-open : (j : Job) → OpenActual (timing speeds ts) a j → OpenPlain b j ⊎ InGap speeds (timing speeds ts) a j
+      stays-open j o = ⊎-elim (λ ahead. inl (open-ahead ahead j o)) (λ g. inr (open-gap g j o)) (t .fine .pace)
+
+      -- at every arrival since its own it was open in the plain schedule
+      open-since :
+          (j : Job) →
+          OpenActual (timing speeds ts) a j →
+          (k : Job) →
+          Arrived (timing speeds ts) (s .clock) k →
+          j .arrival < k .arrival →
+          OpenPlain (canonicalAt (timing speeds ts) (k .arrival)) j
+      open-since j o k r h = t .since j (here j (o .arrived)) (open-latest j o) k r h
+
+      -- so at an arrival it still is
+      arrival-open :
+          (k : Job) →
+          Arrived (timing speeds ts) (a .clock) k →
+          k .arrival ≡ a .clock →
+          (j : Job) →
+          OpenActual (timing speeds ts) a j →
+          j .arrival < a .clock →
+          OpenPlain b j
+      arrival-open k r e j o h =
+          subst (λ (x : Book). OpenPlain x j) (ap (canonicalAt (timing speeds ts)) (e ∙ t .clock) ∙ sym (t .plainly))
+          (open-since j o k (here k r) (omega arith))
+
+      -- and closed before one, it is not open past it
+      open-until :
+          (j : Job) →
+          OpenActual (timing speeds ts) a j →
+          (finish : ℕ) →
+          Arrived (timing speeds ts) finish j →
+          (OpenPlain (canonicalAt (timing speeds ts) finish) j → ⊥) →
+          (k : Job) →
+          Arrived (timing speeds ts) (k .arrival) k →
+          finish < k .arrival →
+          s .clock < k .arrival
+      open-until j o finish r shut k q h =
+          elim (decLe (k .arrival) (s .clock)) [
+            | no late ↦ omega arith
+            | yes reached ↦
+                let then : Arrived (timing speeds ts) (s .clock) k = record { task = q .task; arrival = reached; multiple = q .multiple } in
+                let later : OpenPlain (canonicalAt (timing speeds ts) (k .arrival)) j = open-since j o k then (omega (arith, r .arrival)) in
+                let same : k .arrival ≡ finish + (k .arrival - finish) = omega arith in
+                absurd
+                (shut
+                (entered-before (timing speeds ts) j finish (k .arrival - finish) (r .arrival)
+                (subst (λ (x : ℕ). OpenPlain (canonicalAt (timing speeds ts) x) j) same later)))
+          ]
+
+      on-time : OnTime speeds (timing speeds ts) a b
       on-time = record {
         clocks = t .clock ∙ sym (ap (λ (k : Book). k .clock) plain-is);
         arrivals = λ j o. subst (λ (c : ℕ). Arrived (timing speeds ts) c j) (sym (t .clock)) (plain-arrived j o);
         ahead = stays-open;
+        at-arrivals = arrival-open;
         actual-closed = λ j r l. ⊎-elim (λ m. m) (λ e. absurd (past j (r .task) e.0 l)) (t .held j (here j r));
         plain-closed = λ j r l o.
             let late : s .clock < deadline (timing speeds ts) j =
@@ -316,14 +395,11 @@ module _ (speeds : List ℕ) (table : FineTable speeds) where
       runs-is : isRun last ≡ running s
       runs-is = ap isRun (t .order-is) ∙ order-runs s (holdOf speeds (timing speeds ts) s)
 
-      -- the running job's time left, by the book
       time-is : running s ≡ true → timeLeft speeds a ≡ runningTime speeds s
       time-is r =
           elim (worked.ordered speeds ts s (t .fine)) [
             | idles e l z ↦ absurd (true≢false (sym r ∙ ap not (eq-eqb (s .task) 255 e)))
-            | runs k ↦
-                ap₂ (λ (l i : ℕ). timeOf (speedOf speeds l) (a .left i)) (t .level) (t .task)
-                ∙ ap (timeOf (speedOf speeds (s .level))) (t .left (s .task) (k .below))
+            | runs k ↦ time-below (k .below)
           ]
 
     -- what the bytes say, too
@@ -398,6 +474,59 @@ module _ (speeds : List ℕ) (table : FineTable speeds) where
             l;
       }
 
+    -- a pass ends no later than the next arrival, so it closes nothing past one
+    module _ (p : Pass) {bytes : List ℕ} {a : DispatcherBook} {b : Book} {last : Reply} (k : Kept speeds ts bytes a b last) where
+      abbrev given : Reply
+      given = passReply bytes (p .d) (p .finished)
+
+      abbrev asked : ℕ
+      asked = firstNo (passQuestions speeds (k .state) (p .d) (p .finished))
+
+      pass-within : isOrder given ≡ true → p .d ≤ nextArrival (timing speeds ts) (k .state .clock)
+      pass-within e =
+          let s : State = k .state in
+          let next : State = passedState speeds (timing speeds ts) s (p .d) (p .finished) in
+          let hold : ℕ = passedHold speeds (timing speeds ts) s (p .d) (p .finished) in
+          let replied = reply-is speeds table ts good (k .stored) (k .in-time) (k .own) (k .tied .fine) (p .d) (p .finished) in
+          let zero-no : asked ≡ 0 = not-refused asked (orderWith next hold) (sym (ap isOrder replied) ∙ e) in
+          subst (λ (l : List Task). p .d ≤ nextArrival (timing speeds l) (s .clock)) (k .tied .fine .entries .plan)
+          (pass-accepted speeds s (p .d) (p .finished) zero-no .0 .within)
+
+      closes-pass : ClosesByArrival (timing speeds ts) a (booked speeds ts a p given)
+      closes-pass j o closed finish r shut i q h =
+          elim (tested (isOrder given))
+          as (λ x _.
+          isOrder given ≡ x →
+          In j (pick x (ordered (moved speeds ts a p) given) a .closed) →
+          pick x (ordered (moved speeds ts a p) given) a .clock ≤ i .arrival)
+          [ passed ↦ λ e m. subst (λ (c : ℕ). c ≤ i .arrival) (sym (ordered-clock (moved speeds ts a p) given)) (in-time e) | failed ↦ λ e m. absurd (o .unclosed m) ]
+          refl closed
+        where
+          now : ℕ
+          now = k .state .clock
+
+          in-time : isOrder given ≡ true → a .clock + p .d ≤ i .arrival
+          in-time e =
+              let ahead : now < i .arrival = open-until (k .tied) j o finish r shut i q h in
+              let same : now + (i .arrival - now) ≡ i .arrival = omega arith in
+              omega (
+                arith,
+                k .tied .clock,
+                pass-within e,
+                next-soonest (timing speeds ts) (good .count-low) (fits-run (k .tied) .periods) now (i .task) (i .arrival - now) (q .task)
+                    (omega arith) (subst (λ (x : ℕ). x % timing speeds ts .period (i .task) ≡ 0) (sym same) (q .multiple)),
+              )
+
+    -- of any list of passes, each
+    closes-run :
+        (passes : List Pass) (n : ℕ) {bytes : List ℕ} {a : DispatcherBook} {b : Book} {last : Reply} →
+        Kept speeds ts bytes a b last →
+        ClosesByArrival (timing speeds ts) (bookedAll speeds ts a (trace bytes (take n passes))) (bookedAll speeds ts a (trace bytes (take (suc n) passes)))
+    closes-run [] zero k = λ j o m. absurd (o .unclosed m)
+    closes-run [] (suc n) k = λ j o m. absurd (o .unclosed m)
+    closes-run (p ∷ ps) zero k = closes-pass p k
+    closes-run (p ∷ ps) (suc n) {bytes} {a} {b} {last} k = closes-run ps n (kept-pass speeds table ts good p bytes a b last k)
+
 -- a run: an accepted start, then any list of passes
 after-run :
     (levels block buffer : List ℕ) (passes : List Pass) →
@@ -418,6 +547,10 @@ after-length levels block buffer passes ok =
 pub demand-3 : Demand3
 demand-3 levels block buffer passes ok =
     on-time (speedsIn levels) (table levels block buffer ok) (tasksIn block) (good levels block buffer ok) (after-run levels block buffer passes ok .tied)
+
+pub closes-in-time : ClosesInTime
+closes-in-time levels block buffer passes n ok =
+    closes-run (speedsIn levels) (table levels block buffer ok) (tasksIn block) (good levels block buffer ok) passes n (kept-start levels block buffer ok)
 
 pub queue-shown : QueueShown
 queue-shown levels block buffer passes lent ok =

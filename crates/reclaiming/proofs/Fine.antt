@@ -4,9 +4,10 @@ use Prim.Native.Nat.{ℕ, _≤_, _<_}
 use mathlib.Core.Path.{_≡_}
 use mathlib.Core.Bool.{Bool, true, false}
 use mathlib.Core.List.{List}
+use mathlib.Core.Logic.{_≢_, _⊎_}
 use lib.ListN.{length, getD}
 use Rattle.plan.specs.declared.Task.{Task}
-use Rattle.plan.specs.Times.{whole, noRest, Within, timeOf}
+use Rattle.plan.specs.Times.{whole, Within, timeOf}
 use Rattle.plan.specs.Levels.{speedOf, nominal}
 use Rattle.plan.specs.Blocks.{noTask}
 use Rattle.schedule.specs.PlainSchedule.{Timing}
@@ -24,22 +25,21 @@ pub record FineEntries (speeds : List ℕ) (ts : List Task) (s : State) : Type 0
   pub left : (i : ℕ) → i < length ts → Within (restOf s i) (whole (getD ts i noTask))
   pub closed : (i : ℕ) → i < length ts → workOf s i ≡ 0 → restOf s i .fixed ≡ 0
   pub remaining : (i : ℕ) → i < length ts → remainingOf s i ≤ timing speeds ts .allotment i
-  pub ahead : (i : ℕ) → i < length ts → timeOf (nominalSpeed speeds ts) (restOf s i) ≤ remainingOf s i
 
--- nothing is left of a job without work
-pub closed-none :
-    {speeds : List ℕ} {ts : List Task} {s : State} →
-    FineEntries speeds ts s →
-    (i : ℕ) →
-    i < length ts →
-    workOf s i ≡ 0 →
-    restOf s i ≡ noRest
-closed-none f i h e = λ k. record { fixed = f .closed i h e k; work = e k }
+-- each task's job can be done at the nominal level in its plain ticks left
+abbrev pub Ahead : List ℕ → List Task → State → Type 0
+Ahead speeds ts s = (i : ℕ) → i < length ts → timeOf (nominalSpeed speeds ts) (restOf s i) ≤ remainingOf s i
+
+-- no job but the order's is open, and its time is at most the ticks to the next arrival
+pub record Gap (speeds : List ℕ) (ts : List Task) (s : State) : Type 0 where
+  pub others : (i : ℕ) → i < length ts → i ≢ s .task → workOf s i ≡ 0
+  pub time : runningTime speeds s ≤ nextArrival (timing speeds ts) (s .clock)
 
 -- a sound state of a plan
 pub record Fine (speeds : List ℕ) (ts : List Task) (s : State) : Type 0 where
   pub entries : FineEntries speeds ts s
   pub order : orderSound speeds (timing speeds ts) (nominal speeds ts) s (openJobs (timing speeds ts) s) ≡ true
+  pub pace : Ahead speeds ts s ⊎ Gap speeds ts s
 
 -- a pass that the questions 11 to 14 let through
 pub record Accepted (speeds : List ℕ) (τ : Timing) (s : State) (d : ℕ) (finished : Bool) : Type 0 where

@@ -1,9 +1,11 @@
 -- A started state is sound, an accepted pass keeps it so, and the hold that stands is always accepted.
 -- Assumes nothing.
 use Prim.Native.Nat.{ℕ, _+_, _-_, _%_, _≤_, _<_, min}
-use mathlib.Core.Path.{_≡_, refl, sym, ap, subst, _∙_}
+use mathlib.Core.Path.{_≡_, refl, sym, ap, ap₂, subst, _∙_}
 use mathlib.Core.Bool.{Bool, true, false, true≢false}
 use mathlib.Core.List.{List, [], _∷_, map}
+use mathlib.Core.Logic.{_⊎_, inl, inr, ⊎-elim}
+use native.Mathlib.Decide.{decLe}
 use native.Mathlib.Omega.{arith}
 use borrow.Author.Tests.{le-leb, eq-eqb, eqb-false, not-true}
 use lib.Dec.{leb, eqb}
@@ -12,7 +14,7 @@ use lib.Seq.{ext-getD}
 use Rattle.arith.specs.Choice.{pick, both}
 use Rattle.arith.specs.Sum.{sumTo}
 use Rattle.arith.specs.Ranges.{listTo, someTo}
-use Rattle.arith.proofs.Tests.{passed, failed, tested, both-left, both-true, neither-first, neither-second}
+use Rattle.arith.proofs.Tests.{passed, failed, tested, both-left, both-true, neither-first, neither-second, either-second}
 use Rattle.arith.proofs.Sums.{sumTo-eq}
 use Rattle.arith.proofs.RangeLaws.{length-listTo, getD-listTo, no-none}
 use Rattle.arith.proofs.Searches.{first-le, first-passes}
@@ -29,25 +31,33 @@ use Rattle.schedule.proofs.Urgency.{MoreUrgent}
 use Rattle.schedule.proofs.Drain.{latest-kept}
 use Rattle.reclaiming.specs.declared.Entry.{Entry}
 use Rattle.reclaiming.specs.StateBlock.{State, noEntry, taskOf, workOf, remainingOf, restIn, restOf, planIn, timing}
-use Rattle.reclaiming.specs.Orders.{nextArrival, allowance, openJobs, lowestLevel, runningTime, holdOf, withOrder, orderFor, chooseOrder}
+use Rattle.reclaiming.specs.Orders.{nextArrival, plainAllowance, allowance, openJobs, lowestLevel, runningTime, holdOf, withOrder, orderFor, chooseOrder}
 use Rattle.reclaiming.specs.Passes.{newEntry, startState, drainedOf, workedOf, arrivesAt, agedEntry, entryAfter, movedState, choosesAnew, passedState, passedHold}
 use Rattle.reclaiming.specs.Questions.{orderSound, running}
-use Rattle.reclaiming.proofs.Fine.{nominalSpeed, FineEntries, Fine, Accepted}
+use Rattle.reclaiming.proofs.Fine.{nominalSpeed, FineEntries, Ahead, Gap, Fine, Accepted}
+use Rattle.reclaiming.proofs.PassedStates.{passed-entries}
 use Rattle.reclaiming.proofs.OrderFacts.{Runs, Ordered, idles, runs, facts-order, head-below}
-use Rattle.reclaiming.proofs.NextArrival.{next-positive, next-quiet, not-next, next-on}
+use Rattle.reclaiming.proofs.NextArrival.{next-positive, next-quiet, before-next, not-next, next-on}
 use Rattle.reclaiming.proofs.Allowances.{allowed, allowance-is}
 use Rattle.reclaiming.proofs.Worked.{worked-mine, worked-within, worked-less, worked-closed, worked-was, worked-open, drained-less, drained-allowance}
-use Rattle.reclaiming.proofs.Worked.{runs-running, ordered, time-positive, runs-on, stays-ahead}
+use Rattle.reclaiming.proofs.Worked.{runs-running, ordered, time-positive, runs-on, worked-none}
+use Rattle.reclaiming.proofs.Worked.{Reclaims, paced, stays-ahead, gap-finished, gap-arrives}
+use Rattle.reclaiming.proofs.Lone.{closed-lone, allowance-least, allowance-gap}
 
 -- the order that is chosen where every task is ahead
 module _ (speeds : List ℕ) (ts : List Task) (admitted : nominal speeds ts < length speeds) (s : State)
-    (ahead : (i : ℕ) → i < length ts → timeOf (nominalSpeed speeds ts) (restOf s i) ≤ remainingOf s i) where
+    (ahead : Ahead speeds ts s) where
   -- the nominal level meets an allowance, so the lowest that does is no higher
   chosen-level : (x : ℕ) → x < length ts → lowestLevel speeds (restOf s x) (allowance (timing speeds ts) s x) ≤ nominal speeds ts
   chosen-level x h =
       first-le (λ (speed : ℕ). leb (timeOf speed (restOf s x)) (allowance (timing speeds ts) s x)) speeds (nominal speeds ts) 0 admitted
       (le-leb (timeOf (nominalSpeed speeds ts) (restOf s x)) (allowance (timing speeds ts) s x)
-      (omega (arith, ahead x h, allowance-is (timing speeds ts) (s .clock) (remainingOf s) (length ts) x h)))
+      (omega (
+        arith,
+        ahead x h,
+        allowance-is (timing speeds ts) (s .clock) (remainingOf s) (length ts) x h,
+        allowance-least (timing speeds ts) s x,
+      )))
 
   order-for : (q : List Pending) → openJobs (timing speeds ts) s ≡ q →
       orderSound speeds (timing speeds ts) (nominal speeds ts) (orderFor speeds (timing speeds ts) s q)
@@ -72,22 +82,24 @@ module _ (speeds : List ℕ) (ts : List Task) (admitted : nominal speeds ts < le
 
 -- another order leaves the entries as they are
 with-order : {speeds : List ℕ} {ts : List Task} {s : State} (task level : ℕ) → FineEntries speeds ts s → FineEntries speeds ts (withOrder s task level)
-with-order task level f = record { plan = f .plan; left = f .left; closed = f .closed; remaining = f .remaining; ahead = f .ahead }
+with-order task level f = record { plan = f .plan; left = f .left; closed = f .closed; remaining = f .remaining }
 
--- so choosing an order makes a sound state
+-- so choosing an order makes a sound state, where every task is ahead
 pub fine-chosen :
     (speeds : List ℕ) (ts : List Task) →
     nominal speeds ts < length speeds →
     (s : State) →
     FineEntries speeds ts s →
+    Ahead speeds ts s →
     Fine speeds ts (chooseOrder speeds (timing speeds ts) s)
-fine-chosen speeds ts admitted s f = go (openJobs (timing speeds ts) s) refl
+fine-chosen speeds ts admitted s f ahead = go (openJobs (timing speeds ts) s) refl
   where
     go : (q : List Pending) → openJobs (timing speeds ts) s ≡ q → Fine speeds ts (orderFor speeds (timing speeds ts) s q)
-    go [] e = record { entries = with-order 255 0 f; order = order-for speeds ts admitted s (f .ahead) [] e }
+    go [] e = record { entries = with-order 255 0 f; order = order-for speeds ts admitted s ahead [] e; pace = inl ahead }
     go (g ∷ q) e = record {
       entries = with-order (g .job .task) (lowestLevel speeds (restOf s (g .job .task)) (allowance (timing speeds ts) s (g .job .task))) f;
-      order = order-for speeds ts admitted s (f .ahead) (g ∷ q) e;
+      order = order-for speeds ts admitted s ahead (g ∷ q) e;
+      pace = inl ahead;
     }
 
 -- the plan in a list of entries
@@ -109,8 +121,8 @@ start-fine speeds ts plan rising =
       left = λ i h. at (λ e. Within (restIn e) (whole (getD ts i noTask))) i h (within-self (whole (getD ts i noTask)));
       closed = λ i h. at (λ e. e .work ≡ 0 → e .unspent ≡ 0) i h (λ e. absurd (omega (arith, range-at ts i (plan .tasks .ranges) h .worst-low)));
       remaining = λ i h. at (λ e. e .remaining ≤ timing speeds ts .allotment i) i h (omega arith);
-      ahead = λ i h. at (λ e. timeOf (nominalSpeed speeds ts) (restIn e) ≤ e .remaining) i h (omega arith);
     })
+    (λ i h. at (λ e. timeOf (nominalSpeed speeds ts) (restIn e) ≤ e .remaining) i h (omega arith))
   where
     new : ℕ → Entry
     new = newEntry (timing speeds ts) ts
@@ -173,14 +185,39 @@ module _ (speeds : List ℕ) (rising : Rising speeds) (ts : List Task) (plan : F
       remaining = λ i h.
           moved-is (λ e. e .remaining ≤ τ .allotment i) i h (omega arith)
           (omega (arith, drained-less τ s d i h, fine .entries .remaining i h));
-      ahead = λ i h.
-          moved-is (λ e. timeOf (nominalSpeed speeds ts) (restIn e) ≤ e .remaining) i h (omega arith)
-          (stays-ahead speeds rising ts plan s fine d finished pass i h);
     }
       where
         same-task : (i : ℕ) → taskOf (kept i) ≡ getD ts i noTask
         same-task i =
             sym (List·getD-map taskOf (s .entries) i noEntry) ∙ ap (λ (l : List Task). getD l i noTask) (fine .entries .plan)
+
+    -- every task is ahead in it, if every job that goes on is
+    goes-ahead : ((i : ℕ) → i < length ts → timeOf (nominalSpeed speeds ts) (workedOf speeds s d finished i) ≤ drainedOf τ s d i) → Ahead speeds ts moved
+    goes-ahead h i k = moved-is (λ e. timeOf (nominalSpeed speeds ts) (restIn e) ≤ e .remaining) i k (omega arith) (h i k)
+
+    -- and so it is where nothing is left of any
+    none-left : ((i : ℕ) → i < length ts → workedOf speeds s d finished i .work ≡ 0) → Ahead speeds ts moved
+    none-left z = goes-ahead (λ i h. omega (arith, worked-none speeds rising ts plan s fine d finished pass i h (z i h)))
+
+    -- where an order is chosen anew every task is ahead, also behind a gap: the lone job finished, or there was none
+    pub anew-ahead : anew ≡ true → Ahead speeds ts moved
+    anew-ahead e = ⊎-elim (λ k. goes-ahead (stays-ahead speeds rising ts plan s fine d finished pass k)) in-gap (paced speeds ts s fine)
+      where
+        arrival : finished ≡ false → nextArrival τ (s .clock) ≤ d
+        arrival f =
+            elim (decLe (nextArrival τ (s .clock)) d) [
+              | yes h ↦ h
+              | no h ↦
+                  let quiet : arrives ≡ false = before-next τ (plan .count-low) periods (s .clock) d (pass .some) (omega arith) in
+                  absurd (true≢false (sym e ∙ ap₂ (λ (x y : Bool). pick x true y) f quiet))
+            ]
+
+        in-gap : Gap speeds ts s → Ahead speeds ts moved
+        in-gap g =
+            elim (tested finished) as (λ b _. finished ≡ b → Ahead speeds ts moved) [
+              | passed ↦ λ f. none-left (gap-finished speeds rising ts plan s fine d finished pass g f)
+              | failed ↦ λ f. none-left (gap-arrives speeds rising ts plan s fine d finished pass g f (arrival f))
+            ] refl
 
     -- where nothing arrives and the running job goes on, the order stays
     module _ (goes : finished ≡ false) (none : arrives ≡ false) where
@@ -197,9 +234,9 @@ module _ (speeds : List ℕ) (rising : Rising speeds) (ts : List Task) (plan : F
           (next-quiet τ (plan .count-low) periods (s .clock) d (pass .within))
           (eqb-false ((s .clock + d) % τ .period i) 0 (no-none (arrivesAt τ (s .clock + d)) (length ts) none i h)))
 
-      -- an allowance after the pass, from what the pass left
+      -- 01's allowance after the pass, from what the pass left
       allowance-kept :
-          (x : ℕ) → x < length ts → allowance τ moved x ≡ sumTo (length ts) (allowed τ (s .clock) (drainedOf τ s d) x)
+          (x : ℕ) → x < length ts → plainAllowance τ moved x ≡ sumTo (length ts) (allowed τ (s .clock) (drainedOf τ s d) x)
       allowance-kept x h =
           sumTo-eq (length ts) (allowed τ (s .clock + d) (remainingOf moved) x) (allowed τ (s .clock) (drainedOf τ s d) x)
           (λ j k m. pick {A = ℕ} (moreUrgent τ (job-kept x h m) (job-kept j k m)) 0 (kept-at j k m .remaining))
@@ -212,12 +249,53 @@ module _ (speeds : List ℕ) (rising : Rising speeds) (ts : List Task) (plan : F
           (worked-mine speeds s d finished ∙ ap (λ (b : Bool). pick {A = Rest} b noRest (worn (speedOf speeds (s .level)) d (restOf s (s .task)))) goes)
           ∙ runs-on speeds rising ts plan s fine d finished pass r
 
+      pub next-kept : nextArrival τ (s .clock + d) ≡ nextArrival τ (s .clock) - d
+      next-kept =
+          next-on τ (plan .count-low) periods (s .clock) d (not-next τ (plan .count-low) periods (s .clock) d (pass .within) none)
+
+      work-kept : (i : ℕ) → i < length ts → workOf moved i ≡ workedOf speeds s d finished i .work
+      work-kept i h = ap (λ (e : Entry). e .work) (kept-at i h)
+
+      -- a lone job stays alone, and its time and the ticks to the next arrival fall alike
+      gap-kept : Runs speeds τ (nominal speeds ts) s → Gap speeds ts s → Gap speeds ts moved
+      gap-kept r g = record {
+        others = λ i h x. omega (arith, work-kept i h, worked-less speeds s d finished i, g .others i h x);
+        time = omega (arith, time-kept r, next-kept, g .time);
+      }
+
+      -- the order still meets the allowance, each part of which falls by at most d
+      meets-kept : Runs speeds τ (nominal speeds ts) s → runningTime speeds moved ≤ allowance τ moved (s .task)
+      meets-kept r = ⊎-elim by-plan by-gap (paced speeds ts s fine)
+        where
+          by-plan : Reclaims speeds ts s → runningTime speeds moved ≤ allowance τ moved (s .task)
+          by-plan k =
+              omega (
+                arith,
+                time-kept r,
+                allowance-kept (s .task) (r .below),
+                drained-allowance τ s d (s .task),
+                k .meets r,
+                allowance-least τ moved (s .task),
+              )
+
+          by-gap : Gap speeds ts s → runningTime speeds moved ≤ allowance τ moved (s .task)
+          by-gap g =
+              let after : Gap speeds ts moved = gap-kept r g in
+              omega (arith, after .time, allowance-gap τ moved (s .task) (closed-lone τ moved (s .task) (after .others)))
+
+      -- and the state keeps up
+      pace-kept : Ahead speeds ts moved ⊎ Gap speeds ts moved
+      pace-kept =
+          ⊎-elim (λ k. inl (goes-ahead (stays-ahead speeds rising ts plan s fine d finished pass k))) (λ g. in-gap g (ordered speeds ts s fine))
+          (paced speeds ts s fine)
+        where
+          in-gap : Gap speeds ts s → Ordered speeds τ (nominal speeds ts) s → Ahead speeds ts moved ⊎ Gap speeds ts moved
+          in-gap g (idles t l z) = inl (none-left (λ i h. omega (arith, worked-less speeds s d finished i, z i h)))
+          in-gap g (runs r) = inr (gap-kept r g)
+
       pub order-kept : Ordered speeds τ (nominal speeds ts) moved
       order-kept = go (ordered speeds ts s fine)
         where
-          work-kept : (i : ℕ) → i < length ts → workOf moved i ≡ workedOf speeds s d finished i .work
-          work-kept i h = ap (λ (e : Entry). e .work) (kept-at i h)
-
           go : Ordered speeds τ (nominal speeds ts) s → Ordered speeds τ (nominal speeds ts) moved
           go (idles t l z) = idles t l (λ i h. omega (arith, work-kept i h, worked-less speeds s d finished i, z i h))
           go (runs r) =
@@ -226,14 +304,7 @@ module _ (speeds : List ℕ) (rising : Rising speeds) (ts : List Task) (plan : F
                 below = r .below;
                 work = rw (work-kept (s .task) (r .below)) (worked-open speeds rising ts plan s fine d finished pass goes (s .task) (r .below) (r .work));
                 level = r .level;
-                meets =
-                    omega (
-                      arith,
-                      time-kept r,
-                      allowance-kept (s .task) (r .below),
-                      drained-allowance τ s d (s .task),
-                      r .meets,
-                    );
+                meets = meets-kept r;
                 urgent = λ i h w ne.
                     subst (λ (j : Job). MoreUrgent τ (latest τ (s .clock + d) (s .task)) j) (sym (job-kept i h))
                     (subst (λ (j : Job). MoreUrgent τ j (latest τ (s .clock) i)) (sym (job-kept (s .task) (r .below)))
@@ -250,21 +321,26 @@ module _ (speeds : List ℕ) (rising : Rising speeds) (ts : List Task) (plan : F
     pub pass-fine : Fine speeds ts (passedState speeds τ s d finished)
     pass-fine =
         elim (tested anew) as (λ b _. anew ≡ b → Fine speeds ts (pick b (chooseOrder speeds τ moved) moved)) [
-          | passed ↦ λ e. fine-chosen speeds ts (plan .tasks .admitted) moved moved-fine
+          | passed ↦ λ e. fine-chosen speeds ts (plan .tasks .admitted) moved moved-fine (anew-ahead e)
           | failed ↦ λ e. record {
             entries = moved-fine;
             order = facts-order speeds τ (nominal speeds ts) moved (order-kept (goes-on e) (none-arrives e));
+            pace = pace-kept (goes-on e) (none-arrives e);
           }
         ] refl
+
+    -- so where a job arrives every task is ahead
+    pub arrival-ahead : arrives ≡ true → Ahead speeds ts (passedState speeds τ s d finished)
+    arrival-ahead a =
+        subst (λ (l : List Entry). (i : ℕ) → i < length ts → timeOf (nominalSpeed speeds ts) (restIn (getD l i noEntry)) ≤ getD l i noEntry .remaining)
+        (sym (passed-entries speeds τ s d finished)) (anew-ahead (either-second finished a))
 
     -- where the order stays its hold falls by d, and that is the hold of the new state
     hold-kept : anew ≡ false → holdOf speeds τ s - d ≡ holdOf speeds τ moved
     hold-kept e = go (ordered speeds ts s fine)
       where
         next : nextArrival τ (s .clock + d) ≡ nextArrival τ (s .clock) - d
-        next =
-            next-on τ (plan .count-low) periods (s .clock) d
-            (not-next τ (plan .count-low) periods (s .clock) d (pass .within) (none-arrives e))
+        next = next-kept (goes-on e) (none-arrives e)
 
         go : Ordered speeds τ (nominal speeds ts) s → holdOf speeds τ s - d ≡ holdOf speeds τ moved
         go (idles t l z) = rw (eq-eqb (s .task) 255 t) (sym next)

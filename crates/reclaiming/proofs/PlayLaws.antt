@@ -25,14 +25,14 @@ use Rattle.reclaiming.specs.Passes.{startState, passedState, passedHold}
 use Rattle.reclaiming.specs.Questions.{passing, starting, passQuestions}
 use Rattle.reclaiming.specs.Calls.{repliedBy, isOrder, startNumber, startReply, startBuffer, startOrder, passNumber, passReply, passBytes, passOrder}
 use Rattle.reclaiming.specs.Run.{Pass, Answered, trace, bytesAfter, startedBytes, openedBook, bookedAll, ranAll}
-use Rattle.reclaiming.specs.Promises.{Started, OnTime, NamesMostUrgent, lastOrder}
+use Rattle.reclaiming.specs.Promises.{Started, OnTime, ClosesByArrival, NamesMostUrgent, lastOrder, actualBook}
 use Rattle.reclaiming.specs.Numbers.{replyNumber}
-use Rattle.reclaiming.specs.Play.{replyFrom, replyNumbers, answersFrom, leftBy, playedState, playedReplies, PlayedOnTime, PlayedMostUrgent}
+use Rattle.reclaiming.specs.Play.{replyFrom, replyNumbers, answersFrom, leftBy, playedState, playedReplies, PlayedOnTime, PlayedInTime, PlayedMostUrgent, actualTo}
 use Rattle.reclaiming.proofs.Fine.{Fine, Accepted}
 use Rattle.reclaiming.proofs.Replies.{is-idle, is-run, viewOrder, order-accepted, not-refused}
 use Rattle.reclaiming.proofs.Soundness.{sound-state, sound-fine, sound-table, sound-own, pass-accepted, fine-small, Starts, start-facts}
 use Rattle.reclaiming.proofs.PassSound.{start-fine, pass-fine}
-use Rattle.reclaiming.proofs.Demand.{demand-3, runs-most-urgent, room, untouched}
+use Rattle.reclaiming.proofs.Demand.{demand-3, closes-in-time, runs-most-urgent, room, untouched}
 
 -- a reply whose parts each fit their place in the number
 abbrev pub Small : Reply → Type 0
@@ -203,8 +203,20 @@ module _ (levels : List ℕ) where
     played-on-time : PlayedOnTime levels block first-number passes replies-found
     played-on-time accepted n =
         let ok : Started levels block state = number-accepted accepted in
-        carried (λ (r : Reply) (l : List Answered). OnTime τ (bookedAll speeds (tasksIn block) (openedBook (tasksIn block) r) l) (ranAll τ (opened τ) l)) ok n
+        carried (λ (r : Reply) (l : List Answered). OnTime speeds τ (bookedAll speeds (tasksIn block) (openedBook (tasksIn block) r) l) (ranAll τ (opened τ) l)) ok n
         (demand-3 levels block state (take n passes) ok)
+
+    played-in-time : PlayedInTime levels block first-number passes replies-found
+    played-in-time accepted n =
+        let ok : Started levels block state = number-accepted accepted in
+        subst₂ (ClosesByArrival τ) (booked-back ok n) (booked-back ok (suc n)) (closes-in-time levels block state passes n ok)
+      where
+        booked-back :
+            Started levels block state →
+            (m : ℕ) →
+            actualBook levels block state (take m passes) ≡ actualTo levels block first-number passes replies-found m
+        booked-back ok m =
+            ap₂ (λ (r : Reply) (l : List Answered). bookedAll speeds (tasksIn block) (openedBook (tasksIn block) r) l) (sym first-back) (sym (answers-back ok m))
 
     played-most-urgent : PlayedMostUrgent levels block first-number passes replies-found
     played-most-urgent accepted n =
@@ -216,7 +228,9 @@ module _ (levels : List ℕ) where
   module _ (block state : List ℕ) (passes : List Pass) (found : List ℕ) where
     -- the number that is returned, the state and the replies; the promises are said of that number and those replies
     abbrev Promised : ℕ → List ℕ → Type 0
-    Promised first replies = PlayedOnTime levels block first passes replies × PlayedMostUrgent levels block first passes replies
+    Promised first replies =
+        PlayedOnTime levels block first passes replies
+        × (PlayedInTime levels block first passes replies × PlayedMostUrgent levels block first passes replies)
 
     abbrev PlayLeaves : ℕ → List ℕ → List ℕ → Type 0
     PlayLeaves first m replies =
@@ -231,7 +245,10 @@ module _ (levels : List ℕ) where
         replies ≡ playedReplies levels block state passes found →
         PlayLeaves first m replies
     play-leaves first m replies e f r =
-        (e, (f, (r, subst₂ Promised (sym e) (sym r) (played-on-time block state found passes, played-most-urgent block state found passes))))
+        (e, (f, (r, subst₂ Promised (sym e) (sym r) promised)))
+      where
+        promised : Promised (replyNumber (startReply levels block (length state))) (playedReplies levels block state passes found)
+        promised = (played-on-time block state found passes, (played-in-time block state found passes, played-most-urgent block state found passes))
 
     -- by the number of the start's questions
     abbrev stateBy : ℕ → List ℕ

@@ -5,6 +5,7 @@ use Prim.Native.Nat.{ℕ, zero, suc, _+_, _%_, _≤_, _<_}
 use mathlib.Core.Path.{_≡_, refl, sym, subst, ap, ap₂, _∙_}
 use mathlib.Core.Bool.{Bool, true, true≢false, not}
 use mathlib.Core.List.{List, _∷_, _++_, append-nil}
+use mathlib.Core.Logic.{⊎-elim}
 use native.Mathlib.Decide.{ℕ-discrete}
 use native.Mathlib.Omega.{arith}
 use borrow.Author.Tests.{le-leb, eq-eqb}
@@ -14,6 +15,7 @@ use Rattle.arith.specs.Choice.{pick}
 use Rattle.arith.specs.Asking.{firstNo}
 use Rattle.arith.proofs.Tests.{passed, failed, tested, both-true}
 use Rattle.arith.proofs.QuestionLaws.{ask-yes}
+use Rattle.arith.proofs.RangeLaws.{some-yes}
 use Rattle.plan.specs.declared.Task.{Task}
 use Rattle.plan.specs.declared.Rest.{Rest}
 use Rattle.plan.specs.Times.{whole, noRest, timeOf, worn}
@@ -28,27 +30,29 @@ use Rattle.schedule.specs.PlainSchedule.{Timing, Job, Book, latest, canonicalAt
 use Rattle.schedule.specs.Feasibility.{Fitting}
 use Rattle.schedule.proofs.Drain.{Quiet}
 use Rattle.schedule.proofs.QueueLaws.{queueOf-cong}
+use Rattle.schedule.proofs.Closing.{Entered}
 use Rattle.schedule.proofs.Span.{canonical-span, after-add, renewed, nothing-old}
 use Rattle.reclaiming.specs.declared.Reply.{Reply}
 use Rattle.reclaiming.specs.StateBlock.{State, encode, decode, laidOut, planIn, timing, workOf, remainingOf, restOf, stateLength}
-use Rattle.reclaiming.specs.Orders.{holdOf, orderWith}
-use Rattle.reclaiming.specs.Passes.{passedState, passedHold, workedOf, drainedOf}
+use Rattle.reclaiming.specs.Orders.{nextArrival, holdOf, orderWith}
+use Rattle.reclaiming.specs.Passes.{passedState, passedHold, workedOf, drainedOf, arrivesAt}
 use Rattle.reclaiming.specs.Questions.{largestClock, inTime, sound, stateSound, passQuestions}
 use Rattle.reclaiming.specs.Calls.{repliedBy, passNumber, passReply, passBytes}
-use Rattle.reclaiming.specs.Run.{Pass, DispatcherBook, ordered, moved, booked, ran, leftAfter}
+use Rattle.reclaiming.specs.Run.{Pass, DispatcherBook, Arrived, ordered, moved, booked, ran, leftAfter}
 use Rattle.reclaiming.specs.Promises.{orderAfter}
-use Rattle.reclaiming.proofs.Fine.{Fine, Accepted, nominalSpeed}
+use Rattle.reclaiming.proofs.Fine.{Ahead, Gap, Fine, Accepted, nominalSpeed}
 use Rattle.reclaiming.proofs.Replies.{is-idle, is-run, viewOrder, order-accepted, order-booked, order-stands}
 use Rattle.reclaiming.proofs.Plans.{nominal-positive, plan-fits}
 use Rattle.reclaiming.proofs.StateCodec.{Storable, StorableTable, decode-encode, length-encode, laid-out}
 use Rattle.reclaiming.proofs.Soundness.{fine-sound, pass-accepted, fine-stored, fine-storable}
 use Rattle.reclaiming.proofs.OrderFacts.{idles, runs}
-use Rattle.reclaiming.proofs.NextArrival.{next-quiet}
-use Rattle.reclaiming.proofs.Worked.{worked-other, worked-mine, worked-less, worked-open, stays-ahead}
+use Rattle.reclaiming.proofs.NextArrival.{next-quiet, next-soonest}
+use Rattle.reclaiming.proofs.Worked.{worked-other, worked-mine, worked-less, worked-was, worked-open}
+use Rattle.reclaiming.proofs.Worked.{Reclaims, paced, stays-ahead, gap-finished, gap-arrives}
 use Rattle.reclaiming.proofs.Worked as worked
 use Rattle.reclaiming.proofs.PassedStates.{new-rest, old-rest, passed-rest, passed-remaining, passed-clock, passed-speeds}
-use Rattle.reclaiming.proofs.PassSound.{pass-fine, pass-hold}
-use Rattle.reclaiming.proofs.Books.{Held, held-pass, Ended, ended-pass}
+use Rattle.reclaiming.proofs.PassSound.{pass-fine, pass-hold, arrival-ahead}
+use Rattle.reclaiming.proofs.Books.{OpenLatest, Held, held-pass, Ended, ended-pass, OpenSince, since-pass, in-plain}
 
 -- a state, and what the books have of it
 pub record Tied (speeds : List ℕ) (ts : List Task) (s : State) (actual : DispatcherBook) (plain : Book) (order : Reply) : Type 0 where
@@ -63,6 +67,7 @@ pub record Tied (speeds : List ℕ) (ts : List Task) (s : State) (actual : Dispa
   pub queue :
       canonicalAt (timing speeds ts) (s .clock)
       ≡ record { clock = s .clock; pending = queueOf (timing speeds ts) (s .clock) (remainingOf s) (timing speeds ts .count) }
+  pub since : OpenSince (timing speeds ts) (s .clock) (workOf s)
   pub order-is : order ≡ orderWith s (holdOf speeds (timing speeds ts) s)
 
 -- a state is tied to the books, the bytes are its block, and its speeds are those that were loaded
@@ -203,7 +208,7 @@ module _ (speeds : List ℕ) (table : FineTable speeds) (ts : List Task) (good :
         ] refl
 
     module _ (queue : canonicalAt τ (s .clock) ≡ record { clock = s .clock; pending = queueOf τ (s .clock) (remainingOf s) (τ .count) }) where
-      -- a job that is open when the next arrives would have ticks left in the plain schedule, past its deadline
+      -- a job that is open when the next arrives would have ticks left in the plain schedule, past its deadline; and in a gap none is open
       never : (i : ℕ) → i < τ .count → (s .clock + d) % τ .period i ≡ 0 → 0 < workOf s i → (i ≡ s .task) × (finished ≡ true)
       never i h z w =
           elim (ℕ-discrete i (s .task)) [
@@ -214,14 +219,27 @@ module _ (speeds : List ℕ) (table : FineTable speeds) (ts : List Task) (good :
             | no e ↦ absurd (stuck (λ g. e g.0))
           ]
         where
-          stuck : ((i ≡ s .task) × (finished ≡ true) → ⊥) → ⊥
-          stuck ne =
+          ahead : Reclaims speeds ts s → ((i ≡ s .task) × (finished ≡ true) → ⊥) → ⊥
+          ahead k ne =
               let speed : ℕ = nominalSpeed speeds ts in
               let rest : Rest = workedOf speeds s d finished i in
               let some : 0 < timeOf speed rest = time-some speed rest (nominal-positive speeds ts good rising) (working i h w ne) in
-              let most : timeOf speed rest ≤ drainedOf τ s d i = stays-ahead speeds rising ts good s fine d finished ok i h in
+              let most : timeOf speed rest ≤ drainedOf τ s d i = stays-ahead speeds rising ts good s fine d finished ok k i h in
               let none : drainedOf τ s d i ≡ 0 = nothing-old τ (hyperperiod ts) fits (s .clock) d (remainingOf s) (ok .some) quiet queue i h z in
               omega arith
+
+          in-gap : Gap speeds ts s → ((i ≡ s .task) × (finished ≡ true) → ⊥) → ⊥
+          in-gap g ne =
+              elim (tested finished) as (λ b _. finished ≡ b → ⊥) [
+                | passed ↦ λ f. omega (arith, working i h w ne, gap-finished speeds rising ts good s fine d finished ok g f i h)
+                | failed ↦ λ f. omega (arith, working i h w ne, gap-arrives speeds rising ts good s fine d finished ok g f arrival i h)
+              ] refl
+            where
+              arrival : nextArrival τ (s .clock) ≤ d
+              arrival = next-soonest τ (good .count-low) (fits .periods) (s .clock) i d h (ok .some) z
+
+          stuck : ((i ≡ s .task) × (finished ≡ true) → ⊥) → ⊥
+          stuck ne = ⊎-elim (λ k. ahead k ne) (λ g. in-gap g ne) (paced speeds ts s fine)
 
       worst-some : (i : ℕ) → i < τ .count → 0 < getD (planIn s) i noTask .worst
       worst-some i h =
@@ -257,6 +275,29 @@ module _ (speeds : List ℕ) (table : FineTable speeds) (ts : List Task) (good :
           same =
               queueOf-cong τ (s .clock + d) (renewed τ (s .clock + d) (drainedOf τ s d)) (remainingOf next) (τ .count)
               (λ i h. sym (passed-remaining speeds τ s d finished i h))
+
+      -- where a job arrives, what is open is open in the plain schedule
+      arrival-open :
+          (k : Job) →
+          Arrived τ (s .clock + d) k →
+          k .arrival ≡ s .clock + d →
+          (j : Job) →
+          Arrived τ (s .clock + d) j →
+          OpenLatest τ (s .clock + d) (workOf next) j →
+          Entered (canonicalAt τ (s .clock + d) .pending) j
+      arrival-open k b e j a o =
+          let due : arrivesAt τ (s .clock + d) (k .task) ≡ true =
+          eq-eqb ((s .clock + d) % τ .period (k .task)) 0 (subst (λ (t : ℕ). t % τ .period (k .task) ≡ 0) e (b .multiple)) in
+          let ahead : Ahead speeds ts next =
+          arrival-ahead speeds rising ts good s fine d finished ok (some-yes (arrivesAt τ (s .clock + d)) (τ .count) (k .task) (b .task) due) in
+          in-plain τ (s .clock + d) (remainingOf next) (τ .count) next-queue j (a .task) (o .0)
+          (omega (arith, ahead (j .task) (a .task), time-some (nominalSpeed speeds ts) (restOf next (j .task)) (nominal-positive speeds ts good rising) (o .1)))
+
+      next-since : OpenSince τ (s .clock) (workOf s) → OpenSince τ (s .clock + d) (workOf next)
+      next-since =
+          since-pass τ (s .clock) d (workOf s) (workOf next) (ok .some) (fits .periods) quiet
+          (λ i h z w. worked-was speeds s d finished i (subst (λ (x : Rest). 0 < x .work) (old-rest speeds τ s d finished i h z) w))
+          arrival-open
 
       abbrev hold : ℕ
       hold = passedHold speeds τ s d finished
@@ -316,6 +357,7 @@ module _ (speeds : List ℕ) (table : FineTable speeds) (ts : List Task) (good :
                 ∙ ap (canonicalAt τ) (sym clock);
             queue =
                 subst (λ (c : ℕ). canonicalAt τ c ≡ record { clock = c; pending = queueOf τ c (remainingOf next) (τ .count) }) (sym clock) next-queue;
+            since = subst (λ (c : ℕ). OpenSince τ c (workOf next)) (sym clock) (next-since (t .since));
             order-is = order-stands next hold last ∙ ap (orderWith next) (pass-hold speeds rising ts good s fine d finished ok);
           }
 

@@ -5,13 +5,14 @@ use Prim.Native.Nat.{ℕ, suc, _+_, _<_, _≤_}
 use mathlib.Core.Path.{_≡_, refl, sym, subst, ap, _∙_}
 use mathlib.Core.Bool.{Bool, true, false}
 use mathlib.Core.List.{List, [], _∷_, _++_}
+use mathlib.Core.Logic.{_⊎_, inl, inr}
 use native.Mathlib.Omega.{arith}
 use borrow.Author.Tests.{leb-true, le-leb, eqb-true, eq-eqb}
 use lib.Dec.{leb, ltb, eqb}
 use lib.ListN.{length, getD, length-map, List·getD-map}
 use Rattle.arith.specs.Choice.{pick, both, every}
 use Rattle.arith.specs.Asking.{Question, ask, firstNo}
-use Rattle.arith.proofs.Tests.{both-left, both-right, both-true, only-if, if-so}
+use Rattle.arith.proofs.Tests.{passed, failed, tested, both-left, both-right, both-true, only-if, if-so, either-second}
 use Rattle.arith.proofs.ListLaws.{every-at, at-every}
 use Rattle.arith.proofs.QuestionLaws.{Yes, all-yes, yes-all, ask-yes, yes-before, yes-of, yes-after}
 use Rattle.plan.specs.declared.Task.{Task}
@@ -24,12 +25,14 @@ use Rattle.plan.proofs.LevelBlockLaws.{FineTable, fine-table, loaded-table}
 use Rattle.plan.proofs.Facts.{FineList, InRange, fine-list, list-yes, fine-block, block-list}
 use Rattle.reclaiming.specs.declared.Entry.{Entry}
 use Rattle.reclaiming.specs.StateBlock.{State, noEntry, restOf, remainingOf, restIn, taskOf, planIn, timing, decode, laidOut, stateLength}
-use Rattle.reclaiming.specs.Orders.{nextArrival, openJobs, runningTime}
-use Rattle.reclaiming.specs.Questions.{largestClock, fixedSound, entrySound, orderSound, stateSound, inTime, soundAt, sound, starting, running, stepQuestions, passQuestions}
-use Rattle.reclaiming.proofs.Fine.{nominalSpeed, FineEntries, Fine, Accepted}
+use Rattle.reclaiming.specs.Orders.{nextArrival, isLone, openJobs, runningTime}
+use Rattle.reclaiming.specs.Questions.{largestClock, fixedSound, entrySound, entryAhead, orderSound, fitsGap, stateSound, inTime, soundAt, sound, starting, running}
+use Rattle.reclaiming.specs.Questions.{stepQuestions, passQuestions}
+use Rattle.reclaiming.proofs.Fine.{nominalSpeed, FineEntries, Ahead, Gap, Fine, Accepted}
 use Rattle.reclaiming.proofs.Plans.{task-range, allotment-short}
 use Rattle.reclaiming.proofs.StateCodec.{StorableEntry, StorableTable, Storable}
 use Rattle.reclaiming.proofs.OrderFacts.{idles, runs, order-facts}
+use Rattle.reclaiming.proofs.Lone.{lone-closed, closed-lone}
 
 -- an entry of the plan in a state
 pub planIn-at : (s : State) (i : ℕ) → getD (planIn s) i noTask ≡ taskOf (getD (s .entries) i noEntry)
@@ -47,27 +50,23 @@ pub record FineEntry (speed : ℕ) (e : Entry) : Type 0 where
   pub left : Within (restIn e) (whole (taskOf e))
   pub closed : e .work ≡ 0 → e .unspent ≡ 0
   pub remaining : e .remaining ≤ taskTime speed (taskOf e)
-  pub ahead : timeOf speed (restIn e) ≤ e .remaining
 
-fine-entry : (speed : ℕ) (e : Entry) → entrySound speed e ≡ true → FineEntry speed e
+pub fine-entry : (speed : ℕ) (e : Entry) → entrySound speed e ≡ true → FineEntry speed e
 fine-entry speed e h =
     let w : Bool = leb (e .work) (e .worst) in
     let u : Bool = leb (e .unspent) (e .fixed) in
     let z : Bool = pick (eqb (e .work) 0) (eqb (e .unspent) 0) true in
     let a : Bool = both w (fixedSound e) in
     let b : Bool = leb (e .remaining) (taskTime speed (taskOf e)) in
-    let c : Bool = leb (timeOf speed (restIn e)) (e .remaining) in
-    let j : a ≡ true = both-left a (both b c) h in
+    let j : a ≡ true = both-left a b h in
     let l : fixedSound e ≡ true = both-right w (fixedSound e) j in
-    let k : both b c ≡ true = both-right a (both b c) h in
     record {
       left = record {
         fixed = leb-true (e .unspent) (e .fixed) (both-left u z l);
         work = leb-true (e .work) (e .worst) (both-left w (fixedSound e) j);
       };
       closed = λ n. eqb-true (e .unspent) 0 (if-so (eqb (e .work) 0) (eqb (e .unspent) 0) (both-right u z l) (eq-eqb (e .work) 0 n));
-      remaining = leb-true (e .remaining) (taskTime speed (taskOf e)) (both-left b c k);
-      ahead = leb-true (timeOf speed (restIn e)) (e .remaining) (both-right b c k);
+      remaining = leb-true (e .remaining) (taskTime speed (taskOf e)) (both-right a b h);
     }
 
 entry-sound : (speed : ℕ) (e : Entry) → FineEntry speed e → entrySound speed e ≡ true
@@ -76,7 +75,48 @@ entry-sound speed e f =
     (both-true (le-leb (e .work) (e .worst) (f .left .work))
     (both-true (le-leb (e .unspent) (e .fixed) (f .left .fixed))
     (only-if (eqb (e .work) 0) (eqb (e .unspent) 0) (λ n. eq-eqb (e .unspent) 0 (f .closed (eqb-true (e .work) 0 n))))))
-    (both-true (le-leb (e .remaining) (taskTime speed (taskOf e)) (f .remaining)) (le-leb (timeOf speed (restIn e)) (e .remaining) (f .ahead)))
+    (le-leb (e .remaining) (taskTime speed (taskOf e)) (f .remaining))
+
+-- the tests of how a state keeps up, both ways
+module _ (speeds : List ℕ) (ts : List Task) (s : State) (size : length (s .entries) ≡ length ts) where
+  abbrev aheadTest : Bool
+  aheadTest = every (entryAhead (nominalSpeed speeds ts)) (s .entries)
+
+  pub ahead-all : aheadTest ≡ true → Ahead speeds ts s
+  ahead-all h i k =
+      leb-true (timeOf (nominalSpeed speeds ts) (restOf s i)) (remainingOf s i)
+      (every-at (entryAhead (nominalSpeed speeds ts)) (s .entries) i noEntry h (omega (arith, size)))
+
+  pub all-ahead : Ahead speeds ts s → aheadTest ≡ true
+  all-ahead a =
+      at-every (entryAhead (nominalSpeed speeds ts)) (s .entries) noEntry
+      (λ i k. le-leb (timeOf (nominalSpeed speeds ts) (restOf s i)) (remainingOf s i) (a i (omega (arith, size))))
+
+  gap-fits : fitsGap speeds (timing speeds ts) s ≡ true → Gap speeds ts s
+  gap-fits h =
+      let lone : Bool = isLone (timing speeds ts) s (s .task) in
+      let next : ℕ = nextArrival (timing speeds ts) (s .clock) in
+      let short : Bool = leb (runningTime speeds s) next in
+      record {
+        others = lone-closed (timing speeds ts) s (s .task) (both-left lone short h);
+        time = leb-true (runningTime speeds s) next (both-right lone short h);
+      }
+
+  fits-gap : Gap speeds ts s → fitsGap speeds (timing speeds ts) s ≡ true
+  fits-gap g =
+      both-true (closed-lone (timing speeds ts) s (s .task) (g .others))
+      (le-leb (runningTime speeds s) (nextArrival (timing speeds ts) (s .clock)) (g .time))
+
+  pace-tested : pick aheadTest true (fitsGap speeds (timing speeds ts) s) ≡ true → Ahead speeds ts s ⊎ Gap speeds ts s
+  pace-tested =
+      elim (tested aheadTest)
+      as (λ b _. aheadTest ≡ b → pick b true (fitsGap speeds (timing speeds ts) s) ≡ true → Ahead speeds ts s ⊎ Gap speeds ts s)
+      [ passed ↦ λ e h. inl (ahead-all e) | failed ↦ λ e h. inr (gap-fits h) ]
+      refl
+
+  tested-pace : Ahead speeds ts s ⊎ Gap speeds ts s → pick aheadTest true (fitsGap speeds (timing speeds ts) s) ≡ true
+  tested-pace (inl a) = ap (λ (b : Bool). pick b true (fitsGap speeds (timing speeds ts) s)) (all-ahead a)
+  tested-pace (inr g) = either-second aheadTest (fits-gap g)
 
 -- a sound state's plan is accepted, and the state is fine
 pub sound-fine :
@@ -88,21 +128,23 @@ sound-fine speeds s h =
     let a : Bool = eqb (firstNo (judging speeds (length (s .entries)) ts)) 0 in
     let c : Bool = every (entrySound (nominalSpeed speeds ts)) (s .entries) in
     let d : Bool = orderSound speeds (timing speeds ts) (nominal speeds ts) s (openJobs (timing speeds ts) s) in
-    let l : both c d ≡ true = both-right a (both c d) h in
+    let e : Bool = pick (every (entryAhead (nominalSpeed speeds ts)) (s .entries)) true (fitsGap speeds (timing speeds ts) s) in
+    let l : both c (both d e) ≡ true = both-right a (both c (both d e)) h in
+    let o : both d e ≡ true = both-right c (both d e) l in
     let entry : (i : ℕ) → i < length ts → FineEntry (nominalSpeed speeds ts) (getD (s .entries) i noEntry) =
     λ i q. fine-entry (nominalSpeed speeds ts) (getD (s .entries) i noEntry)
-    (every-at (entrySound (nominalSpeed speeds ts)) (s .entries) i noEntry (both-left c d l) (omega (arith, length-planIn s))) in (
+    (every-at (entrySound (nominalSpeed speeds ts)) (s .entries) i noEntry (both-left c (both d e) l) (omega (arith, length-planIn s))) in (
       subst (λ (n : ℕ). FineList speeds n ts) (sym (length-planIn s))
-          (fine-list speeds (length (s .entries)) ts (eqb-true (firstNo (judging speeds (length (s .entries)) ts)) 0 (both-left a (both c d) h))),
+          (fine-list speeds (length (s .entries)) ts (eqb-true (firstNo (judging speeds (length (s .entries)) ts)) 0 (both-left a (both c (both d e)) h))),
       record {
         entries = record {
           plan = refl;
           left = λ i q. subst (λ (t : Task). Within (restOf s i) (whole t)) (sym (planIn-at s i)) (entry i q .left);
           closed = λ i q. entry i q .closed;
           remaining = λ i q. subst (λ (t : Task). remainingOf s i ≤ taskTime (nominalSpeed speeds ts) t) (sym (planIn-at s i)) (entry i q .remaining);
-          ahead = λ i q. entry i q .ahead;
         };
-        order = both-right c d l;
+        order = both-left d e o;
+        pace = pace-tested speeds ts s (sym (length-planIn s)) (both-right d e o);
       },
     )
 
@@ -129,9 +171,8 @@ fine-sound speeds ts s l f =
           left = subst (λ (t : Task). Within (restOf s i) (whole t)) (planIn-at s i) (f .entries .left i (omega arith));
           closed = f .entries .closed i (omega arith);
           remaining = subst (λ (t : Task). remainingOf s i ≤ taskTime v t) (planIn-at s i) (f .entries .remaining i (omega arith));
-          ahead = f .entries .ahead i (omega arith);
         })))
-        (f .order))
+        (both-true (f .order) (tested-pace speeds (planIn s) s (sym m) (f .pace))))
 
 -- the time that a pass may take of the running job
 time-most : (finished : Bool) (d t : ℕ) → pick finished (leb d t) (ltb d t) ≡ true → d ≤ t
@@ -261,6 +302,31 @@ fine-small speeds ts s l few f =
 pub fine-stored : {speeds : List ℕ} → FineTable speeds → StorableTable speeds
 fine-stored t = record { few = t .few; each = λ k h. omega (arith, t .most k h) }
 
+-- so do the entries of a fine state
+pub entries-storable :
+    (speeds : List ℕ) (ts : List Task) (s : State) →
+    FineList speeds (length ts) ts →
+    Rising speeds →
+    FineEntries speeds ts s →
+    (i : ℕ) →
+    i < length (s .entries) →
+    StorableEntry (getD (s .entries) i noEntry)
+entries-storable speeds ts s l rising f i h =
+    let k : i < length ts = omega (arith, fine-length f) in
+    let same : getD ts i noTask ≡ taskOf (getD (s .entries) i noEntry) =
+    ap (λ (us : List Task). getD us i noTask) (sym (f .plan)) ∙ planIn-at s i in
+    let r : InRange (taskOf (getD (s .entries) i noEntry)) = subst InRange same (task-range speeds ts l rising i k) in
+    let left : Within (restOf s i) (whole (taskOf (getD (s .entries) i noEntry))) =
+    subst (λ (t : Task). Within (restOf s i) (whole t)) same (f .left i k) in
+    record {
+      period = omega (arith, r .period-high);
+      worst = omega (arith, r .worst-high);
+      work = omega (arith, r .worst-high, left .work);
+      remaining = omega (arith, f .remaining i k, allotment-short speeds ts l rising i k);
+      fixed = omega (arith, r .fixed-high);
+      unspent = omega (arith, r .fixed-high, left .fixed);
+    }
+
 -- a fine state whose clock is in range fits its block, with a table that does
 pub fine-storable :
     (speeds : List ℕ) (ts : List Task) (s : State) →
@@ -279,24 +345,6 @@ fine-storable speeds ts s l rising few f late table =
       task = o .0;
       level = o .1;
       count = omega (arith, l .count-high);
-      entries = λ i k. entry i (omega arith);
+      entries = entries-storable speeds ts s l rising (f .entries);
       table = table;
     }
-  where
-    -- an entry's plan
-    same : (i : ℕ) → getD ts i noTask ≡ taskOf (getD (s .entries) i noEntry)
-    same i = ap (λ (us : List Task). getD us i noTask) (sym (f .entries .plan)) ∙ planIn-at s i
-
-    entry : (i : ℕ) → i < length ts → StorableEntry (getD (s .entries) i noEntry)
-    entry i k =
-        let r : InRange (taskOf (getD (s .entries) i noEntry)) = subst InRange (same i) (task-range speeds ts l rising i k) in
-        let left : Within (restOf s i) (whole (taskOf (getD (s .entries) i noEntry))) =
-        subst (λ (t : Task). Within (restOf s i) (whole t)) (same i) (f .entries .left i k) in
-        record {
-          period = omega (arith, r .period-high);
-          worst = omega (arith, r .worst-high);
-          work = omega (arith, r .worst-high, left .work);
-          remaining = omega (arith, f .entries .remaining i k, allotment-short speeds ts l rising i k);
-          fixed = omega (arith, r .fixed-high);
-          unspent = omega (arith, r .fixed-high, left .fixed);
-        }

@@ -1,10 +1,11 @@
--- A pass keeps the dispatcher ahead of the plain schedule: after it, each task's work left needs no more than its plain ticks left.
+-- A pass keeps the dispatcher ahead of the plain schedule: after it, each task's work left needs no more than its plain ticks left. Only a
+-- lone job may be behind, as long as it can be done before the next arrival.
 -- Assumes nothing.
 use Prim.Native.Nat.{ℕ, _+_, _-_, _≤_, _<_}
 use mathlib.Core.Path.{_≡_, refl, sym, ap, subst, _∙_}
 use mathlib.Core.Bool.{Bool, true, false, not}
 use mathlib.Core.List.{List}
-use mathlib.Core.Logic.{_≢_}
+use mathlib.Core.Logic.{_≢_, _⊎_, inl, inr, ⊎-elim}
 use native.Mathlib.Decide.{decLe, ℕ-discrete}
 use native.Mathlib.Omega.{arith}
 use borrow.Author.Tests.{eq-eqb, ne-eqb}
@@ -22,12 +23,13 @@ use Rattle.plan.proofs.Facts.{FineList}
 use Rattle.schedule.specs.PlainSchedule.{Timing, moreUrgent, latest}
 use Rattle.schedule.proofs.Ahead.{left-drain}
 use Rattle.reclaiming.specs.StateBlock.{State, workOf, remainingOf, restOf, timing}
-use Rattle.reclaiming.specs.Orders.{allowance, runningTime}
+use Rattle.reclaiming.specs.Orders.{nextArrival, plainAllowance, runningTime}
 use Rattle.reclaiming.specs.Passes.{drainedOf, workedOf}
 use Rattle.reclaiming.specs.Questions.{running}
-use Rattle.reclaiming.proofs.Fine.{nominalSpeed, closed-none, Fine, Accepted}
+use Rattle.reclaiming.proofs.Fine.{nominalSpeed, Ahead, Gap, Fine, Accepted}
 use Rattle.reclaiming.proofs.Plans.{level-positive, level-slower, nominal-positive}
 use Rattle.reclaiming.proofs.OrderFacts.{Runs, Ordered, idles, runs, order-facts}
+use Rattle.reclaiming.proofs.Lone.{lone-closed, allowance-which}
 use Rattle.reclaiming.proofs.Allowances.{allowed, allowance-is, allowance-before, drained-le, drained-part}
 
 -- a task that does not run keeps what is left; of the running one's the ticks take their part
@@ -65,7 +67,7 @@ module _ (τ : Timing) (s : State) (d : ℕ) where
 
   -- an allowance falls by at most d
   pub drained-allowance : (x : ℕ) →
-      allowance τ s x ≤ sumTo (τ .count) (allowed τ (s .clock) (drainedOf τ s d) x) + d
+      plainAllowance τ s x ≤ sumTo (τ .count) (allowed τ (s .clock) (drainedOf τ s d) x) + d
   drained-allowance x =
       drained-part τ (s .clock) (remainingOf s) (τ .count) d
       (λ j. moreUrgent τ (latest τ (s .clock) x) (latest τ (s .clock) j))
@@ -73,6 +75,23 @@ module _ (τ : Timing) (s : State) (d : ℕ) where
 -- the order that stands in a sound state
 pub ordered : (speeds : List ℕ) (ts : List Task) (s : State) → Fine speeds ts s → Ordered speeds (timing speeds ts) (nominal speeds ts) s
 ordered speeds ts s fine = order-facts speeds (timing speeds ts) (nominal speeds ts) s (fine .order)
+
+-- the dispatcher is ahead, and the order meets 01's allowance
+pub record Reclaims (speeds : List ℕ) (ts : List Task) (s : State) : Type 0 where
+  pub ahead : Ahead speeds ts s
+  pub meets : Runs speeds (timing speeds ts) (nominal speeds ts) s → runningTime speeds s ≤ plainAllowance (timing speeds ts) s (s .task)
+
+-- a sound state keeps up in one of two ways
+pub paced : (speeds : List ℕ) (ts : List Task) (s : State) → Fine speeds ts s → Reclaims speeds ts s ⊎ Gap speeds ts s
+paced speeds ts s fine = ⊎-elim (λ a. go a (ordered speeds ts s fine)) inr (fine .pace)
+  where
+    go : Ahead speeds ts s → Ordered speeds (timing speeds ts) (nominal speeds ts) s → Reclaims speeds ts s ⊎ Gap speeds ts s
+    go a (idles t l z) = inl (record { ahead = a; meets = λ r. absurd (omega (arith, r .work, z (s .task) (r .below))) })
+    go a (runs r) =
+        elim (allowance-which (timing speeds ts) s (s .task) (runningTime speeds s) (r .meets)) [
+          | inl h ↦ inl (record { ahead = a; meets = λ _. h })
+          | inr h ↦ inr (record { others = lone-closed (timing speeds ts) s (s .task) (h .0); time = h .1 })
+        ]
 
 -- a plan that was accepted, over a rising table of speeds
 module _ (speeds : List ℕ) (rising : Rising speeds) (ts : List Task) (plan : FineList speeds (length ts) ts) where
@@ -139,9 +158,18 @@ module _ (speeds : List ℕ) (rising : Rising speeds) (ts : List Task) (plan : F
               | no x ↦ absurd (other l x)
             ]
 
-    -- the running job
-    ahead-mine : Runs speeds τ (nominal speeds ts) s → timeOf (nominalSpeed speeds ts) (pick finished noRest rest) ≤ drainedOf τ s d (s .task)
-    ahead-mine r =
+    -- nothing is left of a job that was closed
+    pub worked-none : (i : ℕ) → i < length ts → workedOf speeds s d finished i .work ≡ 0 → timeOf (nominalSpeed speeds ts) (workedOf speeds s d finished i) ≡ 0
+    worked-none i h z =
+        let none : workedOf speeds s d finished i ≡ noRest = λ k. record { fixed = worked-closed i h z k; work = z k } in
+        ap (timeOf (nominalSpeed speeds ts)) none ∙ time-none (nominalSpeed speeds ts) (nominal-positive speeds ts plan rising)
+
+    -- the running job, where it meets 01's allowance
+    ahead-mine :
+        Reclaims speeds ts s →
+        Runs speeds τ (nominal speeds ts) s →
+        timeOf (nominalSpeed speeds ts) (pick finished noRest rest) ≤ drainedOf τ s d (s .task)
+    ahead-mine k r =
         elim (tested finished) as (λ b _. timeOf (nominalSpeed speeds ts) (pick b noRest rest) ≤ drainedOf τ s d (s .task)) [
           | passed ↦ omega (arith, time-none (nominalSpeed speeds ts) (nominal-positive speeds ts plan rising))
           | failed ↦
@@ -149,9 +177,9 @@ module _ (speeds : List ℕ) (rising : Rising speeds) (ts : List Task) (plan : F
                 arith,
                 left-drain τ (s .clock) (remainingOf s) (length ts) d (s .task) (r .below),
                 allowance-is τ (s .clock) (remainingOf s) (length ts) (s .task) (r .below),
-                r .meets,
+                k .meets r,
                 runs-on r,
-                fine .entries .ahead (s .task) (r .below),
+                k .ahead (s .task) (r .below),
                 time-more (nominalSpeed speeds ts) rest (restOf s (s .task)) (nominal-positive speeds ts plan rising)
                     (worn-within rate d (restOf s (s .task))),
                 time-faster rate (nominalSpeed speeds ts) rest
@@ -159,32 +187,26 @@ module _ (speeds : List ℕ) (rising : Rising speeds) (ts : List Task) (plan : F
               )
         ]
 
-    pub stays-ahead : (i : ℕ) → i < length ts → timeOf (nominalSpeed speeds ts) (workedOf speeds s d finished i) ≤ drainedOf τ s d i
-    stays-ahead i h = go (ordered speeds ts s fine) (ℕ-discrete i (s .task))
+    pub stays-ahead :
+        Reclaims speeds ts s → (i : ℕ) → i < length ts → timeOf (nominalSpeed speeds ts) (workedOf speeds s d finished i) ≤ drainedOf τ s d i
+    stays-ahead k i h = go (ordered speeds ts s fine) (ℕ-discrete i (s .task))
       where
         closed : workOf s i ≡ 0 → timeOf (nominalSpeed speeds ts) (workedOf speeds s d finished i) ≤ drainedOf τ s d i
-        closed z =
-            let none : Within (workedOf speeds s d finished i) noRest =
-            subst (Within (workedOf speeds s d finished i)) (closed-none (fine .entries) i h z) (worked-within speeds s d finished i) in
-            omega (
-              arith,
-              time-more (nominalSpeed speeds ts) (workedOf speeds s d finished i) noRest (nominal-positive speeds ts plan rising) none,
-              time-none (nominalSpeed speeds ts) (nominal-positive speeds ts plan rising),
-            )
+        closed z = omega (arith, worked-none i h (omega (arith, worked-less speeds s d finished i)))
 
         -- the ticks all go to the running job's allowance, and leave the less urgent ones as they were
         other : Runs speeds τ (nominal speeds ts) s → i ≢ s .task → Dec (1 ≤ workOf s i) →
             timeOf (nominalSpeed speeds ts) (workedOf speeds s d finished i) ≤ drainedOf τ s d i
-        other r x (no k) = closed (omega arith)
-        other r x (yes k) =
+        other r x (no w) = closed (omega arith)
+        other r x (yes w) =
             rw (worked-other speeds s d finished i x)
             (omega (
               arith,
               left-drain τ (s .clock) (remainingOf s) (length ts) d i h,
-              allowance-before τ (s .clock) (remainingOf s) (length ts) (s .task) i (r .urgent i h k x),
-              r .meets,
+              allowance-before τ (s .clock) (remainingOf s) (length ts) (s .task) i (r .urgent i h w x),
+              k .meets r,
               pass .time (runs-running s r),
-              fine .entries .ahead i h,
+              k .ahead i h,
             ))
 
         go : Ordered speeds τ (nominal speeds ts) s → Dec (i ≡ s .task) →
@@ -192,5 +214,27 @@ module _ (speeds : List ℕ) (rising : Rising speeds) (ts : List Task) (plan : F
         go (idles t l z) x = closed (z i h)
         go (runs r) (yes x) =
             subst (λ (j : ℕ). timeOf (nominalSpeed speeds ts) (workedOf speeds s d finished j) ≤ drainedOf τ s d j) (sym x)
-            (rw (worked-mine speeds s d finished) (ahead-mine r))
+            (rw (worked-mine speeds s d finished) (ahead-mine k r))
         go (runs r) (no x) = other r x (decLe 1 (workOf s i))
+
+    -- a lone job in the gap: no arrival finds it open
+    module _ (gap : Gap speeds ts s) where
+      gap-unfinished : finished ≡ false → Runs speeds τ (nominal speeds ts) s → d < nextArrival τ (s .clock)
+      gap-unfinished f r = omega (arith, pass .unfinished (runs-running s r) f, gap .time)
+
+      -- where it finished nothing is open, and where one arrives nothing was
+      pub gap-finished : finished ≡ true → (i : ℕ) → i < length ts → workedOf speeds s d finished i .work ≡ 0
+      gap-finished f i h =
+          elim (ℕ-discrete i (s .task)) [
+            | yes x ↦
+                ap (λ (j : ℕ). workedOf speeds s d finished j .work) x
+                ∙ ap (λ (r : Rest). r .work) (worked-mine speeds s d finished ∙ ap (λ (b : Bool). pick b noRest rest) f)
+            | no x ↦ omega (arith, worked-less speeds s d finished i, gap .others i h x)
+          ]
+
+      pub gap-arrives : finished ≡ false → nextArrival τ (s .clock) ≤ d → (i : ℕ) → i < length ts → workedOf speeds s d finished i .work ≡ 0
+      gap-arrives f n i h =
+          elim (ordered speeds ts s fine) [
+            | idles t l z ↦ omega (arith, worked-less speeds s d finished i, z i h)
+            | runs r ↦ absurd (omega (arith, gap-unfinished f r))
+          ]

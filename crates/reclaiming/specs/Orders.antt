@@ -1,11 +1,12 @@
 -- 01, "Orders and passes": which order is chosen. A job's work, remaining ticks and urgency are given by task number.
 -- Assumes nothing.
-use Prim.Native.Nat.{ℕ, _-_, _%_, min}
+use Prim.Native.Nat.{ℕ, _-_, _%_, min, max}
+use mathlib.Core.Bool.{Bool, not}
 use mathlib.Core.List.{List, [], _∷_}
 use lib.Dec.{leb, eqb}
-use Rattle.arith.specs.Choice.{pick, first}
+use Rattle.arith.specs.Choice.{pick, both, first}
 use Rattle.arith.specs.Sum.{sumTo}
-use Rattle.arith.specs.Ranges.{leastTo}
+use Rattle.arith.specs.Ranges.{leastTo, someTo}
 use Rattle.plan.specs.declared.Rest.{Rest}
 use Rattle.plan.specs.Times.{timeOf}
 use Rattle.plan.specs.Levels.{speedOf}
@@ -20,10 +21,21 @@ nextArrival τ clock = leastTo (τ .count) (λ i. τ .period i - clock % τ .per
 
 -- 01: "The job's allowance is the sum of the plain ticks left of all jobs at least as urgent as it, itself included, finished or not
 -- in the dispatcher."
-abbrev pub allowance : Timing → State → ℕ → ℕ
-allowance τ s x =
+abbrev pub plainAllowance : Timing → State → ℕ → ℕ
+plainAllowance τ s x =
     sumTo (τ .count)
     (λ j. pick (moreUrgent τ (latest τ (s .clock) x) (latest τ (s .clock) j)) 0 (remainingOf s j))
+
+-- 02, No. 4: "the job is the only open one": no other task's has work left
+abbrev pub isLone : Timing → State → ℕ → Bool
+isLone τ s x = not (someTo (τ .count) (λ i. both (not (eqb i x)) (not (eqb (workOf s i) 0))))
+
+-- 02, No. 4: "if the job is the only open one, its allowance is the larger of 01's and the ticks to the next arrival"
+abbrev pub withGap : Bool → ℕ → ℕ → ℕ
+withGap alone plain gap = pick alone (max plain gap) plain
+
+abbrev pub allowance : Timing → State → ℕ → ℕ
+allowance τ s x = withGap (isLone τ s x) (plainAllowance τ s x) (nextArrival τ (s .clock))
 
 -- the open jobs of the dispatcher, most urgent first, each with its work left
 abbrev pub openJobs : Timing → State → List Pending

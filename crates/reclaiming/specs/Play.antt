@@ -17,7 +17,7 @@ use Rattle.reclaiming.specs.declared.Reply.the-variants as reply
 use Rattle.reclaiming.specs.StateBlock.{timing, stateLength}
 use Rattle.reclaiming.specs.Calls.{isOrder, startNumber, showReply, showBuffer}
 use Rattle.reclaiming.specs.Run.{Pass, Answered, DispatcherBook, trace, bytesAfter, startedBytes, openedBook, bookedAll, ranAll}
-use Rattle.reclaiming.specs.Promises.{OnTime, NamesMostUrgent, Shows, lastOrder}
+use Rattle.reclaiming.specs.Promises.{OnTime, ClosesByArrival, NamesMostUrgent, Shows, lastOrder}
 use Rattle.reclaiming.specs.Numbers.{replyNumber}
 
 -- a pass as a number: d in its lower 32 bits, and the next bit says whether the job finished
@@ -89,7 +89,17 @@ module _ (levels block : List ℕ) (first : ℕ) (passes : List Pass) (replies :
 
   -- demand 3 along the way: after the first n passes, for every n, so after the last one too
   abbrev pub PlayedOnTime : Type 0
-  PlayedOnTime = isOrder (replyFrom first) ≡ true → (n : ℕ) → OnTime (timing (speedsIn levels) (tasksIn block)) (actualTo n) (plainTo n)
+  PlayedOnTime =
+      isOrder (replyFrom first) ≡ true →
+      (n : ℕ) →
+      OnTime (speedsIn levels) (timing (speedsIn levels) (tasksIn block)) (actualTo n) (plainTo n)
+
+  -- 02, No. 4: what pass n closes, it closes no later than the first arrival after the plain finish
+  abbrev pub PlayedInTime : Type 0
+  PlayedInTime =
+      isOrder (replyFrom first) ≡ true →
+      (n : ℕ) →
+      ClosesByArrival (timing (speedsIn levels) (tasksIn block)) (actualTo n) (actualTo (suc n))
 
   -- the order that stands after them names the most urgent open job
   abbrev pub PlayedMostUrgent : Type 0

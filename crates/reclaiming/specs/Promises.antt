@@ -1,12 +1,12 @@
 -- What is promised of the dispatcher as a whole, each as a type that a proof has.
 -- Assumes nothing.
-use Prim.Native.Nat.{ℕ, _+_, _<_, _≤_}
+use Prim.Native.Nat.{ℕ, suc, _+_, _<_, _≤_}
 use mathlib.Core.Path.{_≡_}
 use mathlib.Core.Bool.{Bool, true, false}
 use mathlib.Core.List.{List, [], _∷_}
 use mathlib.Core.Logic.{_⊎_}
 use lib.Dec.{eqb}
-use lib.ListN.{length}
+use lib.ListN.{length, take}
 use Rattle.arith.specs.Choice.{both}
 use Rattle.plan.specs.declared.Written.{Written}
 use Rattle.plan.specs.Times.{timeOf}
@@ -14,11 +14,12 @@ use Rattle.plan.specs.Levels.{speedOf}
 use Rattle.plan.specs.LevelBlocks.{speedsIn}
 use Rattle.plan.specs.Blocks.{tasksIn}
 use Rattle.plan.specs.Answers.{roomNumber, writtenBy, storedBy}
-use Rattle.schedule.specs.PlainSchedule.{Timing, Job, Pending, Book, deadline, moreUrgent, latest, opened}
+use Rattle.schedule.specs.PlainSchedule.{Timing, Job, Pending, Book, deadline, moreUrgent, latest, opened, canonicalAt}
 use Rattle.schedule.specs.Feasibility.{In}
 use Rattle.reclaiming.specs.declared.Reply.{Reply}
 use Rattle.reclaiming.specs.declared.Reply.the-variants as reply
 use Rattle.reclaiming.specs.StateBlock.{restOf, decode, timing}
+use Rattle.reclaiming.specs.Orders.{nextArrival}
 use Rattle.reclaiming.specs.Questions.{sound, largestClock}
 use Rattle.reclaiming.specs.Calls.{isOrder, startReply, passReply, queueBytes, showReply, showBuffer}
 use Rattle.reclaiming.specs.Run.{Pass, Answered, DispatcherBook, Arrived, trace, bytesAfter, startedBytes, openedBook, bookedAll, ranAll}
@@ -32,16 +33,51 @@ pub record OpenActual (τ : Timing) (b : DispatcherBook) (j : Job) : Type 0 wher
   pub arrived : Arrived τ (b .clock) j
   pub unclosed : In j (b .closed) → ⊥
 
+-- the running job's time left at the order's level, by the book
+abbrev pub timeLeft : List ℕ → DispatcherBook → ℕ
+timeLeft speeds b = timeOf (speedOf speeds (b .level)) (b .left (b .task))
+
+-- 02, No. 4: "a lone job may be open and its plain job closed, if its time left at the order's level is at most the ticks to the next
+-- arrival": it is the running one, no other is open, and that time is by the book
+pub record InGap (speeds : List ℕ) (τ : Timing) (b : DispatcherBook) (j : Job) : Type 0 where
+  pub runs : j ≡ latest τ (b .clock) (b .task)
+  pub alone : (k : Job) → OpenActual τ b k → k ≡ j
+  pub time : timeLeft speeds b ≤ nextArrival τ (b .clock)
+
 -- demand 3, of the two books: what is open or closed in them, and what they share
-pub record OnTime (τ : Timing) (actual : DispatcherBook) (plain : Book) : Type 0 where
+pub record OnTime (speeds : List ℕ) (τ : Timing) (actual : DispatcherBook) (plain : Book) : Type 0 where
   -- "The two share the plan, the clock and every arrival": what is open in the plain schedule's book has arrived by the clock
   pub clocks : actual .clock ≡ plain .clock
   pub arrivals : (j : Job) → OpenPlain plain j → Arrived τ (actual .clock) j
-  -- "every job still open in the dispatcher is open in the plain schedule of that plan too"
-  pub ahead : (j : Job) → OpenActual τ actual j → OpenPlain plain j
-  -- "and in both every job whose deadline has come is closed"
+  -- "every job still open in the dispatcher is open in the plain schedule of that plan too"; 02, No. 4: "Demand 3 then has one exception"
+  pub ahead : (j : Job) → OpenActual τ actual j → OpenPlain plain j ⊎ InGap speeds τ actual j
+  -- 02, No. 4: "At each arrival tick every older open job is still open in the plain schedule": where a job k arrives at the clock
+  pub at-arrivals :
+      (k : Job) →
+      Arrived τ (actual .clock) k →
+      k .arrival ≡ actual .clock →
+      (j : Job) →
+      OpenActual τ actual j →
+      j .arrival < actual .clock →
+      OpenPlain plain j
+  -- "and in both every job whose deadline has come is closed"; 02, No. 4: "and all deadlines hold"
   pub actual-closed : (j : Job) → Arrived τ (actual .clock) j → deadline τ j ≤ actual .clock → In j (actual .closed)
   pub plain-closed : (j : Job) → Arrived τ (plain .clock) j → deadline τ j ≤ plain .clock → OpenPlain plain j → ⊥
+
+-- 02, No. 4: "A lone job that closes after its plain finish closes no later than the first arrival after that plain finish." Of the books
+-- before and after a pass that closes job j, which the plain schedule has closed by a tick, and of any arrival after that tick.
+abbrev pub ClosesByArrival : Timing → DispatcherBook → DispatcherBook → Type 0
+ClosesByArrival τ before after =
+    (j : Job) →
+    OpenActual τ before j →
+    In j (after .closed) →
+    (finish : ℕ) →
+    Arrived τ finish j →
+    (OpenPlain (canonicalAt τ finish) j → ⊥) →
+    (k : Job) →
+    Arrived τ (k .arrival) k →
+    finish < k .arrival →
+    after .clock ≤ k .arrival
 
 -- 01: "A run order names the most urgent open job"
 pub record MostUrgent (τ : Timing) (b : DispatcherBook) (j : Job) : Type 0 where
@@ -83,7 +119,15 @@ abbrev pub Demand3 : Type 0
 Demand3 =
     (levels block buffer : List ℕ) (passes : List Pass) →
     Started levels block buffer →
-    OnTime (timing (speedsIn levels) (tasksIn block)) (actualBook levels block buffer passes) (plainBook levels block buffer passes)
+    OnTime (speedsIn levels) (timing (speedsIn levels) (tasksIn block)) (actualBook levels block buffer passes) (plainBook levels block buffer passes)
+
+-- 02, No. 4, of every pass of a run: the n-th of any list
+abbrev pub ClosesInTime : Type 0
+ClosesInTime =
+    (levels block buffer : List ℕ) (passes : List Pass) (n : ℕ) →
+    Started levels block buffer →
+    ClosesByArrival (timing (speedsIn levels) (tasksIn block)) (actualBook levels block buffer (take n passes))
+    (actualBook levels block buffer (take (suc n) passes))
 
 -- Demand 2: "The queue shown is the ready queue of the plain schedule at that tick, from any accepted start on."
 -- Said of the call: of what showing answers and leaves, for any lent buffer.
@@ -117,10 +161,6 @@ SameLeft =
     (i : ℕ) →
     i < length (tasksIn block) →
     actualBook levels block buffer passes .left i ≡ restOf (decode (stateAfter levels block buffer passes)) i
-
--- the running job's time left at the order's level, by the book
-abbrev pub timeLeft : List ℕ → DispatcherBook → ℕ
-timeLeft speeds b = timeOf (speedOf speeds (b .level)) (b .left (b .task))
 
 -- an order to run
 abbrev pub isRun : Reply → Bool

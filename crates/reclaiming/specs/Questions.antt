@@ -14,7 +14,7 @@ use Rattle.plan.specs.Questions.{judging, reading, roomQuestion}
 use Rattle.schedule.specs.PlainSchedule.{Timing, Pending}
 use Rattle.reclaiming.specs.declared.Entry.{Entry}
 use Rattle.reclaiming.specs.StateBlock.{State, restIn, taskOf, planIn, timing, decode, laidOut, stateLength}
-use Rattle.reclaiming.specs.Orders.{nextArrival, allowance, openJobs, runningTime}
+use Rattle.reclaiming.specs.Orders.{nextArrival, isLone, allowance, openJobs, runningTime}
 use Rattle.reclaiming.specs.Passes.{clockAfter}
 
 -- 01: "The largest clock is 4,000,000,000 ticks."
@@ -25,12 +25,20 @@ largestClock = 4000000000
 abbrev pub fixedSound : Entry → Bool
 fixedSound e = both (leb (e .unspent) (e .fixed)) (pick (eqb (e .work) 0) (eqb (e .unspent) 0) true)
 
--- 01: "for each task, work left at most the worst case, plain ticks left at most the allotment, and the time needed for the work left
--- at the nominal level at most the plain ticks left"
+-- 01: "for each task, work left at most the worst case, plain ticks left at most the allotment, [..]"
 abbrev pub entrySound : ℕ → Entry → Bool
 entrySound speed e =
     both (both (leb (e .work) (e .worst)) (fixedSound e))
-    (both (leb (e .remaining) (taskTime speed (taskOf e))) (leb (timeOf speed (restIn e)) (e .remaining)))
+    (leb (e .remaining) (taskTime speed (taskOf e)))
+
+-- "[..] and the time needed for the work left at the nominal level at most the plain ticks left"
+abbrev pub entryAhead : ℕ → Entry → Bool
+entryAhead speed e = leb (timeOf speed (restIn e)) (e .remaining)
+
+-- 02, No. 4: soundness "lets a lone job's time at nominal exceed its plain ticks left if its time at the order's level is at most the ticks
+-- to the next arrival"
+abbrev pub fitsGap : List ℕ → Timing → State → Bool
+fitsGap speeds τ s = both (isLone τ s (s .task)) (leb (runningTime speeds s) (nextArrival τ (s .clock)))
 
 -- 01: "an idle order exactly if no job is open, else the most urgent open job at a level no higher than nominal that meets its allowance"
 abbrev pub orderSound : List ℕ → Timing → ℕ → State → List Pending → Bool
@@ -42,9 +50,12 @@ orderSound speeds τ highest s (e ∷ q) =
 -- 01: "Sound means [..] a plan that passes 3, 6, 7, 8;" the entries and the order as above, whatever the clock
 abbrev pub stateSound : List ℕ → State → Bool
 stateSound speeds s =
+    let τ : Timing = timing speeds (planIn s) in
+    let speed : ℕ = speedOf speeds (nominal speeds (planIn s)) in
     both (eqb (firstNo (judging speeds (length (s .entries)) (planIn s))) 0)
-    (both (every (entrySound (speedOf speeds (nominal speeds (planIn s)))) (s .entries))
-    (orderSound speeds (timing speeds (planIn s)) (nominal speeds (planIn s)) s (openJobs (timing speeds (planIn s)) s)))
+    (both (every (entrySound speed) (s .entries))
+    (both (orderSound speeds τ (nominal speeds (planIn s)) s (openJobs τ s))
+    (pick (every (entryAhead speed) (s .entries)) true (fitsGap speeds τ s))))
 
 -- 01: "a clock in range"
 abbrev pub inTime : ℕ → Bool

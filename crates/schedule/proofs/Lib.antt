@@ -3,6 +3,7 @@ pub mod Members
 pub mod Queue
 pub mod Arrivals
 pub mod Invariant
+pub mod Closing
 pub mod Periods
 pub mod Demand
 pub mod Feasible

@@ -9,21 +9,25 @@ use borrow.Author.Tests.{le-leb, lt-leb, eq-eqb, ne-eqb}
 use lib.Dec.{leb, eqb}
 use lib.ListN.{length, getD, take, drop}
 use lib.Seq.{take-all}
-use Rattle.arith.specs.Choice.{both, every}
+use Rattle.arith.specs.Choice.{pick, both, every}
 use Rattle.plan.specs.declared.Rest.{Rest}
 use Rattle.plan.specs.Times.{timeOf, whole}
 use Rattle.plan.specs.Levels.{speedOf}
+use Rattle.arith.proofs.Tests.{both-left, both-yes}
+use Rattle.arith.proofs.ListLaws.{every-both}
 use Rattle.arith.proofs.Loops.{every-again, every-not, every-end}
 use Rattle.reclaiming.specs.declared.Entry.{Entry}
 use Rattle.reclaiming.specs.StateBlock.{noEntry, restIn, taskOf, decode, stateCount}
 use Rattle.reclaiming.specs.Orders.{allowance, runningTime}
-use Rattle.reclaiming.specs.Questions.{entrySound, orderSound}
+use Rattle.reclaiming.specs.Questions.{entrySound, entryAhead, orderSound}
 use Rattle.state.specs.Code.{Holds, entryIn, timingIn}
 use Rattle.urgency.specs.Code.{noKey}
-use Rattle.sound_parts.specs.Code.{restSound, orderIn}
+use Rattle.sound_parts.specs.declared.Entries.{Entries}
+use Rattle.sound_parts.specs.Code.{restSound, entryPasses, entriesTested, orderIn}
 use Rattle.levels.specs.Code.{loaded, Table}
 use Rattle.levels.proofs.Tables.{speed-is}
-use Rattle.urgency.proofs.HeadLaws.{Looked, none-open, Told, first-open, Read, read-rest, read-allowed}
+use Rattle.urgency.proofs.HeadLaws.{Looked, none-open, Told, first-open}
+use Rattle.lone.proofs.LoneLaws.{Read, read-rest, read-allowed}
 use Rattle.state.proofs.BlockLaws.{count-in, entry-at}
 
 -- what is left of a job, beside a whole one: each test as the code makes it
@@ -45,88 +49,117 @@ module _ (rest full : Rest) where
           simp (le-leb (rest .work) (full .work) work, le-leb (rest .fixed) (full .fixed) fixed, ne-eqb (rest .work) 0 n)
 
 -- what is left of an entry's job, and a whole job of its task, as they are read, at a speed
-pub record Compared (b : List ℕ) (i speed : ℕ) (rest full : Rest) : Type 0 where
+pub record Compared (b : List ℕ) (i speed : ℕ) (ahead : Bool) (rest full : Rest) : Type 0 where
   pub rest-in : rest ≡ restIn (entryIn b i)
   pub whole-in : full ≡ whole (taskOf (entryIn b i))
 
-module _ {b : List ℕ} {i speed : ℕ} {rest full : Rest} (k : Compared b i speed rest full) where
+module _ {b : List ℕ} {i speed : ℕ} {ahead : Bool} {rest full : Rest} (k : Compared b i speed ahead rest full) where
   abbrev entry : Entry
   entry = entryIn b i
 
-  -- the three tests as the code makes them
+  -- the tests as the code makes them
   entry-tests :
       (remaining : ℕ) →
       remaining ≡ entry .remaining →
-      entrySound speed entry
-      ≡ both (restSound rest full) (both (leb remaining (timeOf speed full)) (leb (timeOf speed rest) remaining))
+      entryPasses ahead speed entry
+      ≡ both (both (restSound rest full) (leb remaining (timeOf speed full))) (pick ahead (leb (timeOf speed rest) remaining) true)
   entry-tests remaining d =
       sym
-      (ap₂ both (ap₂ restSound (k .rest-in) (k .whole-in))
       (ap₂ both
-      (ap₂ (λ (n : ℕ) (y : Rest). leb n (timeOf speed y)) d (k .whole-in))
-      (ap₂ (λ (x : Rest) (n : ℕ). leb (timeOf speed x) n) (k .rest-in) d)))
+      (ap₂ both (ap₂ restSound (k .rest-in) (k .whole-in)) (ap₂ (λ (n : ℕ) (y : Rest). leb n (timeOf speed y)) d (k .whole-in)))
+      (ap₂ (λ (x : Rest) (n : ℕ). pick ahead (leb (timeOf speed x) n) true) (k .rest-in) d))
 
-  pub rest-high : {found : Bool} → found ≡ restSound rest full → found ≡ false → false ≡ entrySound speed entry
+  pub rest-high : {found : Bool} → found ≡ restSound rest full → found ≡ false → false ≡ entryPasses ahead speed entry
   rest-high f e =
       sym
       (entry-tests (entry .remaining) refl
-      ∙ ap (λ (t : Bool). both t (both (leb (entry .remaining) (timeOf speed full)) (leb (timeOf speed rest) (entry .remaining))))
+      ∙ ap (λ (t : Bool). both (both t (leb (entry .remaining) (timeOf speed full))) (pick ahead (leb (timeOf speed rest) (entry .remaining)) true))
       (sym f ∙ e))
 
 -- and its plain ticks left, of which it was found whether they are within the time of a whole job
-pub record Measured (b : List ℕ) (i speed : ℕ) (rest full : Rest) (remaining : ℕ) (found : Bool) : Type 0 where
-  pub compared : Compared b i speed rest full
+pub record Measured (b : List ℕ) (i speed : ℕ) (ahead : Bool) (rest full : Rest) (remaining : ℕ) (found : Bool) : Type 0 where
+  pub compared : Compared b i speed ahead rest full
   pub low : restSound rest full ≡ true
   pub remaining-in : remaining ≡ entryIn b i .remaining
   pub found-is : found ≡ leb remaining (timeOf speed full)
 
-module _ {b : List ℕ} {i speed : ℕ} {rest full : Rest} {remaining : ℕ} {found : Bool} (k : Measured b i speed rest full remaining found) where
-  last-test : (t : Bool) → found ≡ t → both t (leb (timeOf speed rest) remaining) ≡ entrySound speed (entryIn b i)
-  last-test t e =
+module _ {b : List ℕ} {i speed : ℕ} {ahead : Bool} {rest full : Rest} {remaining : ℕ} {found : Bool}
+    (k : Measured b i speed ahead rest full remaining found) where
+  last-tests : (t : Bool) → found ≡ t → both t (pick ahead (leb (timeOf speed rest) remaining) true) ≡ entryPasses ahead speed (entryIn b i)
+  last-tests t e =
       sym
       (entry-tests (k .compared) remaining (k .remaining-in)
-      ∙ ap₂ (λ (u v : Bool). both u (both v (leb (timeOf speed rest) remaining))) (k .low)
+      ∙ ap₂ (λ (u v : Bool). both (both u v) (pick ahead (leb (timeOf speed rest) remaining) true)) (k .low)
       (sym (k .found-is) ∙ e))
 
-  pub remaining-high : found ≡ false → false ≡ entrySound speed (entryIn b i)
-  remaining-high e = last-test false e
+  pub remaining-high : found ≡ false → false ≡ entryPasses ahead speed (entryIn b i)
+  remaining-high e = last-tests false e
 
-  pub remaining-last : found ≡ true → {last : Bool} → last ≡ leb (timeOf speed rest) remaining → last ≡ entrySound speed (entryIn b i)
-  remaining-last e f = f ∙ last-test true e
+  pub not-asked : found ≡ true → ahead ≡ false → true ≡ entryPasses ahead speed (entryIn b i)
+  not-asked e a = sym (ap (λ (t : Bool). pick t (leb (timeOf speed rest) remaining) true) a) ∙ last-tests true e
+
+  pub remaining-last :
+      found ≡ true → ahead ≡ true → {last : Bool} → last ≡ leb (timeOf speed rest) remaining → last ≡ entryPasses ahead speed (entryIn b i)
+  remaining-last e a f = f ∙ sym (ap (λ (t : Bool). pick t (leb (timeOf speed rest) remaining) true) a) ∙ last-tests true e
 
 -- every entry of a block, tested from the front: those from i on decide
-pub record Testing (b : List ℕ) (count speed i : ℕ) : Type 0 where
+pub record Testing (b : List ℕ) (count : ℕ) (test : Entry → Bool) (i : ℕ) : Type 0 where
   pub holds : Holds b
   pub same : count ≡ stateCount b
   pub below : i ≤ count
-  pub decide : every (entrySound speed) (drop i (take count (decode b .entries))) ≡ every (entrySound speed) (take count (decode b .entries))
+  pub decide : every test (drop i (take count (decode b .entries))) ≡ every test (take count (decode b .entries))
 
-module _ {b : List ℕ} {count speed i : ℕ} (now : Testing b count speed i) where
+module _ {b : List ℕ} {count : ℕ} {test : Entry → Bool} {i : ℕ} (now : Testing b count test i) where
   size : count ≡ length (decode b .entries)
   size = now .same ∙ sym (count-in b)
 
-  all-entries : every (entrySound speed) (take count (decode b .entries)) ≡ every (entrySound speed) (decode b .entries)
-  all-entries = ap (every (entrySound speed)) (take-all count (decode b .entries) (omega (arith, size)))
+  all-entries : every test (take count (decode b .entries)) ≡ every test (decode b .entries)
+  all-entries = ap (every test) (take-all count (decode b .entries) (omega (arith, size)))
 
-  pub entries-end : count ≤ i → true ≡ every (entrySound speed) (decode b .entries)
+  pub entries-end : count ≤ i → true ≡ every test (decode b .entries)
   entries-end h =
-      every-end (entrySound speed) (decode b .entries) count noEntry (omega (arith, size)) i (omega (arith, now .below)) (now .decide) ∙ all-entries
+      every-end test (decode b .entries) count noEntry (omega (arith, size)) i (omega (arith, now .below)) (now .decide) ∙ all-entries
 
-  module _ (h : i < count) {found : Bool} (e : found ≡ entrySound speed (entryIn b i)) where
-    tested-is : entrySound speed (getD (decode b .entries) i noEntry) ≡ found
-    tested-is = ap (entrySound speed) (entry-at b i (omega (arith, now .same))) ∙ sym e
+  module _ (h : i < count) {found : Bool} (e : found ≡ test (entryIn b i)) where
+    tested-is : test (getD (decode b .entries) i noEntry) ≡ found
+    tested-is = ap test (entry-at b i (omega (arith, now .same))) ∙ sym e
 
-    pub entries-stop : found ≡ false → false ≡ every (entrySound speed) (decode b .entries)
+    pub entries-stop : found ≡ false → false ≡ every test (decode b .entries)
     entries-stop f =
-        every-not (entrySound speed) (decode b .entries) count noEntry (omega (arith, size)) i h (now .decide) (tested-is ∙ f) ∙ all-entries
+        every-not test (decode b .entries) count noEntry (omega (arith, size)) i h (now .decide) (tested-is ∙ f) ∙ all-entries
 
-    pub entries-again : found ≡ true → Testing b count speed (i + 1)
+    pub entries-again : found ≡ true → Testing b count test (i + 1)
     entries-again t = record {
       holds = now .holds;
       same = now .same;
       below = omega arith;
-      decide = every-again (entrySound speed) (decode b .entries) count noEntry (omega (arith, size)) i h (now .decide) (tested-is ∙ t);
+      decide = every-again test (decode b .entries) count noEntry (omega (arith, size)) i h (now .decide) (tested-is ∙ t);
     }
+
+-- what is found of all entries, by whether every one is sound and ahead
+module _ (speed : ℕ) (es : List Entry) {both-pass : Bool} (e : both-pass ≡ every (entryPasses true speed) es) where
+  abbrev sounds : Bool
+  sounds = every (entrySound speed) es
+
+  abbrev aheads : Bool
+  aheads = every (entryAhead speed) es
+
+  passes-both : both sounds aheads ≡ both-pass
+  passes-both = sym (e ∙ every-both (entrySound speed) (entryAhead speed) es)
+
+  pub entries-ahead : both-pass ≡ true → _≡_ {A = Entries} (record { sound = true; ahead = true }) (entriesTested speed es)
+  entries-ahead t =
+      let all : both sounds aheads ≡ true = passes-both ∙ t in
+      λ k. record { sound = sym (both-left sounds aheads all) k; ahead = sym all k }
+
+  pub entries-behind :
+      both-pass ≡ false →
+      {sound : Bool} →
+      sound ≡ every (entryPasses false speed) es →
+      _≡_ {A = Entries} (record { sound = sound; ahead = false }) (entriesTested speed es)
+  entries-behind f {sound} s =
+      let alone : sound ≡ sounds = s ∙ (λ k. every (λ (x : Entry). both-yes (entrySound speed x) k) es) in
+      λ k. record { sound = alone k; ahead = sym (passes-both ∙ f) k }
 
 -- no job is open
 module _ {speeds b l : List ℕ} {count best : ℕ} (k : Looked speeds b l count best) (highest : ℕ) (none : best ≡ noKey) where
@@ -165,15 +198,15 @@ module _ {speeds b l : List ℕ} {count best : ℕ} (k : Told speeds b l count b
   level-high h = sym (level-decides ∙ ap (λ (t : Bool). both t (meetsIn speeds b)) (lt-leb (decode b .level) highest h))
 
 -- at a level no higher than nominal, whose speed tells whether the allowance is enough
-pub record Weighed (held : List ℕ) (levels : ℕ) (b l : List ℕ) (count best highest : ℕ) (rest : Rest) (allowed : ℕ) (found : Bool) : Type 0 where
+pub record Weighed (held : List ℕ) (levels : ℕ) (b l : List ℕ) (count best highest : ℕ) (rest : Rest) (next allowed : ℕ) (found : Bool) : Type 0 where
   pub table : Table held levels
-  pub read : Read (loaded held levels) b l count best (decode b .task) rest allowed
+  pub read : Read (loaded held levels) b l count best (decode b .task) rest next allowed
   pub top : highest < levels
   pub low : decode b .level ≤ highest
   pub found-is : found ≡ leb (timeOf (getD held (decode b .level) 0) rest) allowed
 
-module _ {held : List ℕ} {levels : ℕ} {b l : List ℕ} {count best highest : ℕ} {rest : Rest} {allowed : ℕ} {found : Bool}
-    (k : Weighed held levels b l count best highest rest allowed found) where
+module _ {held : List ℕ} {levels : ℕ} {b l : List ℕ} {count best highest : ℕ} {rest : Rest} {next allowed : ℕ} {found : Bool}
+    (k : Weighed held levels b l count best highest rest next allowed found) where
   abbrev table-speeds : List ℕ
   table-speeds = loaded held levels
 

@@ -29,6 +29,18 @@ use Rattle.reclaiming.proofs.OrderFacts.{Ordered, idles, runs}
 use Rattle.reclaiming.proofs.Worked.{ordered}
 use Rattle.state.proofs.BlockLaws.{count-in}
 
+-- an order that stands is to stay idle, or runs one of the tasks at one of the levels
+pub ordered-runnable :
+    (speeds : List ℕ) (s : State) →
+    nominal speeds (planIn s) < length speeds →
+    Ordered speeds (timing speeds (planIn s)) (nominal speeds (planIn s)) s →
+    Runnable (length speeds) s
+ordered-runnable speeds s small (idles t x z) = record { task = λ ne. absurd (ne t); level = λ ne. absurd (ne t) }
+ordered-runnable speeds s small (runs r) = record {
+  task = λ ne. omega (arith, r .below, length-planIn s);
+  level = λ ne. omega (arith, r .level);
+}
+
 -- what a sound state has
 module _ (speeds : List ℕ) (rising : Rising speeds) (s : State) (ok : stateSound speeds s ≡ true) where
   pub sound-plan : FineList speeds (length (planIn s)) (planIn s)
@@ -46,16 +58,8 @@ module _ (speeds : List ℕ) (rising : Rising speeds) (s : State) (ok : stateSou
   pub nominal-small : nominal speeds (planIn s) < length speeds
   nominal-small = sound-plan .tasks .admitted
 
-  -- its order is to stay idle, or runs one of the tasks at one of the levels
   pub runnable : Runnable (length speeds) s
-  runnable = go (ordered speeds (planIn s) s sound-facts)
-    where
-      go : Ordered speeds (timing speeds (planIn s)) (nominal speeds (planIn s)) s → Runnable (length speeds) s
-      go (idles t x z) = record { task = λ ne. absurd (ne t); level = λ ne. absurd (ne t) }
-      go (runs r) = record {
-        task = λ ne. omega (arith, r .below, length-planIn s);
-        level = λ ne. omega (arith, r .level, nominal-small);
-      }
+  runnable = ordered-runnable speeds s nominal-small (ordered speeds (planIn s) s sound-facts)
 
   -- its numbers are in range
   module _ (i : ℕ) (h : i < length (s .entries)) where

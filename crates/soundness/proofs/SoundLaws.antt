@@ -1,41 +1,53 @@
 -- What each step and each way out of testing a state block says of whether it is sound.
 -- Assumes nothing.
-use Prim.Native.Nat.{ℕ, zero, suc, _+_, _<_, _≤_}
+use Prim.Native.Nat.{ℕ, zero, suc, _+_, _-_, _<_, _≤_}
 use mathlib.Core.Path.{_≡_, refl, sym, subst, ap, ap₂, _∙_}
-use mathlib.Core.Bool.{Bool, true, false}
+use mathlib.Core.Bool.{Bool, true, false, true≢false, not}
 use mathlib.Core.List.{List, []}
 use native.Mathlib.Omega.{arith}
-use borrow.Author.Tests.{eq-eqb, ne-eqb}
+use borrow.Author.Tests.{le-leb, lt-leb, eq-eqb, ne-eqb}
 use lib.Dec.{leb, eqb}
 use lib.ListN.{length, getD, set}
 use lib.Seq.{take-all}
-use Rattle.arith.specs.Choice.{both, every}
+use Rattle.arith.specs.Choice.{pick, both, every}
+use Rattle.arith.specs.Ranges.{leastTo}
 use Rattle.plan.specs.declared.Task.{Task}
 use Rattle.plan.specs.declared.Plan.{Plan}
 use Rattle.plan.specs.declared.Verdict.{Verdict}
 use Rattle.plan.specs.declared.Verdict.the-variants as verdict
 use Rattle.plan.specs.Answers.{answered}
 use Rattle.plan.specs.Blocks.{noTask, tasksOf, planOf}
+use Rattle.plan.specs.Times.{timeOf, noRest}
 use Rattle.plan.specs.Levels.{Rising, speedOf, nominal}
 use Rattle.plan.specs.Questions.{taskQuestions, judging}
 use Rattle.arith.specs.Asking.{firstNo}
 use Rattle.plan.proofs.Facts.{InRange, range-at, fine-tasks}
 use Rattle.plan.proofs.RoundTrip.{tasksOf-planOf}
+use Rattle.plan.proofs.TimeLaws.{time-none}
 use Rattle.arith.proofs.ArrayLaws.{value-at}
 use Rattle.judging.proofs.Judgements.{Filled, filled-more, filled-all, count-low, count-high, count-good}
-use Rattle.arith.proofs.Tests.{both-false}
+use Rattle.arith.proofs.Tests.{both-false, both-yes}
+use Rattle.arith.proofs.ListLaws.{every-at, at-every}
 use Rattle.soundness.specs.declared.Tested.{Tested}
-use Rattle.reclaiming.specs.StateBlock.{State, taskOf, planIn, timing, decode, laidOut, places, stateCount}
-use Rattle.reclaiming.specs.Orders.{openJobs}
-use Rattle.reclaiming.specs.Questions.{largestClock, inTime, entrySound, orderSound, stateSound, soundAt}
+use Rattle.reclaiming.specs.declared.Entry.{Entry}
+use Rattle.reclaiming.specs.StateBlock.{State, noEntry, workOf, remainingOf, restOf, taskOf, planIn, timing, decode, laidOut, places, stateCount}
+use Rattle.reclaiming.specs.Orders.{nextArrival, isLone, openJobs, runningTime}
+use Rattle.reclaiming.specs.Questions.{largestClock, inTime, entrySound, entryAhead, orderSound, fitsGap, stateSound, soundAt}
 use Rattle.state.specs.Code.{Holds, entryIn, timingIn}
-use Rattle.urgency.specs.Code.{Keyed, latestKey, keysIn}
-use Rattle.sound_parts.specs.Code.{orderIn}
+use Rattle.urgency.specs.Code.{Keyed, noKey, deadlineIn, latestKey, keysIn}
+use Rattle.orders.specs.declared.Choice.{Choice}
+use Rattle.orders.specs.Code.{choiceOf, Runnable}
+use Rattle.lone.specs.Code.{otherIn}
+use Rattle.lone.proofs.LoneLaws.{lone-is}
+use Rattle.orders.proofs.OrderLaws.{Timed, choose-next, choose-when}
+use Rattle.sound_parts.specs.declared.Entries.{Entries}
+use Rattle.sound_parts.specs.Code.{entriesTested, orderIn}
 use Rattle.soundness.specs.Code.{Good, timedSound, testedBy}
 use Rattle.levels.specs.Code.{loaded, Table}
 use Rattle.levels.proofs.Tables.{levels-are, speed-is, speed-positive, speed-most}
-use Rattle.soundness.proofs.SoundFacts.{sound-holds, sound-plan-yes}
-use Rattle.reclaiming.proofs.Soundness.{sound-clock}
+use Rattle.soundness.proofs.SoundFacts.{ordered-runnable, sound-holds, sound-plan-yes}
+use Rattle.reclaiming.proofs.OrderFacts.{Ordered, idles, runs, order-facts}
+use Rattle.reclaiming.proofs.Soundness.{FineEntry, fine-entry, length-planIn, sound-clock}
 use Rattle.urgency.proofs.HeadLaws.{task-is, period-is}
 use Rattle.urgency.proofs.OpenJobs.{timing-count}
 use Rattle.state.proofs.BlockLaws.{count-in}
@@ -71,12 +83,12 @@ module _ {b : List ℕ} {count : ℕ} {p : Plan} {i : ℕ} (now : Copying b coun
 pub plan-few : {b : List ℕ} → Holds b → {p : Plan} → p ≡ planOf (planIn (decode b)) → p .count ≤ places
 plan-few {b} holds e = subst (λ (q : Plan). q .count ≤ places) (sym e) (omega (arith, holds .few, timing-count b))
 
--- a state, by each of the three things that are asked of it
+-- a state, by each of the four things that are asked of it
 both-not : (a b : Bool) → b ≡ false → both a b ≡ false
 both-not a b h = ap (both a) h ∙ both-false a
 
 module _ (speeds : List ℕ) (s : State) where
-  -- the three tests
+  -- the four tests
   abbrev planWell : Bool
   planWell = eqb (firstNo (judging speeds (length (s .entries)) (planIn s))) 0
 
@@ -86,22 +98,30 @@ module _ (speeds : List ℕ) (s : State) where
   abbrev orderWell : Bool
   orderWell = orderSound speeds (timing speeds (planIn s)) (nominal speeds (planIn s)) s (openJobs (timing speeds (planIn s)) s)
 
+  abbrev paceWell : Bool
+  paceWell =
+      pick (every (entryAhead (speedOf speeds (nominal speeds (planIn s)))) (s .entries)) true (fitsGap speeds (timing speeds (planIn s)) s)
+
   plan-not : 0 < firstNo (judging speeds (length (s .entries)) (planIn s)) → stateSound speeds s ≡ false
   plan-not h =
-      ap (λ (b : Bool). both b (both entriesWell orderWell))
+      ap (λ (b : Bool). both b (both entriesWell (both orderWell paceWell)))
       (ne-eqb (firstNo (judging speeds (length (s .entries)) (planIn s))) 0 (λ e. omega arith))
 
-  entries-not : every (entrySound (speedOf speeds (nominal speeds (planIn s)))) (s .entries) ≡ false → stateSound speeds s ≡ false
-  entries-not h = both-not planWell (both entriesWell orderWell) (ap (λ (b : Bool). both b orderWell) h)
+  entries-not : entriesWell ≡ false → stateSound speeds s ≡ false
+  entries-not h = both-not planWell (both entriesWell (both orderWell paceWell)) (ap (λ (b : Bool). both b (both orderWell paceWell)) h)
 
-  order-decides :
-      firstNo (judging speeds (length (s .entries)) (planIn s)) ≡ 0 →
-      every (entrySound (speedOf speeds (nominal speeds (planIn s)))) (s .entries) ≡ true →
-      stateSound speeds s
-      ≡ orderSound speeds (timing speeds (planIn s)) (nominal speeds (planIn s)) s (openJobs (timing speeds (planIn s)) s)
-  order-decides p e =
-      ap (λ (b : Bool). both b (both entriesWell orderWell)) (eq-eqb (firstNo (judging speeds (length (s .entries)) (planIn s))) 0 p)
-      ∙ ap (λ (b : Bool). both b orderWell) e
+  -- where the plan and the entries are well, the order and how it keeps up decide
+  module _ (p : firstNo (judging speeds (length (s .entries)) (planIn s)) ≡ 0) (e : entriesWell ≡ true) where
+    rest-decides : stateSound speeds s ≡ both orderWell paceWell
+    rest-decides =
+        ap (λ (b : Bool). both b (both entriesWell (both orderWell paceWell))) (eq-eqb (firstNo (judging speeds (length (s .entries)) (planIn s))) 0 p)
+        ∙ ap (λ (b : Bool). both b (both orderWell paceWell)) e
+
+    order-not : orderWell ≡ false → stateSound speeds s ≡ false
+    order-not o = rest-decides ∙ ap (λ (b : Bool). both b paceWell) o
+
+    pace-decides : orderWell ≡ true → stateSound speeds s ≡ paceWell
+    pace-decides o = rest-decides ∙ ap (λ (b : Bool). both b paceWell) o
 
 -- a block that is not sound, as it is answered
 tested-not : (speeds b : List ℕ) {r : Tested} {found : Bool} → r ≡ testedBy [] false [] → found ≡ false → r ≡ testedBy speeds found b
@@ -171,55 +191,163 @@ module _ {held : List ℕ} {levels : ℕ} {b : List ℕ} {count clock level spee
         subst (Keyed (timingIn (loaded held levels) b) (decode b .clock)) (sym keys-are)
         (keyed-in (loaded held levels) b (k .yes-all) (k .holds .few) (subst (λ (n : ℕ). n ≤ largestClock) (k .clock-is) (k .in-range)))
 
-  -- it is tested by its entries, then by its order
-  entries-are :
-      every (entrySound speed) (decode b .entries)
-      ≡ every (entrySound (speedOf (loaded held levels) (nominal (loaded held levels) (planIn (decode b))))) (decode b .entries)
-  entries-are = ap (λ (v : ℕ). every (entrySound v) (decode b .entries)) (k .speed-read ∙ speed-is (k .table) level level-low ∙ ap (speedOf (loaded held levels)) (k .level-is))
+    -- and the ticks to the next arrival, which they tell
+    timed : Timed (loaded held levels) b keys count clock
+    timed = record {
+      holds = k .holds;
+      some = subst (λ (n : ℕ). 1 ≤ n) (k .same) (k .some);
+      keyed = admitted-keyed;
+      same = k .same;
+      clock-is = k .clock-is;
+    }
+
+    pub admitted-next : ((count ≤ places) × (1 ≤ count)) × ((i : ℕ) → i < count → (clock ≤ deadlineIn (getD keys i 0)) × (getD keys i 0 < noKey))
+    admitted-next = choose-next timed
+
+    pub admitted-arrival :
+        (next : ℕ) → next ≡ deadlineIn (leastTo count (λ i. getD keys i 0)) - clock → next ≡ nextArrival (timingIn (loaded held levels) b) (decode b .clock)
+    admitted-arrival = choose-when timed
+
+  -- it is tested by its entries, by its order, and by how it keeps up
+  speed-nominal : speed ≡ speedOf (loaded held levels) (nominal (loaded held levels) (planIn (decode b)))
+  speed-nominal = k .speed-read ∙ speed-is (k .table) level level-low ∙ ap (speedOf (loaded held levels)) (k .level-is)
 
   pub admitted-entries :
-      {found : Bool} →
-      found ≡ every (entrySound speed) (decode b .entries) →
-      found ≡ false →
+      {found : Entries} →
+      found ≡ entriesTested speed (decode b .entries) →
+      found .sound ≡ false →
       {r : Tested} →
       r ≡ testedBy [] false [] →
       r ≡ testedBy (loaded held levels) (stateSound (loaded held levels) (decode b)) b
-  admitted-entries e f g = tested-not (loaded held levels) b g (entries-not (loaded held levels) (decode b) (sym (e ∙ entries-are) ∙ f))
+  admitted-entries e f g =
+      tested-not (loaded held levels) b g
+      (entries-not (loaded held levels) (decode b)
+      (sym (ap (λ (x : Entries). x .sound) e ∙ ap (λ (v : ℕ). every (entrySound v) (decode b .entries)) speed-nominal) ∙ f))
 
--- its entries are sound
-pub record Entered (held : List ℕ) (levels : ℕ) (b : List ℕ) (count clock level speed : ℕ) : Type 0 where
+-- its entries are sound, and it is known whether they are ahead
+pub record Entered (held : List ℕ) (levels : ℕ) (b : List ℕ) (count clock level speed : ℕ) (found : Entries) : Type 0 where
   pub admitted : Admitted held levels b count clock level speed
-  pub entries : every (entrySound speed) (decode b .entries) ≡ true
+  pub tests : found ≡ entriesTested speed (decode b .entries)
+  pub well : found .sound ≡ true
 
-module _ {held : List ℕ} {levels : ℕ} {b : List ℕ} {count clock level speed : ℕ} (k : Entered held levels b count clock level speed) where
-  order-is : orderIn (loaded held levels) b level ≡ stateSound (loaded held levels) (decode b)
-  order-is =
-      ap (orderIn (loaded held levels) b) (k .admitted .level-is)
-      ∙ sym
-      (order-decides (loaded held levels) (decode b)
-      (judging-yes (loaded held levels) b (k .admitted .yes-all) (k .admitted .holds .few) (subst (λ (n : ℕ). 1 ≤ n) (k .admitted .same) (k .admitted .some)))
-      (sym (entries-are (k .admitted)) ∙ k .entries))
+module _ {held : List ℕ} {levels : ℕ} {b : List ℕ} {count clock level speed : ℕ} {found : Entries} (k : Entered held levels b count clock level speed found) where
+  abbrev table-speeds : List ℕ
+  table-speeds = loaded held levels
+
+  abbrev S : State
+  S = decode b
+
+  entries-well : every (entrySound speed) (S .entries) ≡ true
+  entries-well = sym (ap (λ (x : Entries). x .sound) (k .tests)) ∙ k .well
+
+  ahead-is : found .ahead ≡ every (entryAhead speed) (S .entries)
+  ahead-is =
+      ap (λ (x : Entries). x .ahead) (k .tests) ∙ ap (λ (t : Bool). both t (every (entryAhead speed) (S .entries))) entries-well
+
+  plan-well : firstNo (judging table-speeds (length (S .entries)) (planIn S)) ≡ 0
+  plan-well =
+      judging-yes table-speeds b (k .admitted .yes-all) (k .admitted .holds .few) (subst (λ (n : ℕ). 1 ≤ n) (k .admitted .same) (k .admitted .some))
+
+  nominal-well : entriesWell table-speeds S ≡ true
+  nominal-well = ap (λ (v : ℕ). every (entrySound v) (S .entries)) (sym (speed-nominal (k .admitted))) ∙ entries-well
+
+  order-is : orderIn table-speeds b level ≡ orderWell table-speeds S
+  order-is = ap (orderIn table-speeds b) (k .admitted .level-is)
 
   pub admitted-order :
-      {found : Bool} →
-      found ≡ orderIn (loaded held levels) b level →
-      found ≡ false →
+      {o : Bool} →
+      o ≡ orderIn table-speeds b level →
+      o ≡ false →
       {r : Tested} →
       r ≡ testedBy [] false [] →
-      r ≡ testedBy (loaded held levels) (stateSound (loaded held levels) (decode b)) b
-  admitted-order e f g = tested-not (loaded held levels) b g (sym (e ∙ order-is) ∙ f)
+      r ≡ testedBy table-speeds (stateSound table-speeds S) b
+  admitted-order e f g = tested-not table-speeds b g (order-not table-speeds S plan-well nominal-well (sym (e ∙ order-is) ∙ f))
 
-  pub admitted-sound :
-      {found : Bool} →
-      found ≡ orderIn (loaded held levels) b level →
-      found ≡ true →
-      {keys : List ℕ} →
-      keys ≡ keysIn b count clock →
-      _≡_ {A = Tested} (record { sound = true; nominal = level; keys = keys }) (testedBy (loaded held levels) (stateSound (loaded held levels) (decode b)) b)
-  admitted-sound o y {keys} e =
-      let r : _≡_ {A = Tested} (record { sound = true; nominal = level; keys = keys }) (testedBy (loaded held levels) true b) =
-      λ i. record { sound = true; nominal = k .admitted .level-is i; keys = keys-are (k .admitted) e i } in
-      r ∙ ap (λ (t : Bool). testedBy (loaded held levels) t b) (sym y ∙ o ∙ order-is)
+  -- and its order is sound
+  module _ {o : Bool} (e : o ≡ orderIn table-speeds b level) (y : o ≡ true) where
+    stands : Ordered table-speeds (timingIn table-speeds b) (nominal table-speeds (planIn S)) S
+    stands = order-facts table-speeds (timingIn table-speeds b) (nominal table-speeds (planIn S)) S (sym (e ∙ order-is) ∙ y)
+
+    pub admitted-runnable : Runnable levels S
+    admitted-runnable =
+        subst (λ (n : ℕ). Runnable n S) (levels-are (k .admitted .table))
+        (ordered-runnable table-speeds S (nominal-below table-speeds b (k .admitted .yes-all) (nominal table-speeds (planIn S)) refl) stands)
+
+    -- while idle every job is ahead, since none is open
+    pub behind-runs : found .ahead ≡ false → S .task ≡ 255 → ⊥
+    behind-runs f t = go stands
+      where
+        positive : 0 < speed
+        positive = admitted-speed (k .admitted) .0
+
+        closed : (i : ℕ) → i < length (S .entries) → workOf S i ≡ 0 → entryAhead speed (getD (S .entries) i noEntry) ≡ true
+        closed i h z =
+            let entry : Entry = getD (S .entries) i noEntry in
+            let whole-entry : FineEntry speed entry = fine-entry speed entry (every-at (entrySound speed) (S .entries) i noEntry entries-well h) in
+            let none : restOf S i ≡ noRest = λ x. record { fixed = whole-entry .closed z x; work = z x } in
+            le-leb (timeOf speed (restOf S i)) (remainingOf S i) (omega (arith, ap (timeOf speed) none, time-none speed positive))
+
+        go : Ordered table-speeds (timingIn table-speeds b) (nominal table-speeds (planIn S)) S → ⊥
+        go (idles x l z) =
+            true≢false
+            (sym (at-every (entryAhead speed) (S .entries) noEntry (λ i h. closed i h (z i (omega (arith, length-planIn S))))) ∙ sym ahead-is ∙ f)
+        go (runs r) = omega (arith, r .below, timing-count b, k .admitted .holds .few)
+
+    module _ {p : Bool} (q : p ≡ pick (found .ahead) true (fitsGap table-speeds (timingIn table-speeds b) S)) where
+      pace-is : p ≡ stateSound table-speeds S
+      pace-is =
+          q
+          ∙ ap (λ (t : Bool). pick t true (fitsGap table-speeds (timingIn table-speeds b) S))
+          (ahead-is ∙ ap (λ (v : ℕ). every (entryAhead v) (S .entries)) (speed-nominal (k .admitted)))
+          ∙ sym (pace-decides table-speeds S plan-well nominal-well (sym (e ∙ order-is) ∙ y))
+
+      pub admitted-pace : p ≡ false → {r : Tested} → r ≡ testedBy [] false [] → r ≡ testedBy table-speeds (stateSound table-speeds S) b
+      admitted-pace f g = tested-not table-speeds b g (sym pace-is ∙ f)
+
+      pub admitted-sound :
+          p ≡ true →
+          {keys : List ℕ} {next : ℕ} →
+          keys ≡ keysIn b count clock →
+          next ≡ nextArrival (timingIn table-speeds b) (S .clock) →
+          _≡_ {A = Tested} (record { sound = true; next = next; nominal = level; keys = keys }) (testedBy table-speeds (stateSound table-speeds S) b)
+      admitted-sound t {keys} {next} m n =
+          let r : _≡_ {A = Tested} (record { sound = true; next = next; nominal = level; keys = keys }) (testedBy table-speeds true b) =
+          λ i. record { sound = true; next = n i; nominal = k .admitted .level-is i; keys = keys-are (k .admitted) m i } in
+          r ∙ ap (λ (x : Bool). testedBy table-speeds x b) (sym t ∙ pace-is)
+
+-- a job that runs, by the order that stands, and the next arrival
+pub record Running (speeds b : List ℕ) (count next : ℕ) (c : Choice) : Type 0 where
+  pub same : count ≡ stateCount b
+  pub arrival : next ≡ nextArrival (timingIn speeds b) (decode b .clock)
+  pub choice : c ≡ choiceOf speeds (decode b)
+  pub some : decode b .task ≡ 255 → ⊥
+
+module _ {speeds b : List ℕ} {count next : ℕ} {c : Choice} (k : Running speeds b count next c) {ahead : Bool} (behind : ahead ≡ false) where
+  abbrev lone : Bool
+  lone = isLone (timingIn speeds b) (decode b) (decode b .task)
+
+  abbrev gap : Bool
+  gap = fitsGap speeds (timingIn speeds b) (decode b)
+
+  -- only a gap can help a state that is behind
+  gap-decides : {found : Bool} → found ≡ both lone (leb (c .time) next) → found ≡ pick ahead true gap
+  gap-decides e =
+      e
+      ∙ ap₂ (λ (x n : ℕ). both lone (leb x n))
+      (ap (λ (x : Choice). x .time) (k .choice) ∙ ap (λ (t : Bool). pick t 0 (runningTime speeds (decode b))) (ne-eqb (decode b .task) 255 (k .some)))
+      (k .arrival)
+      ∙ sym (ap (λ (t : Bool). pick t true gap) behind)
+
+  pub gap-short : next < c .time → false ≡ pick ahead true gap
+  gap-short h = gap-decides (sym (ap (both lone) (lt-leb (c .time) next h) ∙ both-false lone))
+
+  pub gap-alone : c .time ≤ next → {i : ℕ} → i ≡ c .task → {found : Bool} → found ≡ not (otherIn b count i) → found ≡ pick ahead true gap
+  gap-alone h {i} t e =
+      gap-decides
+      (e
+      ∙ lone-is speeds b count i (k .same)
+      ∙ ap (isLone (timingIn speeds b) (decode b)) (t ∙ ap (λ (x : Choice). x .task) (k .choice))
+      ∙ sym (ap (both lone) (le-leb (c .time) next h) ∙ both-yes lone))
 
 -- the number that a verdict is of
 refused-number : (n k : ℕ) (v : Verdict) (speeds : List ℕ) (ts : List Task) → v ≡ answered n speeds ts → v ≡ verdict.Refused k → 0 < n
@@ -324,3 +452,6 @@ module _ (speeds bytes : List ℕ) (r : Tested) (e : r ≡ testedBy speeds (soun
         keyed = keyed-in speeds bytes (sound-plan-yes speeds rising bytes ok) (sound-holds speeds rising bytes ok .few) (sound-clock speeds bytes ok);
         nominal = refl;
       }
+
+  pub tested-next : r .sound ≡ true → r .next ≡ nextArrival (timingIn speeds bytes) (decode bytes .clock)
+  tested-next t = ap (λ (x : Tested). x .next) (e ∙ ap (λ (x : Bool). testedBy speeds x bytes) (sym tested-sound ∙ t))

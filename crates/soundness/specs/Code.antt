@@ -8,6 +8,7 @@ use lib.ListN.{replicate}
 use Rattle.arith.specs.Choice.{both}
 use Rattle.plan.specs.Levels.{nominal}
 use Rattle.reclaiming.specs.StateBlock.{State, stateCount, decode, planIn, places}
+use Rattle.reclaiming.specs.Orders.{nextArrival}
 use Rattle.reclaiming.specs.Questions.{inTime, stateSound, soundAt}
 use Rattle.state.specs.Code.{Holds, timingIn}
 use Rattle.urgency.specs.Code.{Keyed, keysIn}
@@ -24,11 +25,12 @@ pub record Good (speeds bytes keys : List ℕ) (highest : ℕ) : Type 0 where
 abbrev pub timedSound : List ℕ → State → Bool
 timedSound speeds s = both (inTime (s .clock)) (stateSound speeds s)
 
--- what testing a block finds: that it is sound, its nominal level and its keys; or that it is not, and zeros
+-- what testing a block finds: that it is sound, the ticks to the next arrival, its nominal level and its keys; or that it is not, and zeros
 abbrev pub testedBy : List ℕ → Bool → List ℕ → Tested
-testedBy speeds false bytes = record { sound = false; nominal = 0; keys = replicate places 0 }
+testedBy speeds false bytes = record { sound = false; next = 0; nominal = 0; keys = replicate places 0 }
 testedBy speeds true bytes = record {
   sound = true;
+  next = nextArrival (timingIn speeds bytes) (decode bytes .clock);
   nominal = nominal speeds (planIn (decode bytes));
   keys = keysIn bytes (stateCount bytes) (decode bytes .clock);
 }

@@ -1,6 +1,8 @@
 // Whether a state block is sound.
 use block_layout::laid_out;
 use clock::Clock;
+use lone::is_lone;
+use orders::standing;
 use plan::Plan;
 use plan::Verdict;
 use sound_parts::entries_sound;
@@ -10,24 +12,29 @@ use state::PLACES;
 use state::clock_at;
 use state::task_at;
 use urgency::keys_of;
+use urgency::next_arrival;
 ghost use mathlib.Core.Path.{_≡_};
-ghost use mathlib.Core.Bool.{false};
+ghost use mathlib.Core.Bool.{true, false};
 ghost use mathlib.Core.List.{[]};
 ghost use Prim.Native.Nat.{_≤_};
 ghost use lib.ListN.{length};
 ghost use Rattle.plan.specs.Levels.{nominal};
 ghost use Rattle.levels.specs.Code.{loaded, Table};
 ghost use Rattle.plan.specs.Questions.{taskQuestions};
+ghost use Rattle.arith.specs.Choice.{pick};
 ghost use Rattle.arith.specs.Asking.{firstNo};
 ghost use Rattle.plan.specs.Blocks.{planOf};
 ghost use Rattle.reclaiming.specs.StateBlock.{planIn, stateLength, stateCount, decode};
-ghost use Rattle.reclaiming.specs.Questions.{largestClock, stateSound, soundAt};
-ghost use Rattle.state.specs.Code.{Holds};
+ghost use Rattle.reclaiming.specs.Orders.{nextArrival};
+ghost use Rattle.reclaiming.specs.Questions.{largestClock, fitsGap, stateSound, soundAt};
+ghost use Rattle.state.specs.Code.{Holds, timingIn};
+ghost use Rattle.orders.specs.Code.{Runnable};
 ghost use Rattle.soundness.specs.Code.{timedSound, testedBy};
 
-// A block that was tested: whether it is sound and, if so, its nominal level and the keys of its jobs.
+// A block that was tested: whether it is sound and, if so, its nominal level, the keys of its jobs and the ticks to the next arrival.
 pub struct Tested {
     pub sound: bool,
+    pub next: u32,
     pub nominal: usize,
     pub keys: [u64; PLACES],
 }
@@ -53,9 +60,36 @@ fn not_sound() -> Tested
 {
     Tested {
         sound: false,
+        next: 0,
         nominal: 0,
         keys: [0; PLACES],
     }
+}
+
+// Whether a state keeps up: every job is ahead, or the one that runs is the only open one and can be done before the next arrival.
+fn keeps_up(
+    speeds: &[u32; 8],
+    levels: usize,
+    block: &[u8],
+    count: usize,
+    next: u32,
+    ahead: bool,
+) -> bool
+    requires { ⌜ Table (now speeds) levels × Holds (now block) × (count ≡ stateCount (now block)) ⌝ }
+    requires { ⌜ Runnable levels (decode (now block)) × (ahead ≡ false → decode (now block) .task ≡ 255 → ⊥) ⌝ }
+    requires { ⌜ next ≡ nextArrival (timingIn (loaded (now speeds) levels) (now block)) (decode (now block) .clock) ⌝ }
+    ensures { λ r. ⌜ r ≡ pick ahead true (fitsGap (loaded (now (speeds .entry)) levels)
+        (timingIn (loaded (now (speeds .entry)) levels) (now (block .entry)))
+        (decode (now (block .entry)))) ⌝ }
+{
+    if ahead {
+        return true;
+    }
+    let c = standing(speeds, levels, block);
+    if c.time > next {
+        return false;
+    }
+    is_lone(block, count, c.task as usize)
 }
 
 // A block that is laid out, whose clock is in range and whose plan is admitted at a nominal level.
@@ -74,16 +108,21 @@ fn test_admitted(
         (stateSound (loaded (now (speeds .entry)) levels) (decode (now (block .entry))))
         (now (block .entry)) ⌝ }
 {
-    let speed = speeds[level];
-    if !entries_sound(block, count, speed) {
+    let entries = entries_sound(block, count, speeds[level]);
+    if !entries.sound {
         return not_sound();
     }
     let keys = keys_of(block, count, clock);
-    if !order_sound(speeds, levels, block, &keys, count, level) {
+    let next = next_arrival(&keys, count, clock);
+    if !order_sound(speeds, levels, block, &keys, count, level, next) {
+        return not_sound();
+    }
+    if !keeps_up(speeds, levels, block, count, next, entries.ahead) {
         return not_sound();
     }
     Tested {
         sound: true,
+        next,
         nominal: level,
         keys,
     }

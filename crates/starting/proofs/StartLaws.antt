@@ -29,7 +29,7 @@ use Rattle.schedule.specs.PlainSchedule.{Timing}
 use Rattle.reclaiming.specs.declared.Entry.{Entry}
 use Rattle.reclaiming.specs.declared.Reply.{Reply}
 use Rattle.reclaiming.specs.declared.Reply.the-variants as reply
-use Rattle.reclaiming.specs.StateBlock.{headFields, tailFields, tailAt, entryLength, State, noEntry, remainingOf, restIn, restOf, taskOf, entryWith, entryBytes, timingAt, timing, planIn, taskField, countField, stateLength, stateCount, encode, decode, places}
+use Rattle.reclaiming.specs.StateBlock.{headFields, tailFields, tailAt, entryLength, State, noEntry, restIn, taskOf, entryWith, entryBytes, timingAt, timing, planIn, taskField, countField, stateLength, stateCount, encode, decode, places}
 use Rattle.reclaiming.specs.Fields.{fieldsBytes, fieldsLength}
 use Rattle.reclaiming.specs.Orders.{chooseOrder, holdOf, orderWith}
 use Rattle.reclaiming.specs.Passes.{newEntry, startState}
@@ -273,15 +273,13 @@ module _ {speeds : List ℕ} {ts : List Task} {image : List ℕ} (new : Newly sp
 
   -- at the nominal level every job can be done in its ticks
   new-enough : (highest : ℕ) → highest ≡ nominal speeds ts → Enough speeds (decode image) highest
-  new-enough highest e =
-      let same : S .entries ≡ decode image .entries = entries-are ∙ sym (ap (λ (s : State). s .entries) new-read) in
-      record {
-        level = omega (arith, new .good .tasks .admitted);
-        each = λ i h.
-            subst (λ (es : List Entry). timeOf (speedOf speeds highest) (restIn (getD es i noEntry)) ≤ getD es i noEntry .remaining) same
-            (subst (λ (level : ℕ). timeOf (speedOf speeds level) (restOf S i) ≤ remainingOf S i) (sym e)
-            (fine .entries .ahead i (omega (arith, count-in image, new-tasks))));
-      }
+  new-enough highest e = record {
+    level = omega (arith, new .good .tasks .admitted);
+    each = λ i h.
+        let k : i < length ts = omega (arith, count-in image, new-tasks) in
+        subst (λ (x : Entry). timeOf (speedOf speeds highest) (restIn x) ≤ x .remaining) (sym (new-at i k))
+        (subst (λ (level : ℕ). timeOf (speedOf speeds level) (whole (getD ts i noTask)) ≤ τ .allotment i) (sym e) (omega arith));
+  }
 
   -- with the keys that are found
   module _ {count : ℕ} (same : count ≡ length ts) {keys : List ℕ} (found : keys ≡ keysIn image count 0) where

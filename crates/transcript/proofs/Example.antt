@@ -11,14 +11,15 @@ use Rattle.worked_cases.specs.Cases.{baseLevels, benchBlock}
 use Rattle.worked_cases.specs.FixedCases.{anglePlan}
 use Rattle.transcript.specs.Listing.{listing}
 
--- 01's speeds, then "the plan (10, 400), (10, 400), (30, 600), then hex 8001 8007 8002 8004 8004 0002"
+-- 01's speeds, then "the plan (10, 400), (10, 400), (30, 600), then hex 8001 8007 8002 8004 8004 0002", of which by 02, No. 4 "the last two
+-- passes become hex 8005 0001"
 abbrev pub benchInput : List ℕ
 benchInput =
     baseLevels
     ++ (benchBlock
-    ++ (0x80 ∷ 0x01 ∷ 0x80 ∷ 0x07 ∷ 0x80 ∷ 0x02 ∷ 0x80 ∷ 0x04 ∷ 0x80 ∷ 0x04 ∷ 0x00 ∷ 0x02 ∷ []))
+    ++ (0x80 ∷ 0x01 ∷ 0x80 ∷ 0x07 ∷ 0x80 ∷ 0x02 ∷ 0x80 ∷ 0x04 ∷ 0x80 ∷ 0x05 ∷ 0x00 ∷ 0x01 ∷ []))
 
--- "Output, whole:"
+-- "Output, whole:", with the lines that 02, No. 4 changes
 abbrev pub benchOutput : List ℕ
 benchOutput =
     -- "plan 3 7 30"
@@ -31,10 +32,10 @@ benchOutput =
     ∷ 56 ∷ 32 ∷ 114 ∷ 117 ∷ 110 ∷ 32 ∷ 50 ∷ 32 ∷ 55 ∷ 32 ∷ 50 ∷ 10
     -- "10 run 0 7 4"
     ∷ 49 ∷ 48 ∷ 32 ∷ 114 ∷ 117 ∷ 110 ∷ 32 ∷ 48 ∷ 32 ∷ 55 ∷ 32 ∷ 52 ∷ 10
-    -- "14 run 1 7 4"
-    ∷ 49 ∷ 52 ∷ 32 ∷ 114 ∷ 117 ∷ 110 ∷ 32 ∷ 49 ∷ 32 ∷ 55 ∷ 32 ∷ 52 ∷ 10
-    -- "18 idle 2"
-    ∷ 49 ∷ 56 ∷ 32 ∷ 105 ∷ 100 ∷ 108 ∷ 101 ∷ 32 ∷ 50 ∷ 10
+    -- 02, No. 4: "14 run 1 6 5"
+    ∷ 49 ∷ 52 ∷ 32 ∷ 114 ∷ 117 ∷ 110 ∷ 32 ∷ 49 ∷ 32 ∷ 54 ∷ 32 ∷ 53 ∷ 10
+    -- 02, No. 4: "19 idle 1"
+    ∷ 49 ∷ 57 ∷ 32 ∷ 105 ∷ 100 ∷ 108 ∷ 101 ∷ 32 ∷ 49 ∷ 10
     -- "20 run 0 6 5"
     ∷ 50 ∷ 48 ∷ 32 ∷ 114 ∷ 117 ∷ 110 ∷ 32 ∷ 48 ∷ 32 ∷ 54 ∷ 32 ∷ 53 ∷ 10
     ∷ []

@@ -14,7 +14,7 @@ use Rattle.plan.specs.Blocks.{noTask}
 use Rattle.schedule.specs.PlainSchedule.{Timing, Pending}
 use Rattle.reclaiming.specs.declared.Entry.{Entry}
 use Rattle.reclaiming.specs.StateBlock.{State, workOf, remainingOf, restIn, restOf, taskOf, planIn, workField, stateCount, decode, places}
-use Rattle.reclaiming.specs.Orders.{allowance, openJobs}
+use Rattle.reclaiming.specs.Orders.{plainAllowance, openJobs}
 use Rattle.state.specs.Code.{Holds, entryIn, timingIn, numberIn}
 use Rattle.urgency.specs.Code.{Keyed, noKey, leastKey, allowedBy}
 use Rattle.reclaiming.proofs.Soundness.{planIn-at}
@@ -103,24 +103,18 @@ module _ {speeds b l : List ℕ} {count best i : ℕ} (k : Told speeds b l count
   pub told-task : i < places
   told-task = omega (arith, first-open .below, k .looked .holds .few)
 
--- what is left of it and its allowance were read
-pub record Read (speeds b l : List ℕ) (count best i : ℕ) (rest : Rest) (allowed : ℕ) : Type 0 where
-  pub told : Told speeds b l count best i
-  pub rest-in : rest ≡ restIn (entryIn b i)
-  pub allowed-in : allowed ≡ allowedBy l (λ j. entryIn b j .remaining) count best
+  pub told-below : i < timingIn speeds b .count
+  told-below = omega (arith, first-open .below, timing-count b)
 
-module _ {speeds b l : List ℕ} {count best i : ℕ} {rest : Rest} {allowed : ℕ} (k : Read speeds b l count best i rest allowed) where
-  pub read-below : i < timingIn speeds b .count
-  read-below = omega (arith, first-open (k .told) .below, timing-count b)
+  -- what is left of its job
+  pub told-rest : {rest : Rest} → rest ≡ restIn (entryIn b i) → rest ≡ restOf (decode b) i
+  told-rest e = e ∙ sym (rest-is b i (first-open .below))
 
-  pub read-rest : rest ≡ restOf (decode b) i
-  read-rest = k .rest-in ∙ sym (rest-is b i (first-open (k .told) .below))
-
-  pub read-allowed : allowed ≡ allowance (timingIn speeds b) (decode b) i
-  read-allowed =
-      let counted : count ≡ timingIn speeds b .count = k .told .looked .same ∙ sym (timing-count b) in
-      k .allowed-in
-      ∙ sumTo-eq count (λ j. pick (ltb best (getD l j 0)) 0 (entryIn b j .remaining)) (λ j. pick (ltb best (getD l j 0)) 0 (remainingOf (decode b) j))
-      (λ j h. ap (λ (x : ℕ). pick {A = ℕ} (ltb best (getD l j 0)) 0 x) (sym (remaining-is b j (omega (arith, k .told .looked .same)))))
-      ∙ ap₂ (allowedBy l (remainingOf (decode b))) counted (first-open (k .told) .key)
-      ∙ allowance-is (timingIn speeds b) (decode b) l (k .told .looked .keyed) i read-below
+  -- and 01's allowance of it
+  pub told-allowed : allowedBy l (λ j. entryIn b j .remaining) count best ≡ plainAllowance (timingIn speeds b) (decode b) i
+  told-allowed =
+      let counted : count ≡ timingIn speeds b .count = k .looked .same ∙ sym (timing-count b) in
+      sumTo-eq count (λ j. pick (ltb best (getD l j 0)) 0 (entryIn b j .remaining)) (λ j. pick (ltb best (getD l j 0)) 0 (remainingOf (decode b) j))
+      (λ j h. ap (λ (x : ℕ). pick {A = ℕ} (ltb best (getD l j 0)) 0 x) (sym (remaining-is b j (omega (arith, k .looked .same)))))
+      ∙ ap₂ (allowedBy l (remainingOf (decode b))) counted (first-open .key)
+      ∙ allowance-is (timingIn speeds b) (decode b) l (k .looked .keyed) i told-below

@@ -20,7 +20,7 @@ use Rattle.schedule.specs.Feasibility.{In}
 use Rattle.schedule.proofs.QueueLaws.{latestPending, Stands, queueOf-in}
 use Rattle.schedule.proofs.Ahead.{left-drain}
 use Rattle.reclaiming.specs.StateBlock.{State, remainingOf, places}
-use Rattle.reclaiming.specs.Orders.{nextArrival, allowance}
+use Rattle.reclaiming.specs.Orders.{nextArrival, plainAllowance}
 use Rattle.arith.specs.Ranges.{leastTo}
 use Rattle.reclaiming.specs.Passes.{drainedOf, arrivesAt}
 use Rattle.reclaiming.specs.Questions.{largestClock}
@@ -275,6 +275,6 @@ module _ (τ : Timing) (s : State) (keys : List ℕ) (keyed : Keyed τ (s .clock
       ap (λ (x : ℕ). remainingOf s i - (d - x)) (ahead-is τ (s .clock) keys keyed (remainingOf s) i h)
       ∙ sym (left-drain τ (s .clock) (remainingOf s) (τ .count) d i h)
 
-  -- the allowance of a task's job
-  pub allowance-is : (x : ℕ) → x < τ .count → allowedBy keys (remainingOf s) (τ .count) (getD keys x 0) ≡ allowance τ s x
+  -- 01's allowance of a task's job
+  pub allowance-is : (x : ℕ) → x < τ .count → allowedBy keys (remainingOf s) (τ .count) (getD keys x 0) ≡ plainAllowance τ s x
   allowance-is x h = behind-is τ (s .clock) keys keyed (remainingOf s) x h

@@ -1,4 +1,5 @@
--- 01, "The bench program": its example, computed from the definitions. 02, No. 2: a run in which fixed ticks are interrupted.
+-- 01, "The bench program": its example, computed from the definitions. 02, No. 2: a run in which fixed ticks are interrupted. No. 4: one in
+-- which a lone job goes on past its plain finish.
 -- Assumes nothing.
 use mathlib.Core.Path.{_≡_, refl}
 use mathlib.Core.Bool.{true}
@@ -11,6 +12,7 @@ use Rattle.reclaiming.specs.StateBlock.{stateLength}
 use Rattle.reclaiming.specs.Calls.{isOrder, startReply}
 use Rattle.worked_cases.specs.Cases.{baseLevels, benchBlock, benchJudged, benchLines, listedLines}
 use Rattle.worked_cases.specs.FixedCases.{anglePlan, angleLines, wantedLines}
+use Rattle.worked_cases.specs.LoneCases.{twoLevels, pairPlan, pairLines, gapLines}
 
 pub bench-plan : readBlock baseLevels benchBlock ≡ benchJudged
 unfolding need timeOf worn lcm gcd moreUrgent
@@ -32,3 +34,11 @@ angle-listing = refl
 pub angle-started : isOrder (startReply baseLevels anglePlan stateLength) ≡ true
 unfolding need timeOf worn lcm gcd moreUrgent
 angle-started = refl
+
+pub pair-listing : pairLines ≡ gapLines
+unfolding need timeOf worn lcm gcd moreUrgent
+pair-listing = refl
+
+pub pair-started : isOrder (startReply twoLevels pairPlan stateLength) ≡ true
+unfolding need timeOf worn lcm gcd moreUrgent
+pair-started = refl

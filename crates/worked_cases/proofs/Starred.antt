@@ -1,5 +1,5 @@
--- 01, "On each side of the edge": every starred case of the table holds. 02, No. 1 and 2: so does every case of level blocks and of fixed
--- ticks.
+-- 01, "On each side of the edge": every starred case of the table holds. 02, No. 1, 2 and 4: so does every case of level blocks, of fixed
+-- ticks and of lone jobs.
 -- Assumes nothing.
 use mathlib.Core.Path.{_≡_, refl}
 use mathlib.Core.Bool.{true}
@@ -12,6 +12,7 @@ use Rattle.schedule.specs.Feasibility.{In}
 use Rattle.schedule.proofs.Members.{every-in}
 use Rattle.worked_cases.specs.Cases.{Case, starred, boards, matches, agrees}
 use Rattle.worked_cases.specs.FixedCases.{conversions}
+use Rattle.worked_cases.specs.LoneCases.{gaps}
 use Rattle.reclaiming.proofs.StateCodec.{same-bytes}
 
 -- the table's test, computed
@@ -27,6 +28,10 @@ conversions-agree : agrees conversions ≡ true
 unfolding need timeOf worn lcm gcd moreUrgent
 conversions-agree = refl
 
+gaps-agree : agrees gaps ≡ true
+unfolding need timeOf worn lcm gcd moreUrgent
+gaps-agree = refl
+
 -- so each of its rows holds
 row-holds : (cases : List Case) → agrees cases ≡ true → (c : Case) → In c cases → c .found ≡ c .wanted
 row-holds cases h c m = same-bytes (c .found) (c .wanted) (every-in matches cases h c m)
@@ -39,3 +44,6 @@ board-cases = row-holds boards boards-agree
 
 pub conversion-cases : (c : Case) → In c conversions → c .found ≡ c .wanted
 conversion-cases = row-holds conversions conversions-agree
+
+pub gap-cases : (c : Case) → In c gaps → c .found ≡ c .wanted
+gap-cases = row-holds gaps gaps-agree

@@ -29,7 +29,8 @@ task p w = record { period = p; worst = w; fixed = 0 }
 abbrev pub pass : Bool → ℕ → Pass
 pass finished d = record { d = d; finished = finished }
 
--- 01: "Input: the plan (10, 400), (10, 400), (30, 600), then hex 8001 8007 8002 8004 8004 0002."
+-- 01: "Input: the plan (10, 400), (10, 400), (30, 600), then hex 8001 8007 8002 8004 8004 0002."; 02, No. 4: "the last two passes become
+-- hex 8005 0001"
 abbrev pub benchTasks : List Task
 benchTasks = task 10 400 ∷ task 10 400 ∷ task 30 600 ∷ []
 
@@ -37,7 +38,7 @@ abbrev pub benchBlock : List ℕ
 benchBlock = planBlock benchTasks
 
 abbrev pub benchPasses : List Pass
-benchPasses = pass true 1 ∷ pass true 7 ∷ pass true 2 ∷ pass true 4 ∷ pass true 4 ∷ pass false 2 ∷ []
+benchPasses = pass true 1 ∷ pass true 7 ∷ pass true 2 ∷ pass true 4 ∷ pass true 5 ∷ pass false 1 ∷ []
 
 -- 02, No. 1: "01's cases hold with 01's speeds loaded"
 abbrev pub baseLevels : List ℕ
@@ -59,15 +60,15 @@ abbrev pub benchLines : List Line
 unfolding need timeOf worn lcm gcd moreUrgent
 benchLines = runLines baseLevels benchBlock (replicate stateLength 0) benchPasses
 
--- the example's lines after the first
+-- the example's lines after the first; 02, No. 4: "the line at 14 becomes "14 run 1 6 5", [..] and the idle line becomes "19 idle 1""
 abbrev pub listedLines : List Line
 listedLines =
     line 0 (reply.Run 0 7 4)
     ∷ line 1 (reply.Run 1 5 7)
     ∷ line 8 (reply.Run 2 7 2)
     ∷ line 10 (reply.Run 0 7 4)
-    ∷ line 14 (reply.Run 1 7 4)
-    ∷ line 18 (reply.Idle 2)
+    ∷ line 14 (reply.Run 1 6 5)
+    ∷ line 19 (reply.Idle 1)
     ∷ line 20 (reply.Run 0 6 5)
     ∷ []
 
@@ -92,7 +93,7 @@ judgedValues ts = judgedOver baseLevels ts
 abbrev pub passValues : List ℕ → ℕ → Bool → List ℕ
 passValues state d finished = told (replyAnswer (passReply state d finished))
 
-abbrev shownValues : List ℕ → List ℕ → List ℕ
+abbrev pub shownValues : List ℕ → List ℕ → List ℕ
 shownValues state buffer = told (writtenAnswer (showReply state (length buffer))) ++ showBuffer state buffer
 
 -- what reading a level block gives, with the eight speeds beside it; and starting

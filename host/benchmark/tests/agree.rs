@@ -10,6 +10,7 @@ use sim::level_block::write_levels;
 use sim::levels::Levels;
 use sim::plan::Task;
 use sim::random::blocks::{block_of, block_of_no_additions, damaged_block};
+use sim::random::lone::{lone_state, with_another_job_open};
 use sim::random::passes::any_pass;
 use sim::random::plans;
 use sim::random::states::{forged_state, invented_state, late_state, with_a_table_changed};
@@ -266,6 +267,35 @@ fn runs_agree() {
     starts.were("start, of runs", &[0]);
     passes.were("pass, in runs", &[0, 11, 12, 13, 14]);
     shows.were("show, after runs", &[0]);
+}
+
+/// 02, No. 4: states with one open job on each side of the gap, and with another job opened in them.
+#[test]
+fn lone_states_agree() {
+    let mut random = Random::new(10);
+    let (mut passes, mut shows) = (Seen::default(), Seen::default());
+    let mut kinds: BTreeMap<String, u32> = BTreeMap::new();
+    for _ in 0..20_000 {
+        let table = some_or_base_levels(&mut random);
+        let plan = good_plan(&mut random, &table);
+        let (lone, kind) = lone_state(&mut random, &table, &plan);
+        *kinds.entry(format!("{kind:?}")).or_default() += 1;
+        let state = if kind.is_sound() && random.one_in(4) {
+            with_another_job_open(&mut random, &lone)
+        } else {
+            lone
+        };
+        show_agrees(&state, QUEUE_BYTES, &mut shows);
+        let d = random.pick(&[1, 1, 2, 3, 10]);
+        let finished = random.one_in(2);
+        pass_agrees(&state, d, finished, &mut passes);
+    }
+    assert!(
+        kinds.len() == 6 && kinds.values().all(|times| *times > 300),
+        "{kinds:?}"
+    );
+    shows.were("show", &[0, 10]);
+    passes.were("pass, in lone states", &[0, 10, 12, 14, 15]);
 }
 
 /// Would catch a state called sound by one and not by the other, or changed in another way.

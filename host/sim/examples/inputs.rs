@@ -80,8 +80,8 @@ fn worst_case_is_used(state: &[u8; STATE_BYTES], ticks: u32) -> bool {
     pass(&mut state.clone(), ticks, false) == Err(14)
 }
 
-/// 01's passes up to the tick at which the processor idles.
-const TO_TICK_18: [(u32, bool); 5] = [(1, true), (7, true), (2, true), (4, true), (4, true)];
+/// 01's passes up to the tick at which the processor idles, the last as 02's No. 4 has it.
+const TO_TICK_19: [(u32, bool); 5] = [(1, true), (7, true), (2, true), (4, true), (5, true)];
 
 /// Inputs whose level block is refused, with the bench plan and a pass behind it.
 fn refused_levels() -> Vec<(u32, Vec<u8>)> {
@@ -127,8 +127,8 @@ fn refused_plans() -> Vec<(u32, Vec<u8>)> {
 /// Inputs with a refused pass, an odd byte, or a byte too many. A refused pass is followed by one
 /// that is accepted.
 fn refused_later() -> Vec<(u32, Vec<u8>)> {
-    let mut idle = TO_TICK_18.to_vec();
-    idle.extend([(2, true), (2, false)]);
+    let mut idle = TO_TICK_19.to_vec();
+    idle.extend([(1, true), (1, false)]);
     let mut odd = bench_with(&[(1, true)]);
     odd.push(0x80);
     let mut long = bench_with(&[(1, true)]);
@@ -141,6 +141,18 @@ fn refused_later() -> Vec<(u32, Vec<u8>)> {
         (16, odd),
         (17, long),
     ]
+}
+
+/// Two tasks that have 12 and 6 of 20 ticks at 50 units a tick. At 12 the second is alone, and 8 ticks
+/// are left to the next arrival: its 300 units take as many at 40.
+fn lone_job() -> Vec<u8> {
+    // Its plain finish is at 18. There it has 2 ticks left, and 2 unfinished ones are refused; it ends
+    // at 20, with the arrival.
+    let at_the_arrival = [(12, true), (6, false), (2, false), (1, false), (1, true)];
+    // The next one ends at 39, past its plain finish at 38.
+    let before_it = [(12, true), (7, true), (1, false)];
+    let passes = [&at_the_arrival[..], &before_it].concat();
+    base_with(&block(&[(20, 600), (20, 300)]), &passes)
 }
 
 /// Runs with other boards' speeds.
@@ -201,8 +213,8 @@ fn angle_sensor() -> Vec<u8> {
 
 fn all() -> Vec<(String, Vec<u8>)> {
     let levels = Levels::base();
-    let mut bench = TO_TICK_18.to_vec();
-    bench.push((2, false));
+    let mut bench = TO_TICK_19.to_vec();
+    bench.push((1, false));
     let mut inputs = vec![("bench".to_string(), bench_with(&bench))];
     for (level, speed) in levels.speeds().iter().enumerate() {
         // 38 of 40 ticks at this level, and more than 40 at the one below.
@@ -212,6 +224,7 @@ fn all() -> Vec<(String, Vec<u8>)> {
     // The first task's job most often ends long before its 24 ticks are over.
     let plan = tasks(&[(40, 2_400), (40, 600), (80, 600)]);
     inputs.push(("reclaiming".to_string(), run(&levels, &plan, 0, 8, 160)));
+    inputs.push(("lone-job".to_string(), lone_job()));
     inputs.extend(other_boards());
     inputs.extend(fixed_ticks());
     let refused = [refused_plans(), refused_later(), refused_levels()];

@@ -1,11 +1,11 @@
-//! 01, "The run in demand 3": the two job books, and the demand checked on them. Nothing in them
-//! comes from the state block.
+//! 01, "The run in demand 3": the two job books, and the demand checked on them, with the exception
+//! that 02's No. 4 makes for a lone job. Nothing in them comes from the state block.
 
 use crate::dispatch::Order;
 use crate::job::{left_after, time_needed, Left};
 use crate::levels::Levels;
 use crate::plan::{judge_list, Task};
-use crate::schedule::{deadline, PlainJob, Schedule};
+use crate::schedule::{deadline, first_arrival_after, PlainJob, Schedule};
 
 /// "A job is its task and its arrival. It is open from its arrival until the book closes it".
 #[derive(Clone, Copy, PartialEq, Eq, Debug)]
@@ -13,6 +13,14 @@ pub struct BookJob {
     pub task: usize,
     pub arrival: u64,
     pub open: bool,
+}
+
+/// A job that was closed, and the clock then.
+#[derive(Clone, Copy, PartialEq, Eq, Debug)]
+pub struct Closed {
+    pub task: usize,
+    pub arrival: u64,
+    pub tick: u64,
 }
 
 /// The dispatcher's book, "fed the plan, the passes and the replies". Beside the jobs it keeps what
@@ -25,6 +33,7 @@ pub struct ActualBook {
     jobs: Vec<BookJob>,
     left: Vec<Left>,
     running: Option<Running>,
+    last_closed: Option<Closed>,
 }
 
 /// The task and the level of "the order last returned".
@@ -44,6 +53,7 @@ impl ActualBook {
             jobs: Vec::new(),
             left: vec![Left::NOTHING; plan.len()],
             running: running_in(first),
+            last_closed: None,
         };
         book.let_jobs_arrive();
         book
@@ -63,6 +73,21 @@ impl ActualBook {
         &self.left
     }
 
+    /// 02, No. 4: the job's "time left at the order's level", the order being the one last returned.
+    /// Nothing for a job that this order doesn't run.
+    pub fn time_left(&self, job: &BookJob) -> Option<u64> {
+        let running = self.running?;
+        let runs = running.task == job.task && self.latest_arrival(job.task) == job.arrival;
+        let speed = self.levels.speed(running.level);
+        runs.then(|| time_needed(self.left[job.task], speed))
+    }
+
+    /// The job closed last, at the end of the pass that said so: "whether the running job finished at
+    /// their end".
+    pub fn last_closed(&self) -> Option<Closed> {
+        self.last_closed
+    }
+
     /// Enters a pass and the reply to it.
     pub fn pass(&mut self, d: u32, finished: bool, reply: Result<Order, u32>) {
         let order = match reply {
@@ -75,7 +100,7 @@ impl ActualBook {
         if let Some(running) = self.running {
             self.take_from_job(running, u64::from(d));
             if finished {
-                self.close_latest_job(running.task);
+                self.close_latest_job(running.task, u64::from(d));
             }
         }
         for _ in 0..d {
@@ -103,15 +128,26 @@ impl ActualBook {
         };
     }
 
-    /// The latest job is found by its arrival, not by its place in the list: it may be closed and
-    /// forgotten already, and then an older open one mustn't be closed in its stead.
-    fn close_latest_job(&mut self, task: usize) {
-        self.left[task] = Left::NOTHING;
+    fn latest_arrival(&self, task: usize) -> u64 {
         let period = self.plan[task].period;
-        let latest = self.clock / period * period;
+        self.clock / period * period
+    }
+
+    /// The latest job is found by its arrival, not by its place in the list: it may be closed and
+    /// forgotten already, and then an older open one mustn't be closed in its stead. The clock is
+    /// still the one before the d ticks at whose end it finished.
+    fn close_latest_job(&mut self, task: usize, d: u64) {
+        self.left[task] = Left::NOTHING;
+        let arrival = self.latest_arrival(task);
+        let tick = self.clock + d;
         for job in &mut self.jobs {
-            if job.task == task && job.arrival == latest {
+            if job.task == task && job.arrival == arrival && job.open {
                 job.open = false;
+                self.last_closed = Some(Closed {
+                    task,
+                    arrival,
+                    tick,
+                });
             }
         }
     }
@@ -145,6 +181,8 @@ fn running_in(order: Order) -> Option<Running> {
 #[derive(Clone, Debug)]
 pub struct PlainBook {
     schedule: Schedule,
+    /// Of each task the job closed last.
+    last_closed: Vec<Option<Closed>>,
 }
 
 impl PlainBook {
@@ -153,6 +191,7 @@ impl PlainBook {
         let judged = judge_list(levels, plan).expect("a book is kept for an accepted plan only");
         PlainBook {
             schedule: Schedule::new(levels, plan, judged.nominal),
+            last_closed: vec![None; plan.len()],
         }
     }
 
@@ -183,8 +222,21 @@ impl PlainBook {
             return;
         }
         for _ in 0..d {
-            self.schedule.tick();
+            if let Some(job) = self.schedule.tick() {
+                self.last_closed[job.task] = Some(Closed {
+                    task: job.task,
+                    arrival: job.arrival,
+                    tick: self.schedule.clock(),
+                });
+            }
         }
+    }
+
+    /// When a job closed here, if it is the one of its task that closed last. That is all that is
+    /// asked about: an older one is past its deadline.
+    pub fn plain_finish(&self, task: usize, arrival: u64) -> Option<u64> {
+        let closed = self.last_closed[task].filter(|closed| closed.arrival == arrival);
+        closed.map(|closed| closed.tick)
     }
 
     /// Drops the closed jobs, for long runs.
@@ -193,22 +245,118 @@ impl PlainBook {
     }
 }
 
-/// Demand 3, as it stands after the passes entered so far.
+/// Demand 3, as it stands after the passes entered so far: a job open in the dispatcher is open in the
+/// plain schedule, but for 02's exception, and "all deadlines hold".
 pub fn demand3_holds(plan: &[Task], actual: &ActualBook, plain: &PlainBook) -> Result<(), String> {
     if actual.clock() != plain.clock() {
         return Err(format!("clocks {} and {}", actual.clock(), plain.clock()));
     }
-    let plain_jobs = plain.jobs();
-    for job in actual.jobs() {
-        if job.open && !plain_jobs.contains(&job) {
+    for job in past_plain_finish(actual, plain) {
+        if !may_use_the_gap(plan, actual, &job) {
             return Err(format!(
                 "open in the dispatcher, not in the plain schedule: {job:?}"
             ));
         }
     }
+    deadlines_hold(plan, actual, plain)
+}
+
+/// The jobs that are open in the dispatcher's book and not in the plain one. By demand 3 there is one
+/// at most.
+pub fn past_plain_finish(actual: &ActualBook, plain: &PlainBook) -> Vec<BookJob> {
+    let plain_jobs = plain.jobs();
+    let mut past = actual.jobs();
+    past.retain(|job| job.open && !plain_jobs.contains(job));
+    past
+}
+
+/// 02, No. 4: "after a pass, accepted or refused, a lone job may be open and its plain job closed, if
+/// its time left at the order's level is at most the ticks to the next arrival." A lone job is the only
+/// one open in the dispatcher's book, so one that was replaced in the state counts as well. Of a job
+/// that was told to go on when all of its time was over, none is left; passing refuses that (14), and
+/// at the next arrival it isn't alone.
+fn may_use_the_gap(plan: &[Task], actual: &ActualBook, job: &BookJob) -> bool {
+    let lone = actual
+        .jobs()
+        .iter()
+        .all(|other| !other.open || other == job);
+    let gap = first_arrival_after(plan, actual.clock()) - actual.clock();
+    match actual.time_left(job) {
+        Some(left) => lone && left <= gap,
+        None => false,
+    }
+}
+
+/// What else 02's No. 4 says of a run, as it stands after the passes entered so far. To be asked after
+/// each pass: of the closings it looks at the last one, and of the arrival ticks at one where the clock
+/// stands. No pass steps over an arrival (12).
+pub fn lone_finishes_hold(
+    plan: &[Task],
+    actual: &ActualBook,
+    plain: &PlainBook,
+) -> Result<(), String> {
+    arrivals_hold(plan, actual, plain)?;
+    last_finish_holds(plan, actual, plain)?;
+    deadlines_hold(plan, actual, plain)
+}
+
+/// "At each arrival tick every older open job is still open in the plain schedule".
+pub fn arrivals_hold(plan: &[Task], actual: &ActualBook, plain: &PlainBook) -> Result<(), String> {
+    let clock = actual.clock();
+    let arrival_tick = plan.iter().any(|task| clock % task.period == 0);
+    for job in past_plain_finish(actual, plain) {
+        if arrival_tick && job.arrival < clock {
+            return Err(format!(
+                "open at the arrival tick {clock}, not in the plain schedule: {job:?}"
+            ));
+        }
+    }
+    Ok(())
+}
+
+/// A job that closed after its plain finish, the clock at that finish, and the first arrival after it.
+#[derive(Clone, Copy, PartialEq, Eq, Debug)]
+pub struct FinishPastPlain {
+    pub closed: Closed,
+    pub plain_finish: u64,
+    pub first_arrival: u64,
+}
+
+/// The job that the dispatcher closed last, if its plain finish was before that.
+pub fn last_finish_past_plain(
+    plan: &[Task],
+    actual: &ActualBook,
+    plain: &PlainBook,
+) -> Option<FinishPastPlain> {
+    let closed = actual.last_closed()?;
+    let plain_finish = plain.plain_finish(closed.task, closed.arrival)?;
+    (plain_finish < closed.tick).then(|| FinishPastPlain {
+        closed,
+        plain_finish,
+        first_arrival: first_arrival_after(plan, plain_finish),
+    })
+}
+
+/// "A lone job that closes after its plain finish closes no later than the first arrival after that
+/// plain finish." Here it is asked of every job: by demand 3 only a lone one does so.
+pub fn last_finish_holds(
+    plan: &[Task],
+    actual: &ActualBook,
+    plain: &PlainBook,
+) -> Result<(), String> {
+    match last_finish_past_plain(plan, actual, plain) {
+        Some(past) if past.closed.tick > past.first_arrival => Err(format!(
+            "closed after the first arrival after its plain finish: {past:?}"
+        )),
+        _ => Ok(()),
+    }
+}
+
+/// "all deadlines hold": a job whose deadline has come is closed, in both books.
+pub fn deadlines_hold(plan: &[Task], actual: &ActualBook, plain: &PlainBook) -> Result<(), String> {
     no_open_job_is_late(plan, actual.clock(), &actual.jobs())
         .map_err(|job| format!("late in the dispatcher: {job}"))?;
-    no_open_job_is_late(plan, plain.clock(), &plain_jobs)
+    no_open_job_is_late(plan, plain.clock(), &plain.jobs())
         .map_err(|job| format!("late in the plain schedule: {job}"))
 }
 

@@ -1,6 +1,7 @@
 //! 01, "Orders and passes", and the questions that starting, passing and showing put. 02, No. 1:
 //! "Orders and the plain schedule are from now on those of the loaded speeds", which after the start
-//! are the state's own.
+//! are the state's own. 02, No. 4: a job that is the only open one has the ticks to the next arrival
+//! as its allowance where these are more than 01's.
 
 use crate::clock::{clock_after, LARGEST_CLOCK};
 use crate::job::{left_after, time_needed, Left};
@@ -14,6 +15,14 @@ use crate::state::{pack, unpack, Entry, Running, State};
 pub enum Order {
     Run { task: u8, level: u8, hold: u32 },
     Idle { hold: u32 },
+}
+
+/// Which allowance a new order's level is chosen by: 01's alone, or the one of 02's No. 4. The calls
+/// know the second only; the first is there for what is to be compared with it.
+#[derive(Clone, Copy, PartialEq, Eq, Debug)]
+pub enum Rule {
+    Base,
+    LoneGap,
 }
 
 /// Starting: reads the block (1 to 8, and 21), then asks for the state's 217 bytes (9). Of a longer
@@ -117,15 +126,13 @@ pub fn sound(block: &[u8]) -> Option<(State, Judged)> {
     if state.clock > LARGEST_CLOCK {
         return None;
     }
-    let nominal = state.levels.speed(judged.nominal);
-    if !state
-        .entries
-        .iter()
-        .all(|entry| entry_is_sound(entry, nominal))
-    {
+    // The order comes first here, because what is asked of an entry may depend on the order's level,
+    // and that has to be one of the table.
+    if !order_is_sound(&state, judged.nominal) {
         return None;
     }
-    if !order_is_sound(&state, judged.nominal) {
+    let nominal = state.levels.speed(judged.nominal);
+    if !(0..state.entries.len()).all(|task| entry_is_sound(&state, task, nominal)) {
         return None;
     }
     Some((state, judged))
@@ -134,17 +141,35 @@ pub fn sound(block: &[u8]) -> Option<(State, Judged)> {
 /// "for each task, work left at most the worst case, plain ticks left at most the allotment, and
 /// the time needed for the work left at the nominal level at most the plain ticks left". 02, No. 2,
 /// of the fixed ticks left: "no more than the fixed ticks, and zero in a finished job". That a job
-/// with some of them left has all of its work isn't asked.
-fn entry_is_sound(entry: &Entry, nominal: u64) -> bool {
+/// with some of them left has all of its work isn't asked. 02, No. 4, of the time needed: see below.
+fn entry_is_sound(state: &State, task: usize, nominal: u64) -> bool {
+    let entry = &state.entries[task];
     let finished = !entry.left.is_open();
     entry.left.is_within(entry.task.whole_job())
         && (!finished || entry.left.fixed == 0)
         && entry.plain_left <= allotment(&entry.task, nominal)
-        && time_needed(entry.left, nominal) <= entry.plain_left
+        && (time_needed(entry.left, nominal) <= entry.plain_left
+            || ends_within_the_gap(state, task))
+}
+
+/// 02, No. 4: soundness "lets a lone job's time at nominal exceed its plain ticks left if its time at
+/// the order's level is at most the ticks to the next arrival". So the job ends before it has to share
+/// the processor again. That it meets its allowance isn't enough: with plain ticks of other jobs in
+/// that, the job could be open at the next arrival, with too few plain ticks of its own.
+fn ends_within_the_gap(state: &State, task: usize) -> bool {
+    match state.running {
+        Some(running) => {
+            running.task == task
+                && is_lone(state, task)
+                && time_of_order(state, running) <= ticks_to_next_arrival(state)
+        }
+        None => false,
+    }
 }
 
 /// "an idle order exactly if no job is open, else the most urgent open job at a level no higher
-/// than nominal that meets its allowance". So the level is one of the state's table.
+/// than nominal that meets its allowance". So the level is one of the state's table. 02, No. 4: "The
+/// soundness test uses the same allowance" as a new order.
 fn order_is_sound(state: &State, nominal: usize) -> bool {
     match (most_urgent_open(state), state.running) {
         (None, None) => true,
@@ -184,7 +209,7 @@ fn next_arrival(state: &State, task: usize) -> u64 {
     latest_arrival(state, task) + state.entries[task].task.period
 }
 
-fn ticks_to_next_arrival(state: &State) -> u64 {
+pub(crate) fn ticks_to_next_arrival(state: &State) -> u64 {
     let mut fewest = u64::MAX;
     for task in 0..state.entries.len() {
         fewest = fewest.min(next_arrival(state, task) - state.clock);
@@ -198,7 +223,7 @@ fn urgency_of(state: &State, task: usize) -> Urgency {
 }
 
 /// All task numbers, the one with the most urgent job first, its job open or not.
-fn by_urgency(state: &State) -> Vec<usize> {
+pub(crate) fn by_urgency(state: &State) -> Vec<usize> {
     let mut order: Vec<usize> = (0..state.entries.len()).collect();
     order.sort_by_key(|task| urgency_of(state, *task));
     order
@@ -210,9 +235,25 @@ fn most_urgent_open(state: &State) -> Option<usize> {
         .find(|task| state.entries[*task].left.is_open())
 }
 
-/// "the sum of the plain ticks left of all jobs at least as urgent as it, itself included,
-/// finished or not in the dispatcher"
+/// 02, No. 4: "the job is the only open one", so no other task's job has work left.
+fn is_lone(state: &State, task: usize) -> bool {
+    (0..state.entries.len()).all(|other| state.entries[other].left.is_open() == (other == task))
+}
+
+/// 02, No. 4: "if the job is the only open one, its allowance is the larger of 01's and the ticks to
+/// the next arrival."
 fn allowance(state: &State, task: usize) -> u64 {
+    let base = base_allowance(state, task);
+    if is_lone(state, task) {
+        base.max(ticks_to_next_arrival(state))
+    } else {
+        base
+    }
+}
+
+/// 01's allowance: "the sum of the plain ticks left of all jobs at least as urgent as it, itself
+/// included, finished or not in the dispatcher"
+fn base_allowance(state: &State, task: usize) -> u64 {
     let own = urgency_of(state, task);
     let mut sum = 0;
     for other in 0..state.entries.len() {
@@ -224,23 +265,33 @@ fn allowance(state: &State, task: usize) -> u64 {
 }
 
 /// "The level is the lowest at which the work left needs no more than the allowance."
-fn lowest_level(state: &State, task: usize) -> usize {
-    let allowance = allowance(state, task);
+fn lowest_level(state: &State, task: usize, allowance: u64) -> usize {
     let left = state.entries[task].left;
     let level = state
         .levels
         .lowest(|speed| time_needed(left, speed) <= allowance);
-    // Every entry keeps the time needed at the nominal level within its own plain ticks, and
-    // those are part of the allowance.
+    // A job that a new order is chosen for has its time needed at the nominal level within its own
+    // plain ticks, and those are part of either allowance. A lone job may have fallen behind its
+    // plain ticks, but then it is the one that runs, and no order is chosen while it is open: nobody
+    // else can finish, and it ends within the ticks to the next arrival.
     level.expect("the nominal level always meets the allowance")
 }
 
 /// The task and level of a new order: the most urgent open job, or idle if there is none.
 pub fn choose(state: &State) -> Option<Running> {
+    choose_with(state, Rule::LoneGap)
+}
+
+/// The same by either rule.
+pub fn choose_with(state: &State, rule: Rule) -> Option<Running> {
     let task = most_urgent_open(state)?;
+    let allowance = match rule {
+        Rule::Base => base_allowance(state, task),
+        Rule::LoneGap => allowance(state, task),
+    };
     Some(Running {
         task,
-        level: lowest_level(state, task),
+        level: lowest_level(state, task, allowance),
     })
 }
 

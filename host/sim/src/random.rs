@@ -3,6 +3,7 @@
 //! The same seed always gives the same numbers.
 
 pub mod blocks;
+pub mod lone;
 pub mod passes;
 pub mod plans;
 pub mod states;

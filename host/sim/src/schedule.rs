@@ -14,6 +14,15 @@ pub fn deadline(tasks: &[Task], task: usize, arrival: u64) -> u64 {
     arrival + tasks[task].period
 }
 
+/// The first arrival of any task strictly after a tick.
+pub fn first_arrival_after(tasks: &[Task], tick: u64) -> u64 {
+    let mut first = u64::MAX;
+    for task in tasks {
+        first = first.min((tick / task.period + 1) * task.period);
+    }
+    first
+}
+
 pub fn urgency(tasks: &[Task], task: usize, arrival: u64) -> Urgency {
     (deadline(tasks, task, arrival), arrival, task)
 }
@@ -75,13 +84,17 @@ impl Schedule {
     }
 
     /// One tick: the most urgent open job gets it, or it is lost; then the clock rises by 1 and
-    /// the jobs due there arrive.
-    pub fn tick(&mut self) {
+    /// the jobs due there arrive. Returns the job that closed with it, if one did.
+    pub fn tick(&mut self) -> Option<PlainJob> {
+        let mut closed = None;
         if let Some(place) = self.most_urgent_open() {
-            self.jobs[place].left -= 1;
+            let job = &mut self.jobs[place];
+            job.left -= 1;
+            closed = (job.left == 0).then_some(*job);
         }
         self.clock += 1;
         self.let_jobs_arrive();
+        closed
     }
 
     /// Drops the closed jobs from the list, for long runs. They get no more ticks anyway.

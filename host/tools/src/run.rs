@@ -3,9 +3,9 @@
 
 use crate::bench::{split, unpack_pass, LARGEST_INPUT};
 use crate::script::Pass;
-use sim::dispatch::{pass, start, Order};
+use sim::dispatch::{pass, show, start, Order};
 use sim::job::{time_needed, Left};
-use sim::layout::STATE_BYTES;
+use sim::layout::{ENTRIES, STATE_BYTES};
 use sim::level_block::read_levels;
 use sim::levels::Levels;
 use sim::plan::{read_plan, Judged, Task};
@@ -31,6 +31,14 @@ impl Span {
         }
     }
 
+    /// The last so many ticks of it.
+    pub fn last(&self, ticks: u64) -> Span {
+        Span {
+            from: self.to - ticks,
+            to: self.to,
+        }
+    }
+
     /// The part of it that lies in the other one, if any does.
     pub fn within(&self, other: Span) -> Option<Span> {
         let from = self.from.max(other.from);
@@ -48,6 +56,8 @@ pub struct Stretch {
     pub span: Span,
     /// How many of its ticks, the first ones, were fixed ticks.
     pub fixed: u64,
+    /// How many of its ticks, the last ones, came after the job's plain finish (02, No. 4).
+    pub past_plain: u64,
     /// If the job finished at the end of it: how many ticks more its worst case would have taken
     /// at this level.
     pub early: Option<u64>,
@@ -70,10 +80,12 @@ pub struct Run {
     pub refusals: Vec<Refusal>,
     /// How many passes were accepted.
     pub accepted: usize,
-    /// Where the run ends, the order that stands there, and the fixed ticks that its job has left.
+    /// Where the run ends, the order that stands there, and of its job the fixed ticks left and the
+    /// ticks to its plain finish.
     pub clock: u64,
     pub order: Order,
     pub fixed_left: u64,
+    pub to_plain_finish: u64,
 }
 
 /// The run of a bench input, or the number that the whole input is refused with.
@@ -97,6 +109,7 @@ pub fn follow(input: &[u8]) -> Result<Run, u32> {
         clock: 0,
         order,
         fixed_left: 0,
+        to_plain_finish: 0,
     };
     let mut pairs = parts.passes.chunks_exact(2);
     for pair in &mut pairs {
@@ -106,6 +119,7 @@ pub fn follow(input: &[u8]) -> Result<Run, u32> {
         run.refuse(16);
     }
     run.fixed_left = run.left_to_run(&state).fixed;
+    run.to_plain_finish = run.ticks_to_plain_finish(&state);
     Ok(run)
 }
 
@@ -132,6 +146,7 @@ impl Run {
     /// Puts a pass to the simulator and enters what came of it.
     fn put(&mut self, told: Pass, state: &mut [u8]) {
         let left = self.left_to_run(state);
+        let to_plain_finish = self.ticks_to_plain_finish(state);
         let next = match pass(state, told.d, told.finished) {
             Ok(next) => next,
             Err(number) => return self.refuse(number),
@@ -151,6 +166,7 @@ impl Run {
                     level,
                     span,
                     fixed: left.fixed.min(span.ticks()),
+                    past_plain: span.ticks().saturating_sub(to_plain_finish),
                     early: told.finished.then(|| needed - span.ticks()),
                 })
             }
@@ -170,6 +186,25 @@ impl Run {
         state.entries[task].left
     }
 
+    /// In how many ticks the job that the order runs is done in the plain schedule, if nothing arrives
+    /// before: those of the queue up to the job. None if it isn't in the queue, as it is done there.
+    fn ticks_to_plain_finish(&self, state: &[u8]) -> u64 {
+        let running = match self.order {
+            Order::Run { task, .. } => task,
+            Order::Idle { .. } => return 0,
+        };
+        let mut queue = [0; 3 * ENTRIES];
+        let length = show(state, &mut queue).expect("the simulator leaves a sound state");
+        let mut ticks = 0;
+        for entry in queue[..length].chunks(3) {
+            ticks += u64::from(u16::from_be_bytes([entry[1], entry[2]]));
+            if entry[0] == running {
+                return ticks;
+            }
+        }
+        0
+    }
+
     /// A stretch that goes on where the last one stopped, of the same job at the same level,
     /// makes that one longer.
     fn add_stretch(&mut self, stretch: Stretch) {
@@ -178,6 +213,7 @@ impl Run {
             if same_job && last.level == stretch.level && last.span.to == stretch.span.from {
                 last.span.to = stretch.span.to;
                 last.fixed += stretch.fixed;
+                last.past_plain += stretch.past_plain;
                 last.early = stretch.early;
                 return;
             }

@@ -23,7 +23,7 @@ count-at-requires c κs = search needs
 chosen-requires : tie.Need-chosen-requires
 chosen-requires c κs =
     let s : tie.Start = c .before .before .before in
-    ((s .pre .0 .0, s .pre .0 .1, c .count-at .ensures), (s .pre .1 .0, s .pre .1 .1 .0))
+    ((s .pre .0 .0, s .pre .0 .1, c .count-at .ensures), s .pre .1)
 
 put-order-requires : tie.Need-put-order-requires
 put-order-requires c κs = search needs

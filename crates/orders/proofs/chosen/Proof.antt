@@ -7,7 +7,8 @@ use Prim.Native.Nat.{ℕ, _<_}
 use borrow.Author.Needs.{needs}
 use Rattle.levels.specs.Code.{loaded}
 use Rattle.levels.proofs.Tables.{levels-are}
-use Rattle.urgency.proofs.HeadLaws.{Looked, Read, told-task}
+use Rattle.urgency.proofs.HeadLaws.{Looked, Told, first-open, told-task}
+use Rattle.lone.proofs.LoneLaws.{Read, next-short}
 use Rattle.orders.proofs.OrderLaws.{Picked, read-enough, chosen-none, chosen-small, chosen-some}
 use Rattle.orders.proofs.chosen.Statement.{statement}
 use Rattle.orders.proofs.chosen.Tie as tie
@@ -21,10 +22,10 @@ keys c = c .args .keys .now
 abbrev begun : tie.After-most-urgent → tie.Start
 begun c = c .before .before
 
-abbrev asked : tie.After-allowance-of → tie.After-most-urgent
+abbrev asked : tie.After-allowance-until → tie.After-most-urgent
 asked c = c .before .before .before .before
 
-abbrev start : tie.After-allowance-of → tie.Start
+abbrev start : tie.After-allowance-until → tie.Start
 start c = begun (asked c)
 
 -- the table's speeds
@@ -34,7 +35,7 @@ table c = loaded (c .args .speeds .now) (c .args .levels)
 looked : (c : tie.After-most-urgent) → Looked (table (begun c)) (block (begun c)) (keys (begun c)) (begun c .args .count) (c .most-urgent .result)
 looked c = record {
   holds = begun c .pre .0 .1;
-  keyed = begun c .pre .1 .1;
+  keyed = begun c .pre .1 .1 .0;
   same = begun c .pre .0 .2;
   found = c .most-urgent .ensures;
 }
@@ -45,29 +46,33 @@ most-urgent-requires c κs = search needs
 returns : tie.Need-returns
 returns c = (chosen-none (looked (c .before)) (omega (arith, c .if1 .taken)), (omega arith, omega arith))
 
+-- its task is told
+told :
+    (c : tie.After-task-in) →
+    let a : tie.After-most-urgent = c .before .before in
+    Told (table (begun a)) (block (begun a)) (keys (begun a)) (begun a .args .count) (a .most-urgent .result) (c .task-in .result)
+told c = record { looked = looked (c .before .before); some = c .before .if1 .left; task = c .task-in .ensures .0 }
+
 read :
-    (c : tie.After-allowance-of) →
+    (c : tie.After-allowance-until) →
     Read (table (start c)) (block (start c)) (keys (start c)) (start c .args .count) (asked c .most-urgent .result)
-    (c .before .before .task-in .result) (c .before .rest-at .result) (c .allowance-of .result)
+    (c .before .before .task-in .result) (c .before .rest-at .result) (start c .args .next) (c .allowance-until .result)
 read c = record {
-  told = record {
-    looked = looked (asked c);
-    some = c .before .before .before .if1 .left;
-    task = c .before .before .task-in .ensures .0;
-  };
+  told = told (c .before .before);
   rest-in = c .before .rest-at .ensures .0;
-  allowed-in = c .allowance-of .ensures .0;
+  arrival = start c .pre .1 .1 .1;
+  allowed-in = c .allowance-until .ensures .0;
 }
 
 -- the highest level is one of the table's
-below : (c : tie.After-allowance-of) → start c .args .highest < start c .args .levels
+below : (c : tie.After-allowance-until) → start c .args .highest < start c .args .levels
 below c = omega (arith, start c .pre .1 .0 .level, levels-are (start c .pre .0 .0))
 
 picked :
     (c : tie.After-level-for) →
-    let a : tie.After-allowance-of = c .before in
+    let a : tie.After-allowance-until = c .before in
     Picked (table (start a)) (block (start a)) (keys (start a)) (start a .args .count) (asked a .most-urgent .result)
-    (a .before .before .task-in .result) (a .before .rest-at .result) (a .allowance-of .result) (c .level-for .result)
+    (a .before .before .task-in .result) (a .before .rest-at .result) (start a .args .next) (a .allowance-until .result) (c .level-for .result)
 picked c = record {
   read = read (c .before);
   level-is = c .level-for .ensures .0;
@@ -80,15 +85,21 @@ task-in-requires c κs = search needs
 rest-at-requires : tie.Need-rest-at-requires
 rest-at-requires c κs = search needs
 
-allowance-of-requires : tie.Need-allowance-of-requires
-allowance-of-requires c κs = search needs
+allowance-until-requires : tie.Need-allowance-until-requires
+allowance-until-requires c κs =
+    let k = told (c .before) in
+    let s : tie.Start = begun (c .before .before .before) in (
+      omega (arith, k .looked .holds .few, k .looked .same),
+      k .looked .holds .size,
+      omega (arith, next-short (table s) (block s) (k .looked .keyed) (omega (arith, first-open k .below)) (s .pre .1 .1 .1)),
+    )
 
 level-for-requires : tie.Need-level-for-requires
-level-for-requires c κs = ((start c .pre .0 .0, c .allowance-of .ensures .1, below c), read-enough (read c) (start c .pre .1 .0))
+level-for-requires c κs = ((start c .pre .0 .0, c .allowance-until .ensures .1, below c), read-enough (read c) (start c .pre .1 .0))
 
 running-order-requires : tie.Need-running-order-requires
 running-order-requires c κs =
-    let a : tie.After-allowance-of = c .before in
+    let a : tie.After-allowance-until = c .before in
     let rest = a .before .rest-at .ensures in (
       start a .pre .0 .0,
       told-task (picked c .read .told),
@@ -111,7 +122,7 @@ chosen-spec =
     returns
     task-in-requires
     rest-at-requires
-    allowance-of-requires
+    allowance-until-requires
     level-for-requires
     running-order-requires
     returns-2)

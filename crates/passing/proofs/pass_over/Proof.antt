@@ -19,12 +19,11 @@ use Rattle.state.specs.Code.{timingIn}
 use Rattle.orders.specs.declared.Choice.{Choice}
 use Rattle.soundness.specs.declared.Tested.{Tested}
 use Rattle.soundness.specs.Code.{Good}
-use Rattle.soundness.proofs.SoundFacts.{runnable, count-some}
+use Rattle.soundness.proofs.SoundFacts.{runnable}
 use Rattle.reclaiming.proofs.Soundness.{sound-state, sound-clock}
 use Rattle.reclaiming.specs.declared.Reply.{Reply}
 use Rattle.orders.specs.Code.{Runnable}
-use Rattle.soundness.proofs.SoundLaws.{tested-good}
-use Rattle.orders.proofs.OrderLaws.{Timed, choose-next, choose-when}
+use Rattle.soundness.proofs.SoundLaws.{tested-good, tested-next}
 use Rattle.pass_questions.specs.Code.{timeQuestions}
 use Rattle.pass_questions.proofs.QuestionSteps.{asked-is}
 use Rattle.passing.proofs.PassLaws.{Passing, Passes, Answers, number-10, number-is, refused, accepts, over-own}
@@ -33,16 +32,16 @@ use Rattle.passing.proofs.pass_over.Tie as tie
 
 -- the places that others are reached from
 abbrev begun : tie.Else1 → tie.Start
-begun c = c .before .before .before .before .before
+begun c = c .before .before .before .before
 
-abbrev sound : tie.After-count-at → tie.Else1
-sound c = c .before .before .before .before .before .before
+abbrev stood : tie.After-pass-number → tie.After-standing
+stood c = c .before .before .before .before
 
-abbrev arrival : tie.After-pass-number → tie.After-next-arrival
-arrival c = c .before .before .before .before
+abbrev sound : tie.After-standing → tie.Else1
+sound c = c .before .before
 
 abbrev tested : tie.After-pass-number → tie.Else1
-tested c = sound (arrival c .before)
+tested c = sound (stood c)
 
 abbrev start : tie.After-pass-number → tie.Start
 start c = begun (tested c)
@@ -69,31 +68,22 @@ rising : (c : tie.Else1) → Rising (speeds c)
 rising c = begun c .pre .table .rising
 
 abbrev found : tie.Else1 → Tested
-found c = c .before .before .test-block .result
+found c = c .before .test-block .result
 
 good : (c : tie.Else1) → Good (speeds c) (bytes c) (found c .keys) (found c .nominal)
 good c =
-    tested-good (speeds c) (bytes c) (found c) (c .before .before .test-block .ensures) (rising c)
+    tested-good (speeds c) (bytes c) (found c) (c .before .test-block .ensures) (rising c)
     (not-false (found c .sound) (c .if1 .left))
 
-timed :
-    (c : tie.After-count-at) →
-    let e : tie.Else1 = sound c in
-    Timed (speeds e) (bytes e) (found e .keys) (c .count-at .result) (c .before .before .before .clock-at .result)
-timed c = record {
-  holds = good (sound c) .holds;
-  some = count-some (speeds (sound c)) (rising (sound c)) (bytes (sound c)) (good (sound c) .sound);
-  keyed = good (sound c) .keyed;
-  same = c .count-at .ensures;
-  clock-is = c .before .before .before .clock-at .ensures;
-}
+-- the ticks to the next arrival
+next : (c : tie.Else1) → found c .next ≡ nextArrival (timingIn (speeds c) (bytes c)) (decode (bytes c) .clock)
+next c =
+    tested-next (speeds c) (bytes c) (found c) (c .before .test-block .ensures)
+    (not-false (found c .sound) (c .if1 .left))
 
--- the ticks to the next arrival, and the first no of the questions
-next :
-    (c : tie.After-next-arrival) →
-    let e : tie.Else1 = sound (c .before) in
-    c .next-arrival .result ≡ nextArrival (timingIn (speeds e) (bytes e)) (decode (bytes e) .clock)
-next c = choose-when (timed (c .before)) (c .next-arrival .result) (c .next-arrival .ensures)
+-- the clock that the pass starts from, and the first no of the questions
+clocked : (c : tie.After-new) → c .new .result .ticks ≡ decode (bytes (sound (c .before .before .before))) .clock
+clocked c = c .new .ensures ∙ c .before .clock-at .ensures
 
 number :
     (c : tie.After-pass-number) →
@@ -103,25 +93,23 @@ number c =
     let e : tie.Else1 = tested c in
     let s : tie.Start = start c in
     let ticks : ℕ = c .before .new .result .ticks in
-    let until : ℕ = arrival c .next-arrival .result in
     c .pass-number .ensures
-    ∙ ap (λ (x : Choice). firstNo (timeQuestions ticks x until (s .args .d) (s .args .finished))) (c .before .before .standing .ensures)
-    ∙ asked-is (speeds e) (decode (bytes e)) ticks until (s .args .d) (s .args .finished)
-    (c .before .new .ensures ∙ timed (arrival c .before) .clock-is) (next (arrival c))
+    ∙ ap (λ (x : Choice). firstNo (timeQuestions ticks x (found e .next) (s .args .d) (s .args .finished))) (stood c .standing .ensures)
+    ∙ asked-is (speeds e) (decode (bytes e)) ticks (found e .next) (s .args .d) (s .args .finished) (clocked (c .before)) (next e)
 
 passing :
     (c : tie.Else2) →
     let e : tie.Else1 = tested (c .before) in
     let s : tie.Start = start (c .before) in
-    Passing (speeds e) (bytes e) (found e .keys) (found e .nominal) (arrival (c .before) .next-arrival .result) (s .args .d) (s .args .finished)
-    (c .before .before .before .standing .result)
+    Passing (speeds e) (bytes e) (found e .keys) (found e .nominal) (found e .next) (s .args .d) (s .args .finished)
+    (stood (c .before) .standing .result)
 passing c = record {
   rising = rising (tested (c .before));
   few = few-levels (owned-fine (start (c .before) .pre));
   stored = owned-stored (start (c .before) .pre);
   good = good (tested (c .before));
-  order = c .before .before .before .standing .ensures;
-  arrival = next (arrival (c .before));
+  order = stood (c .before) .standing .ensures;
+  arrival = next (tested (c .before));
   clear = sym (number (c .before)) ∙ c .if2 .left;
 }
 
@@ -133,26 +121,17 @@ same-length c = search needs
 
 returns : tie.Need-returns
 returns c =
-    let s : tie.Start = c .before .before .before .before .before in
-    let r : Tested = c .before .before .test-block .result in
+    let s : tie.Start = c .before .before .before .before in
+    let r : Tested = c .before .test-block .result in
     answers s
     (refused (table s) (s .args .state .now) (s .args .d) (s .args .finished) 10
-    (number-10 (table s) (s .args .state .now) (s .args .d) (s .args .finished) r (c .before .before .test-block .ensures)
+    (number-10 (table s) (s .args .state .now) (s .args .d) (s .args .finished) r (c .before .test-block .ensures)
     (not-true (r .sound) (c .if1 .taken)))
     (λ e. omega arith))
 
-clock-at-requires : tie.Need-clock-at-requires
-clock-at-requires c κs = good (c .before .before) .holds .size
-
-count-at-requires : tie.Need-count-at-requires
-count-at-requires c κs = good (c .before .before .before .before .before) .holds
-
-next-arrival-requires : tie.Need-next-arrival-requires
-next-arrival-requires c κs = choose-next (timed c)
-
 standing-requires : tie.Need-standing-requires
 standing-requires c κs =
-    let e : tie.Else1 = sound (c .before .before) in
+    let e : tie.Else1 = c .before in
     let table-is = begun e .pre .table in (
       table-is,
       good e .holds,
@@ -160,13 +139,16 @@ standing-requires c κs =
           (runnable (speeds e) (rising e) (decode (bytes e)) (sound-state (speeds e) (bytes e) (good e .sound))),
     )
 
+clock-at-requires : tie.Need-clock-at-requires
+clock-at-requires c κs = good (sound (c .before)) .holds .size
+
 new-requires : tie.Need-new-requires
 new-requires c κs = search needs
 
 pass-number-requires : tie.Need-pass-number-requires
 pass-number-requires c κs =
-    let e : tie.Else1 = sound (c .before .before .before .before) in
-    omega (arith, c .new .ensures, timed (c .before .before .before .before) .clock-is, sound-clock (speeds e) (bytes e) (good e .sound))
+    let e : tie.Else1 = sound (c .before .before .before) in
+    omega (arith, clocked c, sound-clock (speeds e) (bytes e) (good e .sound))
 
 same-length-2 : tie.Need-same-length-2
 same-length-2 c = search needs
@@ -182,7 +164,7 @@ returns-2 c =
 
 passed-requires : tie.Need-passed-requires
 passed-requires c κs =
-    let e : tie.Else2 = c .before .before in
+    let e : tie.Else2 = c .before .before .before in
     let k = passing e in
     ((start (e .before) .pre, k .good), (k .order, (k .arrival, k .clear)))
 
@@ -191,7 +173,7 @@ same-length-3 c = search needs
 
 returns-3 : tie.Need-returns-3
 returns-3 c =
-    let e : tie.Else2 = c .before .before .before .before .before in
+    let e : tie.Else2 = c .before .before .before .before .before .before in
     answers (start (e .before))
     (accepts (passing e) (c .before .before .passed .result) (c .before .before .passed .last .1 .1 .0)
     (c .before .before .passed .ensures .0) (c .before .before .passed .ensures .1))
@@ -203,10 +185,8 @@ pass-over-spec =
     test-block-requires
     same-length
     returns
-    clock-at-requires
-    count-at-requires
-    next-arrival-requires
     standing-requires
+    clock-at-requires
     new-requires
     pass-number-requires
     same-length-2

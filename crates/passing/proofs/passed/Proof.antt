@@ -103,7 +103,7 @@ choose-until-requires c κs =
     let early : tie.Then2 = c .before in
     let k = moved (early .before .before) in (
       (start (early .before .before) .pre .0 .0 .table, after-holds k, after-again k),
-      (after-enough k, (after-kept k (early .if2 .taken), after-next k (early .if2 .taken))),
+      (after-enough k (anew (early .before)), (after-kept k (early .if2 .taken), after-next k (early .if2 .taken))),
     )
 
 same-length-2 : tie.Need-same-length-2
@@ -136,11 +136,12 @@ choose-requires c κs =
     let new : tie.After-renewed = c .before .before in
     let clocked : tie.After-clock-at = new .before in
     let counted : tie.After-count-at = clocked .before in
-    let m : tie.After-slice-known2 = counted .before .before .before .before in
+    let again : tie.Else1 = counted .before .before .before in
+    let m : tie.After-slice-known2 = again .before in
     let k = moved m in (
       (start m .pre .0 .0 .table, after-holds k, after-some k, after-again k),
       (
-        after-enough k,
+        after-enough k (anew again),
         after-keyed k (counted .count-at .result) (clocked .clock-at .result) (counted .count-at .ensures) (clocked .clock-at .ensures)
             (new .renewed .result) (new .renewed .ensures),
       ),

@@ -1,62 +1,33 @@
--- `entries_sound` meets its contract. What is left to test decides.
+-- `entries_sound` meets its contract: every entry is sound and ahead, or the soundness of each is asked alone.
 -- Assumes nothing.
-use Prim.Native.Nat.{_<_, _-_}
-use mathlib.Core.Path.{refl}
-use native.Mathlib.Omega.{arith}
-use borrow.Author.Tests.{not-true, not-false}
-use Rattle.reclaiming.specs.StateBlock.{places}
-use Rattle.sound_parts.proofs.PartLaws.{Testing, entries-again, entries-stop, entries-end}
+use mathlib.Core.List.{List}
+use borrow.Author.Needs.{needs}
+use Rattle.reclaiming.specs.declared.Entry.{Entry}
+use Rattle.reclaiming.specs.StateBlock.{decode}
+use Rattle.sound_parts.proofs.PartLaws.{entries-ahead, entries-behind}
 use Rattle.sound_parts.proofs.entries_sound.Statement.{statement}
 use Rattle.sound_parts.proofs.entries_sound.Tie as tie
 
-abbrev Inv-loop : tie.InvT-loop
-Inv-loop block count speed i₀ i = Testing block count speed i
-
-abbrev μ-loop : tie.MeasureT-loop
-μ-loop block count speed i₀ i = count - i
-
-abbrev start : tie.At-loop Inv-loop μ-loop → tie.Start Inv-loop μ-loop
+abbrev start : tie.After-entries-pass → tie.Start
 start c = c .before .before
 
--- a turn: the task's number is below 16
-turn-few : (c : tie.In-loop Inv-loop μ-loop) → c .before .loop .i < places
-turn-few c = omega (arith, c .loop-test .taken, c .before .loop .inv .same, c .before .loop .inv .holds .few)
+abbrev entries : tie.After-entries-pass → List Entry
+entries c = decode (start c .args .block .now) .entries
 
-loop-holds : tie.Need-loop-holds Inv-loop μ-loop
-loop-holds c = record { holds = c .before .pre .0; same = c .before .pre .1; below = omega arith; decide = refl }
+entries-pass-requires : tie.Need-entries-pass-requires
+entries-pass-requires c κs = search needs
 
-entry-sound-requires : tie.Need-entry-sound-requires Inv-loop μ-loop
-entry-sound-requires c κs = (omega (arith, turn-few c), c .before .loop .inv .holds .size, start (c .before) .pre .2, start (c .before) .pre .3)
+returns : tie.Need-returns
+returns c = entries-ahead (start (c .before) .args .speed) (entries (c .before)) (c .before .entries-pass .ensures) (c .if1 .taken)
 
-returns : tie.Need-returns Inv-loop μ-loop
-returns c =
-    let t : tie.In-loop Inv-loop μ-loop = c .before .before in
-    entries-stop (t .before .loop .inv) (t .loop-test .taken) (c .before .entry-sound .ensures) (not-true _ (c .if1 .taken))
+entries-pass-requires-2 : tie.Need-entries-pass-requires-2
+entries-pass-requires-2 c κs = search needs
 
-add-i : tie.Need-add-i Inv-loop μ-loop
-add-i c = omega (arith, turn-few (c .before .before))
-
-loop-less : tie.Need-loop-less Inv-loop μ-loop
-loop-less c = omega arith
-
-loop-again : tie.Need-loop-again Inv-loop μ-loop
-loop-again c =
-    let t : tie.In-loop Inv-loop μ-loop = c .before .before in
-    entries-again (t .before .loop .inv) (t .loop-test .taken) (c .before .entry-sound .ensures) (not-false _ (c .if1 .left))
-
-returns-2 : tie.Need-returns-2 Inv-loop μ-loop
-returns-2 c = entries-end (c .before .loop .inv) (c .loop-test .left)
+returns-2 : tie.Need-returns-2
+returns-2 c =
+    let first : tie.After-entries-pass = c .before .before in
+    entries-behind (start first .args .speed) (entries first) (first .entries-pass .ensures) (c .before .if1 .left) (c .entries-pass2 .ensures)
 
 pub entries-sound-spec : {M : Type 1} → statement M
 entries-sound-spec =
-    tie.close
-    (tie.spec
-    Inv-loop
-    μ-loop
-    loop-holds
-    entry-sound-requires
-    returns
-    add-i
-    loop-less
-    loop-again
-    returns-2)
+    tie.close (tie.spec entries-pass-requires returns entries-pass-requires-2 returns-2)

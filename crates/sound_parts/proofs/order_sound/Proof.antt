@@ -1,7 +1,7 @@
 -- `order_sound` meets its contract, by each way out.
 -- Assumes nothing.
 use Prim.Native.Nat.{ℕ, _<_}
-use mathlib.Core.Path.{ap, _∙_}
+use mathlib.Core.Path.{refl, ap, _∙_}
 use mathlib.Core.List.{List}
 use native.Mathlib.Omega.{arith}
 use borrow.Author.Needs.{needs}
@@ -14,7 +14,9 @@ use Rattle.reclaiming.specs.Fields.{offsetOf}
 use Rattle.reclaiming.specs.StateBlock.{restIn, headFields, taskField, levelField, decode}
 use Rattle.state.specs.Code.{entryIn}
 use Rattle.state.proofs.BlockLaws.{task-byte, level-byte}
-use Rattle.urgency.proofs.HeadLaws.{Looked, Told, told-task}
+use Rattle.urgency.proofs.HeadLaws.{Looked, Told, first-open, told-task}
+use Rattle.lone.specs.Code.{allowedUntil}
+use Rattle.lone.proofs.LoneLaws.{next-short}
 use Rattle.sound_parts.proofs.PartLaws.{Weighed, not-idle, idle-level, other-task, level-high, level-meets}
 use Rattle.sound_parts.proofs.order_sound.Statement.{statement}
 use Rattle.sound_parts.proofs.order_sound.Tie as tie
@@ -42,7 +44,7 @@ begun c = start (asked (c .before))
 looked : (c : tie.After-most-urgent) → Looked (table (start c)) (block (start c)) (keys (start c)) (start c .args .count) (c .most-urgent .result)
 looked c = record {
   holds = start c .pre .0 .1;
-  keyed = start c .pre .1;
+  keyed = start c .pre .1 .0;
   same = start c .pre .0 .2;
   found = c .most-urgent .ensures;
 }
@@ -60,35 +62,38 @@ runs c =
     let k = told (c .before) in
     record { looked = k .looked; some = k .some; task = omega (arith, c .if3 .left, k .task, task-byte (block (begun c))) }
 
-abbrev fast : tie.After-allowance-of → tie.Else4
-fast c = c .before .before
-
 -- the level that the order names is one of the table's
 level-in : (c : tie.Else4) → getD (block (begun (c .before))) (offsetOf headFields levelField) 0 < begun (c .before) .args .levels
 level-in c = omega (arith, c .if4 .left, begun (c .before) .pre .0 .3)
 
 weighed :
-    (c : tie.After-is-enough) →
-    let a : tie.After-allowance-of = c .before .before in
-    let o : tie.Else3 = fast a .before in
-    Weighed (begun o .args .speeds .now) (begun o .args .levels) (block (begun o)) (keys (begun o)) (begun o .args .count)
-    (asked (o .before) .most-urgent .result) (begun o .args .highest) (a .before .rest-at .result) (a .allowance-of .result) (c .is-enough .result)
+    (c : tie.After-meets-until) →
+    let read : tie.After-rest-at = c .before .before in
+    let o : tie.Else3 = read .before .before in
+    let s : tie.Start = begun o in
+    Weighed (s .args .speeds .now) (s .args .levels) (block s) (keys s) (s .args .count) (asked (o .before) .most-urgent .result) (s .args .highest)
+    (read .rest-at .result) (s .args .next)
+    (allowedUntil (block s) (keys s) (s .args .count) (asked (o .before) .most-urgent .result) (s .args .next)) (c .meets-until .result)
 weighed c =
-    let a : tie.After-allowance-of = c .before .before in
-    let s : tie.Start = begun (fast a .before) in
+    let read : tie.After-rest-at = c .before .before in
+    let fast : tie.Else4 = read .before in
+    let s : tie.Start = begun (fast .before) in
     let b : List ℕ = block s in
+    let best : ℕ = asked (fast .before .before) .most-urgent .result in
     record {
       table = s .pre .0 .0;
       read = record {
-        told = runs (fast a .before);
-        rest-in = a .before .rest-at .ensures .0 ∙ ap (λ (n : ℕ). restIn (entryIn b n)) (task-byte b);
-        allowed-in = a .allowance-of .ensures .0;
+        told = runs (fast .before);
+        rest-in = read .rest-at .ensures .0 ∙ ap (λ (n : ℕ). restIn (entryIn b n)) (task-byte b);
+        arrival = s .pre .1 .1;
+        allowed-in = refl;
       };
       top = s .pre .0 .3;
-      low = omega (arith, fast a .if4 .left, level-byte b);
+      low = omega (arith, fast .if4 .left, level-byte b);
       found-is =
-          c .is-enough .ensures
-          ∙ ap (λ (n : ℕ). leb (timeOf (getD (s .args .speeds .now) n 0) (a .before .rest-at .result)) (a .allowance-of .result)) (level-byte b);
+          c .meets-until .ensures
+          ∙ ap (λ (n : ℕ). leb (timeOf (getD (s .args .speeds .now) n 0) (read .rest-at .result)) (allowedUntil b (keys s) (s .args .count) best (s .args .next)))
+          (level-byte b);
     }
 
 shared-slice-read-task : tie.Need-shared-slice-read-task
@@ -137,22 +142,23 @@ rest-at-requires c κs =
     let k = runs (c .before) in
     (omega (arith, told-task k, task-byte (block (begun (c .before)))), k .looked .holds .size)
 
-allowance-of-requires : tie.Need-allowance-of-requires
-allowance-of-requires c κs =
-    let k = runs (c .before .before) in
-    (omega (arith, k .looked .holds .few, k .looked .same), k .looked .holds .size)
+mul-meets-until : tie.Need-mul-meets-until
+mul-meets-until c = omega (arith, level-in (c .before), begun (c .before .before) .pre .0 .0 .few)
 
-mul-is-enough : tie.Need-mul-is-enough
-mul-is-enough c = omega (arith, level-in (fast c), begun (fast c .before) .pre .0 .0 .few)
+element-copy-out-meets-until : tie.Need-element-copy-out-meets-until
+element-copy-out-meets-until c = omega (arith, level-in (c .before), begun (c .before .before) .pre .0 .0 .few)
 
-element-copy-out-is-enough : tie.Need-element-copy-out-is-enough
-element-copy-out-is-enough c = omega (arith, level-in (fast c), begun (fast c .before) .pre .0 .0 .few)
-
-is-enough-requires : tie.Need-is-enough-requires
-is-enough-requires c κs =
-    let a : tie.After-allowance-of = c .before in
-    let t = begun (fast a .before) .pre .0 .0 in
-    (speed-positive t _ (level-in (fast a)), speed-most t _ (level-in (fast a)), a .allowance-of .ensures .1)
+meets-until-requires : tie.Need-meets-until-requires
+meets-until-requires c κs =
+    let fast : tie.Else4 = c .before .before in
+    let k = runs (fast .before) in
+    let s : tie.Start = begun (fast .before) in (
+      omega (arith, k .looked .holds .few, k .looked .same),
+      k .looked .holds .size,
+      omega (arith, next-short (table s) (block s) (k .looked .keyed) (omega (arith, first-open k .below)) (s .pre .1 .1)),
+      speed-positive (s .pre .0 .0) _ (level-in fast),
+      speed-most (s .pre .0 .0) _ (level-in fast),
+    )
 
 returns-5 : tie.Need-returns-5
 returns-5 c = level-meets (weighed c)
@@ -172,8 +178,7 @@ order-sound-spec =
     returns-3
     returns-4
     rest-at-requires
-    allowance-of-requires
-    mul-is-enough
-    element-copy-out-is-enough
-    is-enough-requires
+    mul-meets-until
+    element-copy-out-meets-until
+    meets-until-requires
     returns-5)

@@ -16,7 +16,8 @@ const REFUSALS: [u32; 18] = [
 
 /// The digests of the examples that were stored before there were fixed ticks, as `sha256sum *.in
 /// *.out` wrote them then. `refused-02` is not among them: its plan was of edition 2, which is
-/// accepted since, and is of edition 3 now.
+/// accepted since, and is of edition 3 now. Nor are those whose listings 02's No. 4 changed: in each a
+/// lone job runs at a lower level since.
 const BEFORE_FIXED_TICKS: &str = "before-fixed-ticks.sha256";
 
 /// The inputs with the listings stored beside them.
@@ -76,9 +77,17 @@ fn edition_1_plans_list_as_before() {
         let with_digest = output.file_name().and_then(|name| name.to_str());
         assert!(names.iter().any(|name| Some(&name[..]) == with_digest));
     }
-    // 17 of them list a run; the others are refused before there is one.
-    assert_eq!((names.len(), inputs.len(), plans), (56, 28, 17));
-    assert!(!names.iter().any(|name| name.starts_with("refused-02")));
+    // 6 of them list a run: `level-0`, below which there is no level, `one-level`, and `refused-11`,
+    // `refused-12`, `refused-14` and `refused-16`, in which no job is ever alone. The others are refused
+    // before there is one.
+    assert_eq!((names.len(), inputs.len(), plans), (34, 17, 6));
+    // Of the 28 inputs that were held so, 02's No. 4 changed the listings of these 11.
+    let levels = (1..=7).map(|level| format!("level-{level}"));
+    let others = ["another-board", "bench", "reclaiming", "refused-13"].map(String::from);
+    for gone in levels.chain(others).chain(["refused-02".into()]) {
+        assert!(examples().join(format!("{gone}.in")).is_file(), "{gone}");
+        assert!(!names.iter().any(|name| name.starts_with(&gone)), "{gone}");
+    }
 }
 
 /// Would catch the example of an edition that is refused turning into one that isn't.
@@ -106,6 +115,29 @@ fn fixed_ticks_are_stored() {
     assert_eq!(read_plan(&levels, &needless[11..]).err(), Some(21));
 }
 
+/// Would catch the example of 02's No. 4 being lost: a lone job that is open past its plain finish after
+/// an accepted pass and after a refused one, and finishes with the arrival.
+#[test]
+fn a_lone_job_is_stored() {
+    let stored = |name: &str| fs::read(examples().join(name)).expect("it is stored");
+    // Task 0 takes 12 ticks at 50 units. At 12 task 1 has 6 plain ticks, and 8 to the next arrival.
+    let listed = text(&stored("lone-job.out"));
+    let wanted = "\
+plan 2 4 20
+0 run 0 4 12
+12 run 1 3 8
+18 run 1 3 2
+refused 14
+19 run 1 3 1
+20 run 0 4 12
+";
+    assert!(listed.starts_with(wanted), "{listed}");
+    let levels = write_levels(&Levels::base());
+    let (tasks, _) = read_plan(&levels, &stored("lone-job.in")[11..22]).unwrap();
+    let worst: Vec<u64> = tasks.iter().map(|task| task.worst).collect();
+    assert_eq!(worst, [600, 300]);
+}
+
 /// Would catch a stored listing that the document doesn't give.
 #[test]
 fn the_simulator_lists_every_example_as_stored() {
@@ -115,12 +147,14 @@ fn the_simulator_lists_every_example_as_stored() {
     }
 }
 
-/// Would catch 01's example being lost or changed: its speeds, its plan and its passes.
+/// Would catch 01's example being lost or changed: its speeds, its plan and its passes. 02, No. 4: "the
+/// line at 14 becomes "14 run 1 6 5", the last two passes become hex 8005 0001, and the idle line
+/// becomes "19 idle 1"".
 #[test]
 fn the_example_of_01_is_stored() {
     let input = fs::read(examples().join("bench.in")).expect("it is stored");
     let passes = [
-        0x80, 0x01, 0x80, 0x07, 0x80, 0x02, 0x80, 0x04, 0x80, 0x04, 0x00, 0x02,
+        0x80, 0x01, 0x80, 0x07, 0x80, 0x02, 0x80, 0x04, 0x80, 0x05, 0x00, 0x01,
     ];
     let levels = write_levels(&Levels::base());
     assert_eq!(input[..11], levels);
@@ -139,8 +173,8 @@ plan 3 7 30
 1 run 1 5 7
 8 run 2 7 2
 10 run 0 7 4
-14 run 1 7 4
-18 idle 2
+14 run 1 6 5
+19 idle 1
 20 run 0 6 5
 ";
     assert_eq!(text(&listed), wanted);

@@ -63,7 +63,7 @@ fn runs_up_to_the_largest_clock() {
         assert!(both.show(&state, 48).is_ok());
         at_the_end += 1;
     }
-    both.saw("runs up to the largest clock", 11_000);
+    both.saw("runs up to the largest clock", 10_000);
     both.wants_editions(&[Call::Start], 30);
     both.wants_inside(20);
     both.wants(Call::Pass, ACCEPTED, 1_000);

@@ -6,7 +6,8 @@ use sim::block::{block_bytes, Edition};
 use sim::levels::Levels;
 use sim::plan::{judge_list, Task, LARGEST_FIXED, LARGEST_PERIOD, LARGEST_WORST};
 use sim::random::blocks::block_of;
-use sim::random::plans::plan_at_level;
+use sim::random::plans::{plan_at_level, plan_at_level_within, SMALL_BASES};
+use sim::random::tables::some_or_base_levels;
 use sim::random::Random;
 
 /// Tasks from pairs of period and worst case, without fixed ticks.
@@ -32,6 +33,19 @@ pub fn task(period: u64, worst: u64, fixed: u64) -> Task {
 /// 01's bench plan.
 pub fn bench_plan() -> Vec<Task> {
     tasks(&[(10, 400), (10, 400), (30, 600)])
+}
+
+/// An accepted plan of any kind, with any speeds.
+pub fn some_plan(random: &mut Random) -> (Levels, Vec<Task>) {
+    let levels = some_or_base_levels(random);
+    let level = random.place(levels.count());
+    let plan = if random.one_in(2) {
+        plan_at_level(random, &levels, level)
+    } else {
+        let base = random.pick(&SMALL_BASES);
+        plan_at_level_within(random, &levels, level, base)
+    };
+    (levels, plan)
 }
 
 /// The tasks as a host hands them over. What 32 bits don't hold becomes the largest that they do,

@@ -1,5 +1,5 @@
 //! The proved library held to the cases of documents 01 and 02 and, call by call, to the simulator.
-//! Over 2,400,000 calls are put to both, with 01's speeds and with those of random boards. What each
+//! Over 3,000,000 calls are put to both, with 01's speeds and with those of random boards. What each
 //! test has seen is printed with `--nocapture`.
 
 mod blocks;
@@ -8,8 +8,10 @@ mod buffers;
 mod clocks;
 mod dispatch;
 mod document;
+mod gaps;
 mod lent;
 mod levels;
+mod lone;
 mod made;
 mod orders;
 mod passes;

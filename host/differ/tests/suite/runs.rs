@@ -1,22 +1,23 @@
 //! Long runs of accepted plans, with fixed ticks and without. After every pass, accepted or refused,
-//! demand 3 is checked on the simulator's two books, which are fed the library's replies and nothing
-//! of the state; and the queue shown must be the one of the plain schedule's book, and what the state
-//! has left of each job what the dispatcher's book has.
+//! demand 3 and what else 02's No. 4 says of a run are checked on the simulator's two books, which are
+//! fed the library's replies and nothing of the state; and the queue shown must be the one of the plain
+//! schedule's book, and what the state has left of each job what the dispatcher's book has.
 
 use crate::both::{Both, Call, ACCEPTED};
 use crate::dispatch::{as_simulated, STATE_BYTES};
+use crate::gaps::{Gaps, Stand};
 use crate::made::bench_plan;
 use crate::view::{queue_bytes, told, View};
 use differ::dispatcher::Order;
 use sim::block::Edition;
-use sim::books::{demand3_holds, ActualBook, PlainBook};
+use sim::books::{demand3_holds, lone_finishes_hold, ActualBook, PlainBook};
 use sim::job::Left;
 use sim::levels::{Levels, MOST_LEVELS};
 use sim::plan::{judge_list, Task};
 use sim::random::blocks::block_of;
 use sim::random::passes::any_pass;
 use sim::random::plans::{full_plan, plan_at_level, plan_at_level_within, SMALL_BASES};
-use sim::random::tables::some_levels;
+use sim::random::tables::{levels_of_count, some_levels};
 use sim::random::Random;
 use sim::state::unpack;
 
@@ -31,6 +32,9 @@ enum Style {
     TickByTick,
     /// Accepted ones, ones around the hold, and ones far off.
     Any,
+    /// The only open job goes on for as long as it can, told in several passes, and now and then for
+    /// longer, which is refused.
+    Lasting,
 }
 
 const STYLES: [Style; 4] = [Style::Worst, Style::Early, Style::TickByTick, Style::Any];
@@ -52,6 +56,7 @@ struct Tally {
     /// Runs of plans with fixed ticks, and of plans without.
     with_fixed: u64,
     without: u64,
+    gaps: Gaps,
 }
 
 impl Tally {
@@ -75,6 +80,8 @@ impl Tally {
 
 struct Run {
     plan: Vec<Task>,
+    /// How many levels there are.
+    levels: usize,
     nominal: u8,
     state: [u8; STATE_BYTES],
     order: Order,
@@ -90,6 +97,7 @@ impl Run {
             .start(&block_of(&plan), &mut state)
             .expect("the plan is an accepted one");
         let run = Run {
+            levels: levels.count(),
             nominal: judge_list(levels, &plan).unwrap().nominal as u8,
             actual: ActualBook::new(levels, &plan, as_simulated(order)),
             plain: PlainBook::new(levels, &plan),
@@ -107,6 +115,9 @@ impl Run {
             Style::Early => view.early_end(random),
             Style::TickByTick => view.one_tick(random),
             Style::Any => any_pass(random, as_simulated(self.order)),
+            Style::Lasting if !view.lone => view.some_pass(random),
+            Style::Lasting if random.one_in(3) => (view.hold() as u32, false),
+            Style::Lasting => view.going_on(random),
         }
     }
 
@@ -123,6 +134,7 @@ impl Run {
             self.note(view, d, finished, order, tally);
             self.order = order;
         }
+        tally.gaps.note(&self.stand(), reply.ok().map(|_| finished));
         self.check(both);
         self.actual.forget_closed();
         self.plain.forget_closed();
@@ -155,9 +167,23 @@ impl Run {
         }
     }
 
+    fn stand(&self) -> Stand<'_> {
+        Stand {
+            plan: &self.plan,
+            levels: self.levels,
+            actual: &self.actual,
+            plain: &self.plain,
+        }
+    }
+
     fn check(&self, both: &mut Both) {
         let demand = demand3_holds(&self.plan, &self.actual, &self.plain);
         assert_eq!(demand, Ok(()), "{:?}", self.plan);
+        // "A lone job that closes after its plain finish closes no later than the first arrival after
+        // that plain finish. At each arrival tick every older open job is still open in the plain
+        // schedule, and all deadlines hold."
+        let finishes = lone_finishes_hold(&self.plan, &self.actual, &self.plain);
+        assert_eq!(finishes, Ok(()), "{:?}", self.plan);
         let open = self.plain.open_jobs();
         let open: Vec<(usize, u64)> = open.iter().map(|job| (job.task, job.left)).collect();
         let shown = both.show(&self.state, 48);
@@ -225,6 +251,7 @@ fn long_runs_at_every_level() {
     assert!(tally.below_nominal > 5_000, "{tally:?}");
     assert!(tally.levels.iter().all(|times| *times > 2_000), "{tally:?}");
     tally.wants_fixed(80, 500, 500, 50);
+    tally.gaps.wants(30);
 }
 
 /// The same where the plain schedule has no tick to spare: would catch a level that is one too low,
@@ -259,6 +286,7 @@ fn long_runs_of_full_plans() {
     assert!(tally.early > 1_000 && tally.interrupted > 100, "{tally:?}");
     assert!(tally.below_nominal > 1_000, "{tally:?}");
     tally.wants_fixed(20, 100, 100, 10);
+    tally.gaps.wants(10);
 }
 
 /// A plan at any level, a full one if told so. Half of them are at the highest, which few tables would
@@ -306,6 +334,7 @@ fn runs_with_any_table() {
     assert!(tally.below_nominal > 3_000, "{tally:?}");
     assert!(tally.levels.iter().all(|times| *times > 500), "{tally:?}");
     tally.wants_fixed(200, 1_000, 1_000, 100);
+    tally.gaps.wants(40);
 }
 
 /// Would catch a table that is mixed up with another one: a state goes on with its own, whatever is
@@ -386,9 +415,60 @@ fn runs_inside_the_fixed_ticks() {
     println!("{tally:?}");
     both.saw("runs inside the fixed ticks", 55_000);
     both.wants(Call::Pass, ACCEPTED, 20_000);
-    both.wants(Call::Pass, 14, 500);
+    both.wants(Call::Pass, 14, 400);
     both.wants_inside(3_000);
     tally.wants_fixed(0, 3_000, 3_000, 500);
+    tally.gaps.wants(4);
+}
+
+/// A plan of one to four tasks, whose jobs are soon alone. Where there is a lower level than the nominal
+/// one, the plain schedule has ticks to spare as often as not.
+fn plan_of_few(random: &mut Random, levels: &Levels) -> Vec<Task> {
+    loop {
+        let count = random.between(1, 4);
+        // 2 and 3 divide each of these.
+        let base = random.pick(&SMALL_BASES[8..]);
+        let most_fixed = random.pick(&[0, base / 12]);
+        let task = |_| {
+            let period = base / random.between(1, 3);
+            let most = levels.speed(levels.top()) * period / count;
+            Task {
+                period,
+                worst: random.between(1, most),
+                fixed: random.between(0, most_fixed),
+            }
+        };
+        let plan: Vec<Task> = (0..count).map(task).collect();
+        match judge_list(levels, &plan) {
+            Ok(judged) if judged.nominal > 0 || levels.count() == 1 => return plan,
+            _ => {}
+        }
+    }
+}
+
+/// The same where a job is often the only open one (02, No. 4), with one to eight levels: would catch
+/// the gap given to a job that has company, taken though 01's allowance is larger, or one tick off; and
+/// a lone job that is open past its plain finish and goes on past the next arrival.
+#[test]
+fn runs_with_lone_jobs() {
+    let mut both = Both::new(&Levels::base());
+    let mut random = Random::new(408);
+    let mut tally = Tally::new();
+    for round in 0..1_600 {
+        let levels = levels_of_count(&mut random, 1 + round % MOST_LEVELS as usize);
+        let plan = plan_of_few(&mut random, &levels);
+        let board = (&levels, &plan[..]);
+        let style = match round / 8 % 8 {
+            0..=3 => STYLES[round / 8 % STYLES.len()],
+            _ => Style::Lasting,
+        };
+        run(&mut both, &mut random, board, style, 80, &mut tally);
+    }
+    println!("{tally:?}");
+    both.saw("runs with lone jobs", 250_000);
+    tally.wants_fixed(400, 500, 500, 30);
+    tally.gaps.wants(200);
+    tally.gaps.wants_of_levels(70);
 }
 
 /// Two to five tasks with much in fixed ticks and little work, periods short and long.

@@ -3,7 +3,7 @@
 
 use crate::both::{Both, Call, ACCEPTED};
 use crate::dispatch::STATE_BYTES;
-use crate::made::bench_plan;
+use crate::made::{bench_plan, some_plan};
 use crate::view::{told, View};
 use sim::dispatch::{choose, sound};
 use sim::job::{time_needed, Left};
@@ -12,7 +12,6 @@ use sim::layout::{speed_of, LEVEL_COUNT, SPEEDS};
 use sim::layout::{CLOCK, COUNT, ENTRIES, ENTRIES_END, FIXED, FIXED_LEFT, HEAD_ZERO, LEVEL, TASK};
 use sim::levels::{Levels, FASTEST, MOST_LEVELS};
 use sim::plan::{judge_list, Task, LARGEST_FIXED};
-use sim::random::plans::{plan_at_level, plan_at_level_within, SMALL_BASES};
 use sim::random::states::{
     forged_state, invented_state, late_state, put_table, reached_state, with_a_table_changed,
 };
@@ -22,7 +21,7 @@ use sim::schedule::allotment;
 use sim::state::{pack, unpack, Entry};
 
 /// Puts a state to passing and showing. Says whether it was taken for a sound one.
-fn put_state(both: &mut Both, random: &mut Random, state: &[u8]) -> bool {
+pub fn put_state(both: &mut Both, random: &mut Random, state: &[u8]) -> bool {
     let (d, finished) = match sound(state) {
         Some(_) if random.one_in(2) => View::of(state).whole_hold(),
         Some(_) => View::of(state).one_tick(random),
@@ -37,14 +36,7 @@ fn put_state(both: &mut Both, random: &mut Random, state: &[u8]) -> bool {
 
 /// Sound states of each kind, from plans of each kind, with any speeds.
 fn some_sound_state(random: &mut Random) -> [u8; STATE_BYTES] {
-    let levels = some_or_base_levels(random);
-    let level = random.place(levels.count());
-    let plan = if random.one_in(2) {
-        plan_at_level(random, &levels, level)
-    } else {
-        let base = random.pick(&SMALL_BASES);
-        plan_at_level_within(random, &levels, level, base)
-    };
+    let (levels, plan) = some_plan(random);
     let passes = random.pick(&[0, 1, 3, 10, 30]);
     match random.below(3) {
         0 => reached_state(random, &levels, &plan, passes).0,
@@ -53,6 +45,21 @@ fn some_sound_state(random: &mut Random) -> [u8; STATE_BYTES] {
             late_state(random, &reached)
         }
         _ => invented_state(random, &levels, &plan),
+    }
+}
+
+/// One of these in which a job of a task with fixed ticks has done a part of its work.
+fn some_begun_state(random: &mut Random) -> [u8; STATE_BYTES] {
+    let begun = |entry: &Entry| {
+        let work = entry.left.work;
+        work > 0 && work < entry.task.worst && entry.task.fixed > 0
+    };
+    loop {
+        let state = some_sound_state(random);
+        let entries = unpack(&state).expect("the state is a sound one").entries;
+        if entries.iter().any(begun) {
+            return state;
+        }
     }
 }
 
@@ -216,8 +223,12 @@ fn every_value_of_fixed_ticks() {
     let mut both = Both::new(&Levels::base());
     let mut random = Random::new(610);
     let mut fixed = FixedSeen::default();
-    for _ in 0..40 {
-        let state = some_sound_state(&mut random);
+    for round in 0..40 {
+        let state = if round % 2 == 0 {
+            some_sound_state(&mut random)
+        } else {
+            some_begun_state(&mut random)
+        };
         let count = COUNT.get(&state) as usize;
         for task in 0..count {
             for field in [FIXED, FIXED_LEFT] {
@@ -264,8 +275,10 @@ fn with_any_left(random: &mut Random, state: &[u8; STATE_BYTES]) -> [u8; STATE_B
     let needed = time_needed(entry.left, nominal);
     let full = allotment(&entry.task, nominal);
     entry.plain_left = random.pick(&[needed.min(full), needed.saturating_sub(1).min(full), full]);
-    // The order that such a state would have, if it is one that can be.
-    if needed <= entry.plain_left {
+    // The order that such a state would have, if it is one that can be: a lone job that was behind its
+    // plain ticks may have got company.
+    let behind = |entry: &Entry| time_needed(entry.left, nominal) > entry.plain_left;
+    if !other.entries.iter().any(behind) {
         other.running = choose(&other);
     }
     pack(&other)

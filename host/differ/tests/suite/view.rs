@@ -16,6 +16,8 @@ pub struct View {
     pub needed: Option<u64>,
     /// How much of it are fixed ticks; none if idle.
     pub fixed: u64,
+    /// Whether exactly one job is open.
+    pub lone: bool,
 }
 
 impl View {
@@ -37,11 +39,13 @@ impl View {
         let fixed = state
             .running
             .map_or(0, |order| state.entries[order.task].left.fixed);
+        let open = state.entries.iter().filter(|entry| entry.left.is_open());
         View {
             clock,
             to_arrival,
             needed,
             fixed,
+            lone: open.count() == 1,
         }
     }
 
@@ -99,7 +103,13 @@ impl View {
         (1, finished)
     }
 
-    /// One of the three above.
+    /// Ticks within the hold, after which the job goes on, but for one that must end with them.
+    pub fn going_on(&self, random: &mut Random) -> (u32, bool) {
+        let d = random.between(1, self.hold());
+        (d as u32, self.needed == Some(d))
+    }
+
+    /// One of the first three above.
     pub fn some_pass(&self, random: &mut Random) -> (u32, bool) {
         match random.below(3) {
             0 => self.whole_hold(),

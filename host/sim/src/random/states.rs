@@ -1,6 +1,7 @@
 //! Random states: reached by runs, invented but sound, and forged.
 
 use super::blocks::block_of;
+use super::lone::{sound_lone_state, with_another_job_open};
 use super::passes::likely_pass;
 use super::tables::{bad_speeds, some_levels};
 use super::Random;
@@ -53,19 +54,17 @@ pub fn late_state(random: &mut Random, block: &[u8; STATE_BYTES]) -> [u8; STATE_
 }
 
 /// A sound state with any clock and any progress of the jobs, most likely one that no run from a
-/// start can reach. The level of its order is anything from the lowest that fits to the nominal.
+/// start can reach. The level of its order is anything from the lowest that fits to the nominal. One
+/// of four has exactly one open job, often one behind its plain ticks (02, No. 4).
 pub fn invented_state(random: &mut Random, levels: &Levels, tasks: &[Task]) -> [u8; STATE_BYTES] {
+    if random.one_in(4) {
+        return sound_lone_state(random, levels, tasks).0;
+    }
     let nominal = judge_list(levels, tasks)
         .expect("the plan is an accepted one")
         .nominal;
-    let clock = match random.below(4) {
-        0 => random.below(1_000),
-        1 => LARGEST_CLOCK - random.below(100),
-        2 => LARGEST_CLOCK - random.below(100_000),
-        _ => random.between(0, LARGEST_CLOCK),
-    };
     let mut state = State {
-        clock,
+        clock: some_clock(random),
         running: None,
         entries: Vec::new(),
         levels: levels.clone(),
@@ -81,6 +80,16 @@ pub fn invented_state(random: &mut Random, levels: &Levels, tasks: &[Task]) -> [
         state.running = Some(running);
     }
     pack(&state)
+}
+
+/// An early clock, one near the largest, or any.
+pub(super) fn some_clock(random: &mut Random) -> u64 {
+    match random.below(4) {
+        0 => random.below(1_000),
+        1 => LARGEST_CLOCK - random.below(100),
+        2 => LARGEST_CLOCK - random.below(100_000),
+        _ => random.between(0, LARGEST_CLOCK),
+    }
 }
 
 /// An entry whose job has come anywhere; one in so many has not ended.
@@ -104,7 +113,7 @@ fn invented_entry(random: &mut Random, task: &Task, nominal: u64, ended: u64) ->
 }
 
 /// Any work and any fixed ticks left, with or without the whole work: soundness asks no more.
-fn invented_left(random: &mut Random, task: &Task) -> Left {
+pub(super) fn invented_left(random: &mut Random, task: &Task) -> Left {
     let fixed = match random.below(3) {
         0 => 0,
         1 => task.fixed,
@@ -119,12 +128,14 @@ fn invented_left(random: &mut Random, task: &Task) -> Left {
 }
 
 /// A sound state with something changed: some bytes, one field moved to an edge, its table of speeds,
-/// or its length. Some of these are sound all the same.
+/// its length, or a job opened that takes from the running one what a lone job may do. Some of these
+/// are sound all the same.
 pub fn forged_state(random: &mut Random, block: &[u8; STATE_BYTES]) -> Vec<u8> {
-    match random.below(10) {
+    match random.below(11) {
         0 => with_another_length(random, block),
         1 | 2 => with_bytes_changed(random, block),
         3 | 4 => with_a_table_changed(random, block).to_vec(),
+        5 => with_another_job_open(random, block).to_vec(),
         _ => with_a_field_changed(random, block),
     }
 }

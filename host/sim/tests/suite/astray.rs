@@ -1,7 +1,7 @@
 //! 01, "Where a scheduler goes astray", bullet by bullet.
 
 use crate::base::{judge_list, time_needed};
-use crate::common::{bench_plan, led, queue, run, tasks, BENCH_PASSES};
+use crate::common::{bench_plan, idle, led, queue, run, tasks, BENCH_PASSES};
 use sim::pass;
 
 #[test]
@@ -40,7 +40,10 @@ fn a_job_that_returns_from_preemption_gets_no_allotment_again() {
 
 #[test]
 fn the_queue_goes_on_while_the_processor_idles() {
-    let (mut state, _) = led(&bench_plan(), &BENCH_PASSES[..5]);
+    // 02, No. 4: the job that runs from 14 on has 5 ticks. Here it ends after 4, so that 2 are left.
+    let early = [&BENCH_PASSES[..4], &[(4, true)]].concat();
+    let (mut state, order) = led(&bench_plan(), &early);
+    assert_eq!(order, idle(2));
     assert_eq!(queue(&state), [(2, 4)]);
     pass(&mut state, 1, false).unwrap();
     assert_eq!(queue(&state), [(2, 3)]);

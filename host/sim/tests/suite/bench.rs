@@ -20,8 +20,10 @@ fn whole(input: &[u8]) -> String {
 
 #[test]
 fn the_whole_listing() {
+    // 02, No. 4: "the line at 14 becomes "14 run 1 6 5", the last two passes become hex 8005 0001,
+    // and the idle line becomes "19 idle 1"".
     let passes = [
-        0x80, 0x01, 0x80, 0x07, 0x80, 0x02, 0x80, 0x04, 0x80, 0x04, 0x00, 0x02,
+        0x80, 0x01, 0x80, 0x07, 0x80, 0x02, 0x80, 0x04, 0x80, 0x05, 0x00, 0x01,
     ];
     let expected = "\
 plan 3 7 30
@@ -29,8 +31,8 @@ plan 3 7 30
 1 run 1 5 7
 8 run 2 7 2
 10 run 0 7 4
-14 run 1 7 4
-18 idle 2
+14 run 1 6 5
+19 idle 1
 20 run 0 6 5
 ";
     assert_eq!(text(&with_passes(&passes)), expected);
@@ -62,11 +64,12 @@ refused 12
 
 #[test]
 fn an_idle_order_that_stays_and_a_finish_while_idle() {
+    // 02, No. 4: the job that runs from 14 on has 5 ticks at level 6. Here it ends after 4.
     let passes = [
         0x80, 0x01, 0x80, 0x07, 0x80, 0x02, 0x80, 0x04, 0x80, 0x04, 0x80, 0x02, 0x00, 0x01, 0x00,
         0x01,
     ];
-    let ending = "18 idle 2\nrefused 13\n19 idle 1\n20 run 0 6 5\n";
+    let ending = "14 run 1 6 5\n18 idle 2\nrefused 13\n19 idle 1\n20 run 0 6 5\n";
     assert!(text(&with_passes(&passes)).ends_with(ending));
 }
 

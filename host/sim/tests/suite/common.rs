@@ -1,7 +1,7 @@
 //! What several tests need.
 
 use crate::base::start;
-use sim::dispatch::{pass, show, Order};
+use sim::dispatch::{pass, show, sound, Order};
 use sim::layout::STATE_BYTES;
 use sim::plan::Task;
 use sim::random::blocks::block_of;
@@ -11,14 +11,14 @@ pub const BENCH_BLOCK: [u8; 15] = [
     0x11, 0x80, 0x05, 0x00, 0x0c, 0x80, 0x00, 0x50, 0x00, 0xc8, 0x00, 0x0f, 0x00, 0x12, 0xc0,
 ];
 
-/// The passes of 01's listing.
+/// The passes of 01's listing, the last two as 02's No. 4 has them.
 pub const BENCH_PASSES: [(u32, bool); 6] = [
     (1, true),
     (7, true),
     (2, true),
     (4, true),
-    (4, true),
-    (2, false),
+    (5, true),
+    (1, false),
 ];
 
 /// Tasks from pairs of period and worst case, without fixed ticks.
@@ -97,4 +97,16 @@ pub fn refuses_show(state: &[u8], length: usize, number: u32) {
     let mut buffer = vec![0xa5; length];
     assert_eq!(show(state, &mut buffer), Err(number));
     assert_eq!(buffer, vec![0xa5; length]);
+}
+
+#[track_caller]
+pub fn unsound(state: &[u8]) {
+    refuses_pass(state, 1, false, 10);
+    refuses_show(state, 48, 10);
+}
+
+#[track_caller]
+pub fn is_sound(state: &[u8]) {
+    assert!(sound(state).is_some());
+    assert_ne!(pass(&mut state.to_vec(), 1, false), Err(10));
 }

@@ -1,7 +1,9 @@
 //! 01, "On each side of the edge", bullet by bullet.
 
 use crate::base::{admission_sum, judge, judge_list, read_plan, write_plan};
-use crate::common::{bench_plan, led, queue, refuses_pass, refuses_show, run, tasks, BENCH_PASSES};
+use crate::common::{
+    bench_plan, idle, led, queue, refuses_pass, refuses_show, run, tasks, BENCH_PASSES,
+};
 use sim::block::{pack_block, Edition};
 use sim::dispatch::{pass, show};
 use sim::plan::Judged;
@@ -77,10 +79,12 @@ fn passes_of_the_bench_plan_at_tick_0() {
 }
 
 #[test]
-fn finishing_while_idle_at_tick_18() {
-    let (state, _) = led(&bench_plan(), &BENCH_PASSES[..5]);
-    refuses_pass(&state, 2, true, 13);
-    assert!(pass(&mut state.clone(), 2, false).is_ok());
+fn finishing_while_idle_at_tick_19() {
+    // 02, No. 4: "01's case of a finish while idle moves there, with 1 tick."
+    let (state, order) = led(&bench_plan(), &BENCH_PASSES[..5]);
+    assert_eq!(order, idle(1));
+    refuses_pass(&state, 1, true, 13);
+    assert!(pass(&mut state.clone(), 1, false).is_ok());
 }
 
 #[test]

@@ -2,9 +2,11 @@
 //! books.
 
 use crate::base::{actual_book, plain_book};
-use crate::common::{fixed_tasks, idle, led, queue, refuses_pass, refuses_show, run, sensor_plan};
+use crate::common::{
+    fixed_tasks, idle, is_sound, led, queue, refuses_pass, run, sensor_plan, unsound,
+};
 use sim::books::demand3_holds;
-use sim::dispatch::{pass, sound};
+use sim::dispatch::pass;
 use sim::job::{left_after, time_needed, Left};
 use sim::layout::STATE_BYTES;
 use sim::random::states::put_table;
@@ -83,10 +85,11 @@ fn an_arrival_in_the_middle_of_the_fixed_ticks() {
     // At 30 it has task 0's deadline and came first.
     assert_eq!(pass(&mut led_on, 5, false), Ok(run(1, 3, 4)));
     assert_eq!(left_in(&led_on, 1), (0, 140));
-    assert_eq!(pass(&mut led_on, 4, true), Ok(run(0, 3, 5)));
-    assert_eq!(pass(&mut led_on, 5, true), Ok(idle(1)));
+    // At 34 task 0 is alone, with 6 ticks to the next arrival (02, No. 4): 2 + 4 of them at 30 units.
+    assert_eq!(pass(&mut led_on, 4, true), Ok(run(0, 2, 6)));
+    assert_eq!(pass(&mut led_on.clone(), 5, true), Ok(idle(1)));
     // At 40 both have all of it again.
-    assert_eq!(pass(&mut led_on, 1, false), Ok(run(0, 3, 5)));
+    assert_eq!(pass(&mut led_on, 6, true), Ok(run(0, 3, 5)));
     assert_eq!(led_on[4..], led(&sensor_plan(), &[]).0[4..]);
 }
 
@@ -147,18 +150,6 @@ fn changed(change: impl Fn(&mut State)) -> [u8; STATE_BYTES] {
     let mut state = unpack(&state).unwrap();
     change(&mut state);
     pack(&state)
-}
-
-#[track_caller]
-fn unsound(state: &[u8]) {
-    refuses_pass(state, 1, false, 10);
-    refuses_show(state, 48, 10);
-}
-
-#[track_caller]
-fn is_sound(state: &[u8]) {
-    assert!(sound(state).is_some());
-    assert_ne!(pass(&mut state.to_vec(), 1, false), Err(10));
 }
 
 #[test]

@@ -2,10 +2,14 @@
 
 use crate::base::{admission_sum, judge, judge_list, read_plan, start, write_plan};
 use sim::dispatch::{pass, show};
+use sim::job::time_needed;
 use sim::layout::STATE_BYTES;
 use sim::levels::Levels;
 use sim::plan::Task;
 use sim::random::blocks::{bench_input, block_of, block_of_no_additions, damaged_block};
+use sim::random::lone::{
+    crowded_state, lone_state, sound_lone_state, with_another_job_open, Crowded, Lone,
+};
 use sim::random::passes::{any_pass, likely_pass};
 use sim::random::plans::{
     edge_count_and_entries, edge_list, full_plan, plan_above_largest_hyperperiod,
@@ -530,4 +534,239 @@ fn states_with_any_table_stay_sound() {
         assert_eq!(sim::state::unpack(&state).unwrap().levels, levels);
     }
     assert_eq!(answers, BTreeSet::from([11, 12, 13, 14, 15]));
+}
+
+/// A plan of any size with any table or 01's.
+fn any_plan(random: &mut Random) -> (Levels, Vec<Task>) {
+    let levels = some_or_base_levels(random);
+    let level = random.place(levels.count());
+    let tasks = match random.below(3) {
+        0 => plan_at_level(random, &levels, level),
+        _ => {
+            let base = random.pick(&SMALL_BASES);
+            plan_at_level_within(random, &levels, level, base)
+        }
+    };
+    (levels, tasks)
+}
+
+/// What a state has to do with 02's No. 4, found the long way.
+struct Told {
+    open: usize,
+    /// Of the running job: time at nominal, plain ticks left, and time at the order's level.
+    nominal_time: u64,
+    plain_left: u64,
+    order_time: u64,
+    gap: u64,
+    /// Whether the order's level meets 01's allowance.
+    meets_base: bool,
+}
+
+fn told(block: &[u8]) -> Told {
+    let state = sim::state::unpack(block).unwrap();
+    let tasks = state.tasks();
+    let judged = sim::plan::judge_list(&state.levels, &tasks).unwrap();
+    let running = state.running.unwrap();
+    let entry = state.entries[running.task];
+    let time_at = |level| time_needed(entry.left, state.levels.speed(level));
+    let deadline = |task: &Task| (state.clock / task.period + 1) * task.period;
+    let urgency = |task: usize| {
+        let due = deadline(&tasks[task]);
+        (due, due - tasks[task].period, task)
+    };
+    let own = urgency(running.task);
+    let at_least_as_urgent = (0..tasks.len()).filter(|task| urgency(*task) <= own);
+    let base: u64 = at_least_as_urgent
+        .map(|task| state.entries[task].plain_left)
+        .sum();
+    Told {
+        open: state.entries.iter().filter(|it| it.left.work > 0).count(),
+        nominal_time: time_at(judged.nominal),
+        plain_left: entry.plain_left,
+        order_time: time_at(running.level),
+        gap: tasks.iter().map(deadline).min().unwrap() - state.clock,
+        meets_base: time_at(running.level) <= base,
+    }
+}
+
+/// The kind of a state with one open job, as its definition has it.
+fn is_of_kind(told: &Told, kind: Lone) -> bool {
+    let behind = told.nominal_time > told.plain_left;
+    let meets_gap = told.order_time <= told.gap;
+    match kind {
+        Lone::Ahead => !behind && told.meets_base,
+        Lone::ByGap => !behind && !told.meets_base && meets_gap,
+        Lone::Behind => behind && told.order_time < told.gap,
+        Lone::AtGap => behind && told.order_time == told.gap,
+        Lone::OverGap => behind && told.order_time == told.gap + 1,
+        Lone::TooSlow => !behind && !told.meets_base && !meets_gap,
+    }
+}
+
+#[test]
+fn lone_states_are_of_the_kind_told() {
+    let mut random = Random::new(19);
+    let mut kinds: BTreeMap<(Lone, bool), u32> = BTreeMap::new();
+    let mut counts = BTreeSet::new();
+    for _ in 0..6_000 {
+        let (levels, tasks) = any_plan(&mut random);
+        let (state, kind) = lone_state(&mut random, &levels, &tasks);
+        let told = told(&state);
+        assert_eq!(told.open, 1);
+        assert!(is_of_kind(&told, kind), "{kind:?} {state:?}");
+        assert_eq!(is_sound(&state), kind.is_sound(), "{kind:?} {state:?}");
+        *kinds.entry((kind, told.meets_base)).or_default() += 1;
+        counts.insert(tasks.len());
+    }
+    // Those that are behind on either side of 01's allowance.
+    assert!(kinds.values().all(|times| *times > 200), "{kinds:?}");
+    assert_eq!(kinds.len(), 9, "{kinds:?}");
+    assert_eq!(counts, (1..=16).collect());
+}
+
+#[test]
+fn sound_lone_states_stay_sound_whatever_is_passed() {
+    let mut random = Random::new(20);
+    let mut answers = BTreeSet::new();
+    let mut kinds: BTreeMap<Lone, u32> = BTreeMap::new();
+    for _ in 0..3_000 {
+        let (levels, tasks) = any_plan(&mut random);
+        let (mut state, kind) = sound_lone_state(&mut random, &levels, &tasks);
+        assert!(is_sound(&state));
+        *kinds.entry(kind).or_default() += 1;
+        lead_on_from(&mut random, &mut state, &mut answers);
+    }
+    assert_eq!(kinds.len(), Lone::SOUND.len());
+    assert!(kinds.values().all(|times| *times > 300), "{kinds:?}");
+    assert_eq!(answers, BTreeSet::from([11, 12, 13, 14, 15]));
+}
+
+/// The same as `lead_on`, with passes near the hold of the state's own order from the first one on.
+fn lead_on_from(random: &mut Random, state: &mut [u8; STATE_BYTES], answers: &mut BTreeSet<u32>) {
+    let told = told(state);
+    let hold = told.order_time.min(told.gap) as u32;
+    for finished in [false, true] {
+        for d in [1, hold.saturating_sub(1), hold] {
+            let mut next = *state;
+            if let Err(number) = pass(&mut next, d, finished) {
+                answers.insert(number);
+                assert_eq!(next, *state);
+            }
+            assert!(is_sound(&next));
+        }
+    }
+    lead_on(random, state, answers);
+}
+
+#[test]
+fn crowded_states_are_not_sound_and_alone_they_would_be() {
+    let mut random = Random::new(21);
+    let mut kinds: BTreeMap<(Crowded, bool), u32> = BTreeMap::new();
+    for _ in 0..3_000 {
+        let (levels, tasks) = any_plan(&mut random);
+        let (block, kind) = match crowded_state(&mut random, &levels, &tasks) {
+            Some(crowded) => crowded,
+            None => continue,
+        };
+        assert!(!is_sound(&block), "{kind:?} {block:?}");
+        let told = told(&block);
+        assert_eq!(told.open, 2);
+        assert!(told.order_time <= told.gap);
+        let behind = told.nominal_time > told.plain_left;
+        assert_eq!(behind, kind == Crowded::Behind);
+        assert!(behind || !told.meets_base);
+        *kinds.entry((kind, told.meets_base)).or_default() += 1;
+        // With the other job ended it is sound.
+        let mut state = sim::state::unpack(&block).unwrap();
+        let running = state.running.unwrap().task;
+        for (task, entry) in state.entries.iter_mut().enumerate() {
+            if task != running {
+                entry.left = sim::job::Left::NOTHING;
+            }
+        }
+        assert!(is_sound(&sim::state::pack(&state)));
+    }
+    assert_eq!(kinds.len(), 3, "{kinds:?}");
+    assert!(kinds.values().all(|times| *times > 150), "{kinds:?}");
+    // A single task is never in company.
+    let one = small_plan_of_one();
+    let levels = Levels::base();
+    assert!((0..20).all(|_| crowded_state(&mut random, &levels, &one).is_none()));
+}
+
+fn small_plan_of_one() -> Vec<Task> {
+    vec![Task {
+        period: 10,
+        worst: 95,
+        fixed: 0,
+    }]
+}
+
+#[test]
+fn invented_and_forged_states_have_lone_jobs_of_every_kind() {
+    let mut random = Random::new(22);
+    let mut invented: BTreeMap<Lone, u32> = BTreeMap::new();
+    let (mut over, mut slower, mut in_company) = (0, 0, 0);
+    for _ in 0..12_000 {
+        let (levels, tasks) = any_plan(&mut random);
+        let block = invented_state(&mut random, &levels, &tasks);
+        assert!(is_sound(&block));
+        let state = sim::state::unpack(&block).unwrap();
+        if state.running.is_none() {
+            continue;
+        }
+        let before = told(&block);
+        let kind = Lone::SOUND
+            .into_iter()
+            .find(|kind| is_of_kind(&before, *kind));
+        if before.open != 1 {
+            continue;
+        }
+        *invented.entry(kind.unwrap()).or_default() += 1;
+        let mut forged = forged_state(&mut random, &block);
+        forged.resize(STATE_BYTES, 0);
+        if is_sound(&forged) || forged[200..] != block[200..] {
+            continue;
+        }
+        // What just isn't sound any more, where what was changed leaves a plan and an order.
+        let after = match sim::state::unpack(&forged) {
+            Some(after) if after.tasks() == tasks && after.running == state.running => {
+                told(&forged)
+            }
+            _ => continue,
+        };
+        over += u32::from(after.open == 1 && is_of_kind(&after, Lone::OverGap));
+        slower += u32::from(after.open == 1 && is_of_kind(&after, Lone::TooSlow));
+        in_company += u32::from(after.open == 2 && after.order_time <= after.gap);
+    }
+    assert_eq!(invented.len(), Lone::SOUND.len(), "{invented:?}");
+    assert!(invented.values().all(|times| *times > 300), "{invented:?}");
+    assert!(
+        over > 20 && slower > 5 && in_company > 60,
+        "{over} {slower} {in_company}"
+    );
+}
+
+#[test]
+fn another_job_is_opened_where_there_is_one() {
+    let mut random = Random::new(23);
+    let (mut opened, mut as_it_was) = (0, 0);
+    for _ in 0..600 {
+        let (levels, tasks) = any_plan(&mut random);
+        let block = invented_state(&mut random, &levels, &tasks);
+        let other = with_another_job_open(&mut random, &block);
+        let open = |block: &[u8]| {
+            let entries = sim::state::unpack(block).unwrap().entries;
+            entries.iter().filter(|it| it.left.work > 0).count()
+        };
+        match open(&other) - open(&block) {
+            0 => {
+                assert_eq!(other, block);
+                as_it_was += 1;
+            }
+            1 => opened += 1,
+            more => panic!("{more} opened"),
+        }
+    }
+    assert!(opened > 100 && as_it_was > 100, "{opened} {as_it_was}");
 }

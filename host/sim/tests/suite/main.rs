@@ -11,6 +11,7 @@ mod fixed_plans;
 mod fixed_ticks;
 mod generators;
 mod level_blocks;
+mod lone;
 mod passes;
 mod refusals;
 mod runs;

@@ -1,8 +1,11 @@
-//! Random runs: plans led through passes, with demand 3, the queue and the order checked after
-//! each against what the books alone say.
+//! Random runs: plans led through passes, with demand 3, what 02's No. 4 says of the finishes, the
+//! queue and the order checked after each against what the books alone say.
 
-use crate::common::queue;
-use sim::books::{demand3_holds, ActualBook, PlainBook};
+use crate::common::{fixed_tasks, queue};
+use sim::books::{
+    demand3_holds, last_finish_past_plain, lone_finishes_hold, past_plain_finish, ActualBook,
+    BookJob, PlainBook,
+};
 use sim::dispatch::{pass, show, start, Order};
 use sim::job::{time_needed, Left};
 use sim::layout::STATE_BYTES;
@@ -11,7 +14,7 @@ use sim::plan::{judge_list, Task};
 use sim::random::blocks::block_of;
 use sim::random::passes::any_pass;
 use sim::random::plans::{full_plan, plan_at_level, plan_at_level_within, SMALL_BASES};
-use sim::random::tables::some_levels;
+use sim::random::tables::{some_levels, some_or_base_levels};
 use sim::random::Random;
 use sim::schedule::urgency;
 use sim::state::unpack;
@@ -34,6 +37,48 @@ struct Tally {
     finished_in_fixed: u64,
     stayed_in_fixed: u64,
     interrupted_in_fixed: u64,
+    lone: LoneTally,
+}
+
+/// What 02's No. 4 is about.
+#[derive(Default, Debug)]
+struct LoneTally {
+    /// New orders for a lone job with more ticks to the next arrival than 01's allowance, and those
+    /// of them at a level that 01's wouldn't have met; with fewer ticks, and with as many.
+    gap_larger: u64,
+    slower: u64,
+    base_larger: u64,
+    both_equal: u64,
+    /// After an accepted and after a refused pass: a job open, and closed in the plain schedule. Its
+    /// time left is exactly the ticks to the next arrival.
+    past_plain: u64,
+    past_plain_refused: u64,
+    exactly: u64,
+    /// Jobs closed after their plain finish, and those closed at the first arrival after it.
+    closed_past_plain: u64,
+    closed_at_arrival: u64,
+    /// Arrival ticks with older open jobs.
+    older_open: u64,
+}
+
+impl LoneTally {
+    /// Each of these at least so many times.
+    #[track_caller]
+    fn wants(&self, times: u64) {
+        let seen = [
+            self.gap_larger,
+            self.slower,
+            self.base_larger,
+            self.both_equal,
+            self.past_plain,
+            self.past_plain_refused,
+            self.exactly,
+            self.closed_past_plain,
+            self.closed_at_arrival,
+            self.older_open,
+        ];
+        assert!(seen.iter().all(|seen| *seen > times), "{self:?}");
+    }
 }
 
 impl Tally {
@@ -49,6 +94,7 @@ impl Tally {
     }
 }
 
+#[derive(Clone)]
 struct Run {
     levels: Levels,
     plan: Vec<Task>,
@@ -81,6 +127,11 @@ impl Run {
     /// One random pass, with everything checked.
     fn step(&mut self, random: &mut Random, tally: &mut Tally) {
         let (d, finished) = any_pass(random, self.order);
+        self.put(d, finished, tally);
+    }
+
+    /// This pass, with everything checked.
+    fn put(&mut self, d: u32, finished: bool, tally: &mut Tally) {
         let before = self.state;
         let reply = pass(&mut self.state, d, finished);
         self.actual.pass(d, finished, reply);
@@ -89,10 +140,12 @@ impl Run {
             Err(_) => {
                 tally.refused += 1;
                 assert_eq!(self.state, before, "a refused pass changed the state");
+                tally.lone.past_plain_refused += u64::from(self.past_plain().is_some());
             }
             Ok(order) => {
                 tally.accepted += 1;
                 self.follow(d, finished, order, tally);
+                self.count_lone(finished, &mut tally.lone);
             }
         }
         self.check_books_and_queue();
@@ -149,13 +202,71 @@ impl Run {
         }
     }
 
-    /// A new order as 01 defines it, from the books and what is left of the jobs.
-    fn new_order(&self) -> Order {
+    /// The job that is open and closed in the plain schedule, if there is one.
+    fn past_plain(&self) -> Option<BookJob> {
+        let past = past_plain_finish(&self.actual, &self.plain);
+        assert!(past.len() <= 1, "{past:?}");
+        past.first().copied()
+    }
+
+    /// What an accepted pass, and the order that came of it, have to do with 02's No. 4.
+    fn count_lone(&self, finished: bool, tally: &mut LoneTally) {
+        let clock = self.actual.clock();
+        if let Some(job) = self.past_plain() {
+            tally.past_plain += 1;
+            let left = self.actual.time_left(&job);
+            tally.exactly += u64::from(left == Some(self.gap()));
+        }
+        let past = last_finish_past_plain(&self.plan, &self.actual, &self.plain);
+        if let (true, Some(past)) = (finished, past) {
+            tally.closed_past_plain += 1;
+            tally.closed_at_arrival += u64::from(past.closed.tick == past.first_arrival);
+        }
+        let open = self.open_jobs();
+        let arrived = open.iter().any(|job| job.arrival == clock);
+        let older = open.iter().any(|job| job.arrival < clock);
+        tally.older_open += u64::from(arrived && older);
+        if let ([job], true) = (&open[..], finished || arrived) {
+            let base = self.base_allowance(job);
+            tally.gap_larger += u64::from(self.gap() > base);
+            tally.base_larger += u64::from(self.gap() < base);
+            tally.both_equal += u64::from(self.gap() == base);
+            tally.slower += u64::from(self.actual.time_left(job) > Some(base));
+        }
+    }
+
+    fn open_jobs(&self) -> Vec<BookJob> {
+        let mut open = self.actual.jobs();
+        open.retain(|job| job.open);
+        open
+    }
+
+    /// The ticks to the next arrival.
+    fn gap(&self) -> u64 {
         let clock = self.actual.clock();
         let to_arrival = |task: &Task| task.period - clock % task.period;
-        let arrival = self.plan.iter().map(to_arrival).min().unwrap();
-        let open = self.actual.jobs().into_iter().filter(|job| job.open);
-        let urgent = open.min_by_key(|job| urgency(&self.plan, job.task, job.arrival));
+        self.plan.iter().map(to_arrival).min().unwrap()
+    }
+
+    /// 01's allowance.
+    fn base_allowance(&self, job: &BookJob) -> u64 {
+        let own = urgency(&self.plan, job.task, job.arrival);
+        let mut allowance = 0;
+        for plain in self.plain.open_jobs() {
+            if urgency(&self.plan, plain.task, plain.arrival) <= own {
+                allowance += plain.left;
+            }
+        }
+        allowance
+    }
+
+    /// A new order as 01 and 02's No. 4 define it, from the books and what is left of the jobs.
+    fn new_order(&self) -> Order {
+        let arrival = self.gap();
+        let open = self.open_jobs();
+        let urgent = open
+            .iter()
+            .min_by_key(|job| urgency(&self.plan, job.task, job.arrival));
         let job = match urgent {
             Some(job) => job,
             None => {
@@ -164,12 +275,11 @@ impl Run {
                 }
             }
         };
-        let own = urgency(&self.plan, job.task, job.arrival);
-        let mut allowance = 0;
-        for plain in self.plain.open_jobs() {
-            if urgency(&self.plan, plain.task, plain.arrival) <= own {
-                allowance += plain.left;
-            }
+        // "if the job is the only open one, its allowance is the larger of 01's and the ticks to the
+        // next arrival."
+        let mut allowance = self.base_allowance(job);
+        if open.len() == 1 && arrival > allowance {
+            allowance = arrival;
         }
         let left = self.left[job.task];
         let needed = |level| time_needed(left, self.levels.speed(level));
@@ -187,6 +297,12 @@ impl Run {
     fn check_books_and_queue(&self) {
         assert_eq!(
             demand3_holds(&self.plan, &self.actual, &self.plain),
+            Ok(()),
+            "{:?}",
+            self.plan
+        );
+        assert_eq!(
+            lone_finishes_hold(&self.plan, &self.actual, &self.plain),
             Ok(()),
             "{:?}",
             self.plan
@@ -277,6 +393,7 @@ fn random_runs_on_small_plans() {
     assert!(tally.below_nominal > 1_000, "{}", tally.below_nominal);
     assert!(tally.idle > 1_000, "{}", tally.idle);
     tally.wants_fixed_ticks(100);
+    tally.lone.wants(100);
 }
 
 #[test]
@@ -309,4 +426,71 @@ fn random_runs_with_random_tables() {
     assert!(tally.interrupted > 100, "{}", tally.interrupted);
     assert!(tally.below_nominal > 500, "{}", tally.below_nominal);
     tally.wants_fixed_ticks(60);
+    tally.lone.wants(50);
+}
+
+/// Plans of one to four tasks, in which a job is often alone; of random tables and 01's.
+#[test]
+fn random_runs_with_lone_jobs() {
+    let mut random = Random::new(2_004);
+    let mut tally = Tally::default();
+    while tally.runs < 3_000 {
+        let levels = some_or_base_levels(&mut random);
+        let level = random.place(levels.count());
+        let base = random.pick(&SMALL_BASES[6..]);
+        let plan = plan_at_level_within(&mut random, &levels, level, base);
+        if plan.len() > 4 {
+            continue;
+        }
+        tally.runs += 1;
+        tally.with_fixed += u64::from(plan.iter().any(|task| task.fixed > 0));
+        let mut run = Run::new(&levels, plan);
+        for _ in 0..60 {
+            run.step(&mut random, &mut tally);
+        }
+    }
+    tally.wants_fixed_ticks(300);
+    tally.lone.wants(500);
+}
+
+/// Every pass that may be accepted, and one refused with 14, up to a tick.
+fn put_every_pass(run: &Run, until: u64, tally: &mut Tally) {
+    if run.actual.clock() >= until {
+        tally.runs += 1;
+        return;
+    }
+    let hold = match run.order {
+        Order::Run { hold, .. } | Order::Idle { hold } => hold,
+    };
+    let finishes = matches!(run.order, Order::Run { .. });
+    for (d, finished) in (1..=hold).flat_map(|d| [(d, false), (d, true)]) {
+        if finished && !finishes {
+            continue;
+        }
+        let mut next = run.clone();
+        next.put(d, finished, tally);
+        if next.actual.clock() > run.actual.clock() {
+            put_every_pass(&next, until, tally);
+        }
+    }
+}
+
+/// Of small plans whose jobs are soon alone, all runs there are through a hyperperiod or more.
+#[test]
+fn every_run_of_small_plans() {
+    let mut tally = Tally::default();
+    let plans: [(&[u64], &[(u64, u64, u64)], u64); 6] = [
+        (&[1, 2], &[(3, 2, 0), (3, 2, 0)], 12),
+        (&[1, 2], &[(2, 1, 0), (6, 4, 0)], 12),
+        (&[1, 2, 3], &[(4, 3, 0), (6, 5, 0)], 12),
+        (&[1, 3], &[(5, 4, 1), (5, 3, 0)], 10),
+        (&[1, 2], &[(4, 2, 0), (4, 2, 0), (8, 2, 0)], 8),
+        (&[2, 3, 5], &[(3, 4, 0), (6, 5, 1)], 12),
+    ];
+    for (speeds, plan, until) in plans {
+        let run = Run::new(&Levels::new(speeds), fixed_tasks(plan));
+        put_every_pass(&run, until, &mut tally);
+    }
+    assert!(tally.runs > 3_000, "{}", tally.runs);
+    tally.lone.wants(100);
 }

@@ -105,7 +105,8 @@ fn a_listing_at_odd_speeds() {
     let input = [&write_levels(&odd())[..], &block_of(&odd_plan()), &passes].concat();
     // At 1 task 1 has 3 and 5 ticks for 56 units, which at 7 are 8 exactly. After 3 of these, 35
     // units are left, and 5 ticks that don't finish them are refused. At 10 and 15 the jobs have
-    // their own 4 and 5 ticks alone.
+    // their own 4 and 5 ticks alone. The 5 ticks to the next arrival (02, No. 4) are no more for the
+    // one, and for the other, which would need 6 at 7 units, too few.
     let expected = "\
 plan 2 1 30
 0 run 0 1 4
@@ -122,15 +123,27 @@ refused 14
 
 #[test]
 fn the_allowance_at_odd_speeds_to_the_unit() {
-    // As above, with a unit more: 57 units need 9 ticks at 7, and still 5 at 13.
-    let over = tasks(&[(10, 40), (15, 57)]);
-    let (_, order) = led(&odd(), &odd_plan(), &[(1, true)]);
+    // As above, with a unit more: 57 units need 9 ticks at 7, and still 5 at 13. A third job is open
+    // beside it, or it would have the 9 ticks to the next arrival (02, No. 4).
+    let exact = tasks(&[(10, 40), (15, 56), (30, 1)]);
+    let over = tasks(&[(10, 40), (15, 57), (30, 1)]);
+    let (_, order) = led(&odd(), &exact, &[(1, true)]);
     assert_eq!(order, run(1, 0, 8));
     let (_, order) = led(&odd(), &over, &[(1, true)]);
     assert_eq!(order, run(1, 1, 5));
     // Ended a tick later, there is one tick less in the queue: 7 for 56 units.
-    let (_, order) = led(&odd(), &odd_plan(), &[(2, true)]);
+    let (_, order) = led(&odd(), &exact, &[(2, true)]);
     assert_eq!(order, run(1, 1, 5));
+}
+
+#[test]
+fn the_gap_at_odd_speeds_to_the_unit() {
+    // 02, No. 4: alone at 1, with 8 plain ticks and 9 to the next arrival. 63 units are 9 ticks at 7,
+    // and 64 are 10; both are 5 at 13.
+    let alone = |worst| led(&odd(), &tasks(&[(10, 40), (15, worst)]), &[(1, true)]).1;
+    assert_eq!(alone(57), run(1, 0, 9));
+    assert_eq!(alone(63), run(1, 0, 9));
+    assert_eq!(alone(64), run(1, 1, 5));
 }
 
 #[test]
@@ -192,8 +205,12 @@ fn speeds_1_and_1000() {
     assert_eq!(order, run(1, 0, 2));
     assert_eq!(pass(&mut state, 1, false), Ok(run(1, 0, 1)));
     assert_eq!(pass(&mut state, 1, true), Ok(idle(1)));
-    // With 3 units left it takes the higher level, and most of its tick is lost.
-    let (mut state, order) = led(&levels, &tasks(&[(4, 2_000), (100, 2_003)]), &passes);
+    // With 3 units left they are more than its 2 plain ticks, but alone it has the 3 to the next
+    // arrival (02, No. 4).
+    let (_, order) = led(&levels, &tasks(&[(4, 2_000), (100, 2_003)]), &passes);
+    assert_eq!(order, run(1, 0, 3));
+    // With 4 units left it takes the higher level, and most of its tick is lost.
+    let (mut state, order) = led(&levels, &tasks(&[(4, 2_000), (100, 2_004)]), &passes);
     assert_eq!(order, run(1, 1, 1));
     assert_eq!(pass(&mut state, 1, false), Err(14));
     assert_eq!(pass(&mut state, 1, true), Ok(idle(2)));

@@ -2,8 +2,8 @@
 
 use super::style::{
     arrival_mark, bar, canonical_bar, colour, deadline_mark, finish_mark, fixed_part, idle_bar,
-    level_height, nominal_line, ordered_box, rectangle, refused_mark, soft_words, text_width,
-    unused_box, words, INK,
+    level_height, nominal_line, ordered_box, past_part, rectangle, refused_mark, soft_words,
+    text_width, unused_box, words, INK,
 };
 use crate::svg::Element;
 use sim::levels::Levels;
@@ -18,11 +18,12 @@ const SCALE: f64 = 24.0;
 /// A sign drawn into a box with this left edge and this middle line, and its meaning.
 type Item = (fn(f64, f64) -> Element, &'static str);
 
-const ITEMS: [Item; 10] = [
+const ITEMS: [Item; 11] = [
     (|x, y| arrival_mark(x + 13.0, y - 4.0), "arrival of a job"),
     (|x, y| deadline_mark(x + 13.0, y + 4.0), "deadline of a job"),
     (|x, y| finish_mark(x + 13.0, y), "the job finished"),
     (hatched, "fixed ticks: as long at every level"),
+    (paler, "past its plain finish (02, No. 4)"),
     (
         |x, y| unused_box(x, y - 6.0, 24.0, 12.0),
         "unused: the job ended so many ticks early",
@@ -45,11 +46,23 @@ const ITEMS: [Item; 10] = [
 
 /// Fixed ticks, on a bar of some level.
 fn hatched(x: f64, y: f64) -> Element {
+    on_a_bar(x, y, |y, wide, high| fixed_part("fixed", x, y, wide, high))
+}
+
+/// The second half of a bar of some level, past the plain finish.
+fn paler(x: f64, y: f64) -> Element {
+    on_a_bar(x, y, |y, wide, high| {
+        past_part("past", x + wide / 2.0, y, wide / 2.0, high)
+    })
+}
+
+/// A bar of some level, with what is drawn over it from its top, width and height.
+fn on_a_bar(x: f64, y: f64, over: impl Fn(f64, f64, f64) -> Element) -> Element {
     let (y, wide, high) = (y - 6.0, 24.0, 12.0);
     let below = rectangle(x, y, wide, high).set("fill", colour(5));
     Element::new("g")
         .with(below.set("stroke", INK))
-        .with(fixed_part("fixed", x, y, wide, high))
+        .with(over(y, wide, high))
 }
 
 /// The legend and its height.

@@ -2,8 +2,8 @@
 
 use super::style::{
     arrival_mark, bar, canonical_bar, colour, deadline_mark, finish_mark, fixed_part, idle_bar,
-    level_height, line, narrow_idle_bar, nominal_line, ordered_box, soft_words, text_width, ticks,
-    unused_box, words, INK, SHADE,
+    level_height, line, narrow_idle_bar, narrow_past_part, nominal_line, ordered_box, past_part,
+    soft_words, text_width, ticks, unused_box, words, INK, SHADE,
 };
 use super::view::View;
 use super::{LEFT, MARGIN};
@@ -184,6 +184,7 @@ impl Row<'_> {
         }
         group.add(drawn);
         self.add_fixed("fixed", stretch.span.first(stretch.fixed), high, group);
+        self.add_past("past", stretch.span.last(stretch.past_plain), high, group);
         let ends_here = stretch.early.is_some() && shown.to == stretch.span.to;
         if ends_here && self.view.scale.has_room_for_finishes() {
             group.add(finish_mark(x + width, self.base - high));
@@ -200,6 +201,23 @@ impl Row<'_> {
                 fixed.from, fixed.to
             );
             let part = fixed_part(class, x, self.base - high, width, high);
+            group.add(part.hint(&hint));
+        }
+    }
+
+    /// The ticks at the end of a bar of this height that come after the job's plain finish.
+    fn add_past(&self, class: &str, past: Span, high: f64, group: &mut Element) {
+        if let Some(shown) = past.within(self.view.window) {
+            let (x, width) = self.place(shown);
+            let hint = format!(
+                "past its plain finish from tick {} to {}, alone up to the next arrival",
+                past.from, past.to
+            );
+            let drawn = match width < CLOSEST_MARKS {
+                true => narrow_past_part,
+                false => past_part,
+            };
+            let part = drawn(class, x, self.base - high, width, high);
             group.add(part.hint(&hint));
         }
     }
@@ -228,6 +246,8 @@ impl Row<'_> {
         group.add(drawn.hint(&order));
         let fixed = run.fixed_left.min(span.ticks());
         self.add_fixed("ordered-fixed", span.first(fixed), high, group);
+        let past = span.ticks().saturating_sub(run.to_plain_finish);
+        self.add_past("ordered-past", span.last(past), high, group);
         self.add_label(
             x,
             width,

@@ -144,6 +144,21 @@ pub fn fixed_part(class: &str, x: f64, y: f64, width: f64, height: f64) -> Eleme
         .set("fill", "url(#fixed-lines)")
 }
 
+/// The ticks of a bar that come after the job's plain finish: the bar's colour paler.
+pub fn narrow_past_part(class: &str, x: f64, y: f64, width: f64, height: f64) -> Element {
+    rectangle(x, y, width, height)
+        .set("class", class)
+        .set("fill", PAPER)
+        .set("fill-opacity", 0.55)
+}
+
+/// The same with a dashed outline, where there is room for one.
+pub fn past_part(class: &str, x: f64, y: f64, width: f64, height: f64) -> Element {
+    narrow_past_part(class, x, y, width, height)
+        .set("stroke", INK)
+        .set("stroke-dasharray", "3 2")
+}
+
 pub fn idle_bar(x: f64, y: f64, width: f64, height: f64) -> Element {
     rectangle(x, y, width, height)
         .set("class", "idle")

@@ -295,6 +295,83 @@ fn a_sensor_in_the_picture() {
     }
 }
 
+/// The example `lone-job`: task 1's job is the only open one from 12 to 20 and from 32 to 39. Its plain
+/// finishes are at 18 and 38.
+const LONE_JOB: &[u8] = include_bytes!("../../../../examples/lone-job.in");
+
+#[test]
+fn what_runs_past_its_plain_finish_is_marked() {
+    let seen = Seen::new(&picture(LONE_JOB, None, None));
+    assert_eq!(
+        seen.bars(2),
+        [
+            (0, 4, 0, 12),
+            (1, 3, 12, 20),
+            (0, 4, 20, 32),
+            (1, 3, 32, 39)
+        ]
+    );
+    assert_eq!(seen.spans("past", "task-1"), [(18, 20), (38, 39)]);
+    assert_eq!(seen.spans("canonical", "task-1"), [(12, 18), (32, 38)]);
+    assert_eq!(seen.spans("past", "task-0"), []);
+    // It lies on its bar, and has the bar's height.
+    for (mark, bar) in seen.all("past", "task-1").zip(seen.all("bar", "task-1")) {
+        assert_eq!(mark.number("y"), bar.number("y"));
+        assert_eq!(mark.number("height"), bar.number("height"));
+        assert_eq!(mark.get("stroke-dasharray"), Some("3 2"));
+    }
+    let texts: Vec<&str> = seen.nodes.iter().map(|node| node.text.as_str()).collect();
+    let hint = "past its plain finish from tick 18 to 20, alone up to the next arrival";
+    assert!(texts.contains(&hint));
+    // Cut by the window, and told as far as it goes.
+    let cut = Seen::new(&picture(LONE_JOB, Some(15), Some(19)));
+    assert_eq!(cut.spans("past", "task-1"), [(18, 19)]);
+    let before = Seen::new(&picture(LONE_JOB, Some(0), Some(18)));
+    assert_eq!(before.spans("past", "task-1"), []);
+}
+
+#[test]
+fn what_is_ordered_past_its_plain_finish_is_marked() {
+    // The same up to the passes at 12, at 18 and at 19: the order goes on to 20.
+    let ordered = |passes: usize| {
+        let seen = Seen::new(&picture(&LONE_JOB[..22 + 2 * passes], None, None));
+        (
+            seen.spans("ordered", "task-1"),
+            seen.spans("ordered-past", "task-1"),
+            seen.spans("past", "task-1"),
+        )
+    };
+    assert_eq!(ordered(0), (vec![], vec![], vec![]));
+    assert_eq!(ordered(1), (vec![(12, 20)], vec![(18, 20)], vec![]));
+    assert_eq!(ordered(2), (vec![(18, 20)], vec![(18, 20)], vec![]));
+    // The third is refused.
+    assert_eq!(ordered(3), ordered(2));
+    assert_eq!(ordered(4), (vec![(19, 20)], vec![(19, 20)], vec![(18, 19)]));
+    assert_eq!(ordered(5), (vec![], vec![], vec![(18, 20)]));
+}
+
+#[test]
+fn nothing_is_marked_where_all_ends_by_its_plain_finish() {
+    // 01's own passes up to 14, where the first lone job begins; and a sensor that is never alone.
+    let to_14 = &EXAMPLE[..EXAMPLE.len() - 4];
+    for input in [to_14, &sensor_with(&[0x80, 4, 0, 6, 0x80, 1])] {
+        let run = follow(input).unwrap();
+        let seen = Seen::new(&drawn(&run, None, Some(run.clock)));
+        for task in 0..run.tasks.len() {
+            let part = format!("task-{task}");
+            assert_eq!(seen.spans("past", &part), []);
+            assert_eq!(seen.spans("ordered-past", &part), []);
+        }
+        // The legend tells the sign all the same.
+        assert_eq!(seen.all("past", "legend").count(), 1);
+        let meaning = "past its plain finish (02, No. 4)";
+        assert!(seen.nodes.iter().any(|node| node.text == meaning));
+    }
+    // The whole example has one tick of it, from 18 to 19.
+    let seen = Seen::new(&picture(&EXAMPLE, None, Some(30)));
+    assert_eq!(seen.spans("past", "task-1"), [(18, 19)]);
+}
+
 /// The tick of a triangle, from the first point of its path.
 fn mark_tick(seen: &Seen, node: &Node) -> u64 {
     let path = node.get("d").unwrap().trim_start_matches('M');
@@ -336,9 +413,9 @@ fn the_example_has_its_early_ends_and_its_last_order() {
 
 #[test]
 fn an_idle_order_stands_in_the_idle_row() {
-    // The example without its last pass.
+    // The example without its last pass: idle from 19 on, as 02's No. 4 has it.
     let seen = Seen::new(&picture(&EXAMPLE[..EXAMPLE.len() - 2], None, None));
-    assert_eq!(seen.spans("ordered", "idle-row"), [(18, 20)]);
+    assert_eq!(seen.spans("ordered", "idle-row"), [(19, 20)]);
     assert_eq!(seen.spans("idle", "idle-row"), []);
 }
 

@@ -4,7 +4,8 @@ use crate::common::{any_run, with_levels, EXAMPLE, LEVELS_END, PLAN_END};
 use crate::told::{told, Ran};
 use sim::layout::STATE_BYTES;
 use sim::random::Random;
-use sim::{start, Order};
+use sim::schedule::PlainJob;
+use sim::{start, Order, PlainBook};
 use tools::run::{follow, Refusal, Run, Span, Stretch};
 
 fn ran(stretch: &Stretch) -> Ran {
@@ -53,7 +54,10 @@ fn the_example() {
     agrees(&run, &EXAMPLE);
     let early: Vec<Option<u64>> = run.stretches.iter().map(|stretch| stretch.early).collect();
     assert_eq!(early, [Some(3), Some(0), Some(4), Some(0), Some(0)]);
-    assert_eq!(run.idle, [Span { from: 18, to: 20 }]);
+    // 02, No. 4: the last job is alone, and takes until 19. Its plain finish is at 18.
+    assert_eq!(run.idle, [Span { from: 19, to: 20 }]);
+    let past: Vec<u64> = run.stretches.iter().map(|it| it.past_plain).collect();
+    assert_eq!(past, [0, 0, 0, 0, 1]);
     assert_eq!((run.clock, run.end_of_order(), run.accepted), (20, 25, 6));
     let order = Order::Run {
         task: 0,
@@ -68,6 +72,48 @@ fn jobs_are_named_by_their_arrival() {
     let run = follow(&EXAMPLE).unwrap();
     let jobs: Vec<(usize, u64)> = run.stretches.iter().map(|s| (s.task, s.arrival)).collect();
     assert_eq!(jobs, [(0, 0), (1, 0), (2, 0), (0, 10), (1, 10)]);
+}
+
+/// For each stretch the ticks of it that come after the finish of its job in the plain schedule, which
+/// is kept tick by tick.
+fn past_plain(run: &Run) -> Vec<u64> {
+    let mut book = PlainBook::new(&run.levels, &run.tasks);
+    let mut past = vec![0; run.stretches.len()];
+    for tick in 0..run.clock {
+        for (place, stretch) in run.stretches.iter().enumerate() {
+            let runs = (stretch.span.from..stretch.span.to).contains(&tick);
+            let is_open =
+                |job: &PlainJob| (job.task, job.arrival) == (stretch.task, stretch.arrival);
+            if runs && !book.open_jobs().iter().any(is_open) {
+                past[place] += 1;
+            }
+        }
+        book.pass(1, Ok(Order::Idle { hold: 1 }));
+        book.forget_closed();
+    }
+    past
+}
+
+#[test]
+fn ticks_past_the_plain_finish_are_those_of_the_book() {
+    let mut random = Random::new(13);
+    let (mut some, mut all, mut none) = (0, 0, 0);
+    for _ in 0..500 {
+        let run = follow(&any_run(&mut random, 40)).unwrap();
+        let told: Vec<u64> = run.stretches.iter().map(|it| it.past_plain).collect();
+        assert_eq!(told, past_plain(&run));
+        for stretch in &run.stretches {
+            let part = stretch.past_plain;
+            some += u32::from(part > 0 && part < stretch.span.ticks());
+            all += u32::from(part == stretch.span.ticks());
+            none += u32::from(part == 0);
+        }
+    }
+    // A stretch begins before the plain finish: the order in it was chosen with plain ticks left.
+    assert!(
+        some > 200 && all == 0 && none > 2_000,
+        "{some} {all} {none}"
+    );
 }
 
 /// An early end never reaches past the deadline, so the picture's boxes can't overlap.

@@ -1,4 +1,4 @@
--- `entry_sound` meets its contract, by each way out.
+-- `entry_passes` meets its contract, by each way out.
 -- Assumes nothing.
 use Prim.Native.Nat.{_<_}
 use mathlib.Core.Path.{sym, subst, ap, _∙_}
@@ -7,9 +7,9 @@ use borrow.Author.Needs.{needs}
 use borrow.Author.Tests.{not-true, not-false}
 use Rattle.plan.specs.declared.Rest.{Rest}
 use Rattle.plan.specs.Times.{whole}
-use Rattle.sound_parts.proofs.PartLaws.{Compared, Measured, rest-high, remaining-high, remaining-last}
-use Rattle.sound_parts.proofs.entry_sound.Statement.{statement}
-use Rattle.sound_parts.proofs.entry_sound.Tie as tie
+use Rattle.sound_parts.proofs.PartLaws.{Compared, Measured, rest-high, remaining-high, not-asked, remaining-last}
+use Rattle.sound_parts.proofs.entry_passes.Statement.{statement}
+use Rattle.sound_parts.proofs.entry_passes.Tie as tie
 
 abbrev start : tie.After-whole-of → tie.Start
 start c = c .before .before .before .before
@@ -17,7 +17,7 @@ start c = c .before .before .before .before
 -- what is read, before the first test and past it
 compared :
     (c : tie.After-whole-of) →
-    Compared (start c .args .block .now) (start c .args .i) (start c .args .speed) (c .before .before .rest-at .result) (c .whole-of .result)
+    Compared (start c .args .block .now) (start c .args .i) (start c .args .speed) (start c .args .ahead) (c .before .before .rest-at .result) (c .whole-of .result)
 compared c = record {
   rest-in = c .before .before .rest-at .ensures .0;
   whole-in = c .whole-of .ensures ∙ ap whole (c .before .task-at .ensures .0);
@@ -29,7 +29,7 @@ read c = c .before .before .before .before
 measured :
     (c : tie.After-is-within) →
     let w : tie.After-whole-of = read c in
-    Measured (start w .args .block .now) (start w .args .i) (start w .args .speed) (w .before .before .rest-at .result) (w .whole-of .result)
+    Measured (start w .args .block .now) (start w .args .i) (start w .args .speed) (start w .args .ahead) (w .before .before .rest-at .result) (w .whole-of .result)
     (c .before .remaining-at .result) (c .is-within .result)
 measured c = record {
   compared = compared (read c);
@@ -45,7 +45,12 @@ returns-2 : tie.Need-returns-2
 returns-2 c = remaining-high (measured (c .before)) (not-true _ (c .if2 .taken))
 
 returns-3 : tie.Need-returns-3
-returns-3 c = remaining-last (measured (c .before .before)) (not-false _ (c .before .if2 .left)) (c .is-enough .ensures)
+returns-3 c = not-asked (measured (c .before .before)) (not-false _ (c .before .if2 .left)) (not-true _ (c .if3 .taken))
+
+returns-4 : tie.Need-returns-4
+returns-4 c =
+    let asked : tie.Else3 = c .before in
+    remaining-last (measured (asked .before .before)) (not-false _ (asked .before .if2 .left)) (not-false _ (asked .if3 .left)) (c .is-enough .ensures)
 
 rest-at-requires : tie.Need-rest-at-requires
 rest-at-requires c κs = search needs
@@ -75,11 +80,12 @@ is-within-requires c κs =
 
 is-enough-requires : tie.Need-is-enough-requires
 is-enough-requires c κs =
-    let s : tie.Start = start (read (c .before)) in
-    (s .pre .2, s .pre .3, omega (arith, c .before .before .remaining-at .ensures .1))
+    let fits : tie.After-is-within = c .before .before in
+    let s : tie.Start = start (read fits) in
+    (s .pre .2, s .pre .3, omega (arith, fits .before .remaining-at .ensures .1))
 
-pub entry-sound-spec : {M : Type 1} → statement M
-entry-sound-spec =
+pub entry-passes-spec : {M : Type 1} → statement M
+entry-passes-spec =
     tie.close
     (tie.spec
     rest-at-requires
@@ -90,5 +96,6 @@ entry-sound-spec =
     remaining-at-requires
     is-within-requires
     returns-2
+    returns-3
     is-enough-requires
-    returns-3)
+    returns-4)
