@@ -80,7 +80,8 @@ fn entries_pass(block: &[u8], count: usize, speed: u32, ahead: bool) -> bool
     true
 }
 
-// Whether every task's entry is sound and, if so, whether every one is ahead, at the nominal speed. Both at once first: that is the rule.
+// Whether every task's entry is sound and, if so, whether every one is ahead, at the nominal speed. Both are asked at once first, since most
+// states pass both.
 pub fn entries_sound(block: &[u8], count: usize, speed: u32) -> Entries
     requires { ⌜ Holds (now block) × (count ≡ stateCount (now block)) × (0 < speed) × (speed ≤ 1000) ⌝ }
     ensures { λ r. ⌜ r ≡ entriesTested speed (decode (now (block .entry)) .entries) ⌝ }

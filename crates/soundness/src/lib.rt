@@ -66,7 +66,7 @@ fn not_sound() -> Tested
     }
 }
 
-// Whether a state keeps up: every job is ahead, or the one that runs is the only open one and can be done before the next arrival.
+// Whether a state keeps up: every job is ahead, or the one that runs is the only open one and can be done by the next arrival.
 fn keeps_up(
     speeds: &[u32; 8],
     levels: usize,
