@@ -21,18 +21,16 @@ use Rattle.levels.proofs.Tables.{levels-are, speed-is}
 use Rattle.arith.proofs.Searches.{first-le, first-after}
 use Rattle.schedule.specs.PlainSchedule.{Timing, Pending}
 use Rattle.orders.specs.declared.Choice.{Choice}
-use Rattle.reclaiming.specs.declared.Reply.{Reply}
 use Rattle.reclaiming.specs.declared.Reply.the-variants as reply
-use Rattle.reclaiming.specs.StateBlock.{State, remainingOf, restIn, restOf, encode, decode, taskField, levelField, stateCount, places}
+use Rattle.reclaiming.specs.StateBlock.{State, remainingOf, restIn, restOf, decode, stateCount, places}
 use Rattle.reclaiming.specs.Orders.{nextArrival, allowance, lowestLevel, runningTime, holdOf, withOrder, orderFor}
 use Rattle.arith.specs.Ranges.{leastTo}
-use Rattle.state.specs.Code.{Holds, entryIn, headStored, timingIn}
+use Rattle.state.specs.Code.{Holds, entryIn, timingIn}
 use Rattle.urgency.specs.Code.{Keyed, noKey, deadlineIn}
-use Rattle.orders.specs.Code.{choiceOf, runOf, chosenIn, chosenReply, holdBy, orderOf, Runnable, Enough}
-use Rattle.reclaiming.proofs.PassedStates.{choose-clock, choose-entries, choose-speeds}
+use Rattle.orders.specs.Code.{choiceOf, runOf, chosenIn, holdBy, orderOf, Runnable, Enough}
 use Rattle.reclaiming.proofs.Allowances.{allowance-is}
 use Rattle.reclaiming.proofs.Lone.{allowance-least}
-use Rattle.state.proofs.BlockLaws.{count-in, store-order}
+use Rattle.state.proofs.BlockLaws.{count-in}
 use Rattle.urgency.proofs.KeyLaws as keys
 use Rattle.urgency.proofs.HeadLaws.{rest-is, Looked, none-open, Head, first-open, told-task}
 use Rattle.lone.proofs.LoneLaws.{Read, read-below, read-rest, read-allowed}
@@ -234,39 +232,3 @@ module _ {speeds b l : List ℕ} {count clock : ℕ} (k : Timed speeds b l count
       n
       ∙ ap₂ (λ (x y : ℕ). deadlineIn (leastTo x (λ i. getD l i 0)) - y) tasks-are (k .clock-is)
       ∙ keys.next-is (timingIn speeds b) (decode b .clock) l (k .keyed) (omega (arith, tasks-are, k .same, k .some))
-
--- an order that is chosen in a block, where the next arrival is so many ticks away
-pub record Chosen (speeds b : List ℕ) (next : ℕ) (c : Choice) : Type 0 where
-  pub back : encode (decode b) ≡ b
-  pub arrival : next ≡ nextArrival (timingIn speeds b) (decode b .clock)
-  pub choice : c ≡ choiceOf speeds (chosenIn speeds b)
-  pub small : (c .task < 256) × (c .level < 256)
-
-module _ {speeds b : List ℕ} {next : ℕ} {c : Choice} (k : Chosen speeds b next c) where
-  abbrev N : State
-  N = chosenIn speeds b
-
-  -- choosing leaves the clock, the entries and the speeds
-  order-only : withOrder (decode b) (N .task) (N .level) ≡ N
-  order-only = λ i. record {
-    clock = sym (choose-clock speeds (timingIn speeds b) (decode b)) i;
-    task = N .task;
-    level = N .level;
-    entries = sym (choose-entries speeds (timingIn speeds b) (decode b)) i;
-    speeds = sym (choose-speeds speeds (timingIn speeds b) (decode b)) i;
-  }
-
-  pub choose-stored : {m : List ℕ} → m ≡ headStored (headStored b taskField (c .task)) levelField (c .level) → m ≡ encode N
-  choose-stored e =
-      e
-      ∙ ap (λ (x : List ℕ). headStored (headStored x taskField (c .task)) levelField (c .level)) (sym (k .back))
-      ∙ store-order (decode b) (c .task) (c .level)
-      ∙ ap encode (ap (λ (x : Choice). withOrder (decode b) (x .task) (x .level)) (k .choice) ∙ order-only)
-
-  next-is : next ≡ nextArrival (timingIn speeds b) (N .clock)
-  next-is = k .arrival ∙ sym (ap (nextArrival (timingIn speeds b)) (choose-clock speeds (timingIn speeds b) (decode b)))
-
-  pub choose-reply : {hold : ℕ} {r : Reply} → hold ≡ holdBy c next → r ≡ orderOf c hold → r ≡ chosenReply speeds b
-  choose-reply h e =
-      e
-      ∙ ap₂ orderOf (k .choice) (h ∙ ap (λ (x : Choice). holdBy x next) (k .choice) ∙ hold-is speeds (timingIn speeds b) N next next-is)

@@ -1,8 +1,8 @@
 // A pass: whether it is accepted, and what it makes of a state, in its bytes.
+use choosing::choose;
+use choosing::choose_until;
 use clock::Clock;
 use orders::Choice;
-use orders::choose;
-use orders::choose_until;
 use orders::hold_of;
 use orders::order_of;
 use orders::standing;

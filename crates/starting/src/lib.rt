@@ -1,6 +1,6 @@
 // Starting: a state in which every task of a plan has a new job, with an order chosen in it.
+use choosing::choose;
 use levels::read_levels;
-use orders::choose;
 use plan::Load;
 use plan::Plan;
 use plan::Verdict;

@@ -6,8 +6,8 @@ use Prim.Native.Nat.{ℕ}
 use borrow.Author.Needs.{needs}
 use Rattle.reclaiming.specs.StateBlock.{levelField}
 use Rattle.state.specs.Code.{headStored}
-use Rattle.orders.proofs.put_order.Statement.{statement}
-use Rattle.orders.proofs.put_order.Tie as tie
+use Rattle.choosing.proofs.put_order.Statement.{statement}
+use Rattle.choosing.proofs.put_order.Tie as tie
 
 put-number-requires : tie.Need-put-number-requires
 put-number-requires c κs = search needs

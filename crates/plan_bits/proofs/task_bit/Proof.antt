@@ -7,9 +7,9 @@ use Rattle.arith.proofs.Loops.{length-mapped}
 use Rattle.plan.specs.Blocks.{taskWidth}
 use Rattle.plan.proofs.BlockBits.{width-least}
 use Rattle.ranges.proofs.TaskRanges.{Held}
-use Rattle.plan_writing.proofs.WriteLaws.{AtTask, at-task, rest-below, bit-past, bit-period, bit-worst, bit-fixed, bit-spare}
-use Rattle.plan_writing.proofs.task_bit.Statement.{statement}
-use Rattle.plan_writing.proofs.task_bit.Tie as tie
+use Rattle.plan_bits.proofs.PutLaws.{AtTask, at-task, rest-below, bit-past, bit-period, bit-worst, bit-fixed, bit-spare}
+use Rattle.plan_bits.proofs.task_bit.Statement.{statement}
+use Rattle.plan_bits.proofs.task_bit.Tie as tie
 
 plan : (c : tie.Start) → Held (c .args .t1)
 plan c = record { places = search (length-mapped, needs); most = c .pre .0 }

@@ -2,9 +2,9 @@
 -- Assumes nothing.
 use borrow.Author.Needs.{needs}
 use Rattle.levels.specs.Code.{loaded}
 use Rattle.orders.proofs.OrderLaws.{Timed, choose-next, choose-when}
-use Rattle.orders.proofs.choose.Statement.{statement}
-use Rattle.orders.proofs.choose.Tie as tie
+use Rattle.choosing.proofs.choose.Statement.{statement}
+use Rattle.choosing.proofs.choose.Tie as tie
 
 abbrev counted : tie.After-clock-at → tie.After-count-at
 counted c = c .before .before

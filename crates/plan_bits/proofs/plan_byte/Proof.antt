@@ -6,8 +6,8 @@ use borrow.Author.Needs.{needs}
 use Rattle.arith.proofs.DigitLaws.{ReadTo, read-more, read-cap, read-all}
 use Rattle.plan.specs.Blocks.{tasksOf, planBits}
 use Rattle.plan.proofs.BlockBits.{planBits-below}
-use Rattle.plan_writing.proofs.plan_byte.Statement.{statement}
-use Rattle.plan_writing.proofs.plan_byte.Tie as tie
+use Rattle.plan_bits.proofs.plan_byte.Statement.{statement}
+use Rattle.plan_bits.proofs.plan_byte.Tie as tie
 
 abbrev Inv-loop : tie.InvT-loop
 Inv-loop p edition j acc₀ i₀ acc i = (i ≤ 8) × ReadTo 2 (planBits edition (tasksOf p)) (8 * j) acc i

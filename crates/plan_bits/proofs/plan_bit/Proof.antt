@@ -4,9 +4,9 @@ use borrow.Author.Needs.{needs}
 use Rattle.plan.specs.Blocks.{tasksOf}
 use Rattle.arith.proofs.Loops.{length-mapped}
 use Rattle.ranges.proofs.TaskRanges.{Held}
-use Rattle.plan_writing.proofs.WriteLaws.{bit-edition, bit-count}
-use Rattle.plan_writing.proofs.plan_bit.Statement.{statement}
-use Rattle.plan_writing.proofs.plan_bit.Tie as tie
+use Rattle.plan_bits.proofs.PutLaws.{bit-edition, bit-count}
+use Rattle.plan_bits.proofs.plan_bit.Statement.{statement}
+use Rattle.plan_bits.proofs.plan_bit.Tie as tie
 
 plan : (c : tie.Start) → Held (c .args .p)
 plan c = record { places = search (length-mapped, needs); most = c .pre .0 }

@@ -2,9 +2,9 @@
 -- Assumes nothing.
 use borrow.Author.Needs.{needs}
 use Rattle.levels.specs.Code.{loaded}
-use Rattle.orders.proofs.OrderLaws.{Chosen, choose-stored, choose-reply}
-use Rattle.orders.proofs.choose_until.Statement.{statement}
-use Rattle.orders.proofs.choose_until.Tie as tie
+use Rattle.choosing.proofs.ChoosingLaws.{Chosen, choose-stored, choose-reply}
+use Rattle.choosing.proofs.choose_until.Statement.{statement}
+use Rattle.choosing.proofs.choose_until.Tie as tie
 
 abbrev start : tie.After-chosen → tie.Start
 start c = c .before .before .before .before

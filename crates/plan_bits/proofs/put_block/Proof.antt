@@ -9,9 +9,9 @@ use Rattle.plan.specs.Blocks.{tasksOf, planBlock}
 use Rattle.arith.proofs.Loops.{length-mapped}
 use Rattle.plan.proofs.BlockBits.{blockLength-most}
 use Rattle.ranges.proofs.TaskRanges.{Held}
-use Rattle.plan_writing.proofs.WriteLaws.{Stored, planBlock-length, planBlock-byte, stored-none, stored-more, stored-all}
-use Rattle.plan_writing.proofs.put_block.Statement.{statement}
-use Rattle.plan_writing.proofs.put_block.Tie as tie
+use Rattle.plan_bits.proofs.PutLaws.{Stored, planBlock-length, planBlock-byte, stored-none, stored-more, stored-all}
+use Rattle.plan_bits.proofs.put_block.Statement.{statement}
+use Rattle.plan_bits.proofs.put_block.Tie as tie
 
 abbrev Inv-loop : tie.InvT-loop
 Inv-loop p edition buffer₀ n j₀ buffer j = Stored (planBlock (tasksOf p)) buffer₀ buffer j
