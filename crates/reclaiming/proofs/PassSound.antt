@@ -199,7 +199,7 @@ module _ (speeds : List ℕ) (rising : Rising speeds) (ts : List Task) (plan : F
     none-left : ((i : ℕ) → i < length ts → workedOf speeds s d finished i .work ≡ 0) → Ahead speeds ts moved
     none-left z = goes-ahead (λ i h. omega (arith, worked-none speeds rising ts plan s fine d finished pass i h (z i h)))
 
-    -- where an order is chosen anew every task is ahead, also behind a gap: the lone job finished, or there was none
+    -- where an order is chosen anew every task is ahead, after a gap too: the lone job finished, or there was none
     pub anew-ahead : anew ≡ true → Ahead speeds ts moved
     anew-ahead e = ⊎-elim (λ k. goes-ahead (stays-ahead speeds rising ts plan s fine d finished pass k)) in-gap (paced speeds ts s fine)
       where

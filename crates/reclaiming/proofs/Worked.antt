@@ -1,5 +1,5 @@
 -- A pass keeps the dispatcher ahead of the plain schedule: after it, each task's work left needs no more than its plain ticks left. Only a
--- lone job may be behind, as long as it can be done before the next arrival.
+-- lone job may be behind, as long as it can be done by the next arrival.
 -- Assumes nothing.
 use Prim.Native.Nat.{ℕ, _+_, _-_, _≤_, _<_}
 use mathlib.Core.Path.{_≡_, refl, sym, ap, subst, _∙_}
@@ -158,7 +158,7 @@ module _ (speeds : List ℕ) (rising : Rising speeds) (ts : List Task) (plan : F
               | no x ↦ absurd (other l x)
             ]
 
-    -- nothing is left of a job that was closed
+    -- a job without work left needs no time
     pub worked-none : (i : ℕ) → i < length ts → workedOf speeds s d finished i .work ≡ 0 → timeOf (nominalSpeed speeds ts) (workedOf speeds s d finished i) ≡ 0
     worked-none i h z =
         let none : workedOf speeds s d finished i ≡ noRest = λ k. record { fixed = worked-closed i h z k; work = z k } in
