@@ -1,16 +1,22 @@
 /* A firmware's main loop over the dispatcher, with the hardware played by a few functions: a timer,
  * a processor with seven levels, and jobs that mostly end before their worst case.
  *
- * It packs the speeds of its board and a plan of three tasks (the valve, the angle, the gait), starts
- * the plan, does what the orders say through two hyperperiods, and prints a listing like the bench
- * program's, with the level block in front and the queue at the end. */
+ * It packs the speeds of its board and a plan of three tasks (the angle, the valve, the gait), asks
+ * whether "the angle before the valve" is a good pair for it, and starts the plan with that pair. Then
+ * it does what the orders say through two hyperperiods, and prints a listing like the bench program's,
+ * with the level block in front, the angle that each valve job reads in between, and the queue at the
+ * end. */
 
 #include "kilmstra.h"
 
 #include <stdio.h>
 #include <stdlib.h>
 
-enum { TASKS = 3, LEVELS = 7, UNTIL = 60 };
+enum { LEVELS = 7, UNTIL = 60 };
+
+/* The tasks by their numbers. The angle and the valve have the same period, so their pair is good only
+ * if the angle, which comes earlier, has the lower number. */
+enum { ANGLE, VALVE, GAIT, TASKS };
 
 /* The units of work that the processor of this board does in a tick, level by level, as measured. */
 static const uint32_t speeds[LEVELS] = {13, 27, 41, 55, 69, 83, 111};
@@ -20,10 +26,13 @@ static const uint32_t speeds[LEVELS] = {13, 27, 41, 55, 69, 83, 111};
 enum { PERIOD, WORST, FIXED, NUMBERS };
 
 static const uint32_t plan[NUMBERS * TASKS] = {
-    10, 400, 0, /* the valve */
     10, 200, 2, /* the angle */
+    10, 400, 0, /* the valve */
     30, 600, 0, /* the gait */
 };
+
+/* The pairs, the earlier task first: the valve's job reads what the angle's wrote. */
+static const uint8_t pairs[] = {ANGLE, VALVE};
 
 /* What the dispatcher keeps lives here, with the firmware. */
 static uint8_t state[KILMSTRA_STATE_BYTES];
@@ -36,6 +45,11 @@ static uint32_t now;
  * which nobody knows beforehand. */
 static uint32_t fixed[TASKS];
 static uint32_t work[TASKS];
+
+/* The tick at which each task's latest job arrived, and that of the angle job which wrote last: an
+ * angle is known by the tick of its job. */
+static uint32_t arrived[TASKS];
+static uint32_t angle_of = UINT32_MAX; /* none has written */
 
 /* A small generator: the same numbers in every run. */
 static uint32_t random_below(uint32_t limit)
@@ -54,17 +68,35 @@ static void let_jobs_arrive(void)
             uint32_t worst = numbers[WORST];
             work[task] = random_below(4) == 0 ? worst : 1 + random_below(worst);
             fixed[task] = numbers[FIXED];
+            arrived[task] = now;
         }
+    }
+}
+
+/* A valve that is set by the angle of an earlier tick is what the pair is to rule out. */
+static void read_angle(void)
+{
+    printf("  the valve job of %lu reads the angle of %lu\n", (unsigned long)arrived[VALVE],
+           (unsigned long)angle_of);
+    if (angle_of != arrived[VALVE]) {
+        printf("which is not its own\n");
+        exit(1);
     }
 }
 
 /* Runs the job until it ends or the timer rings. Says how many ticks went by. */
 static uint32_t run_job(unsigned task, unsigned level, uint32_t hold, bool *finished)
 {
+    if (task == VALVE) {
+        read_angle();
+    }
     uint32_t speed = speeds[level];
     uint32_t needed = fixed[task] + (work[task] + speed - 1) / speed;
     *finished = needed <= hold;
     if (*finished) {
+        if (task == ANGLE) {
+            angle_of = arrived[ANGLE];
+        }
         return needed;
     }
     uint32_t waited = hold < fixed[task] ? hold : fixed[task];
@@ -129,6 +161,13 @@ static void print_levels(const uint8_t *block, size_t length)
     printf("\n");
 }
 
+/* Asks as a fitter would, who has the plan and its pairs but does not start them. */
+static void print_pairs(const uint8_t *levels, size_t size, const uint8_t *block, size_t length)
+{
+    uint64_t asked = accepted(kilmstra_pairs(levels, size, block, length, pairs, sizeof pairs));
+    printf("pairs %u\n", kilmstra_pair_count(asked));
+}
+
 static uint64_t start(void)
 {
     uint8_t levels[KILMSTRA_LEVEL_BLOCK_BYTES] = {0};
@@ -141,7 +180,9 @@ static uint64_t start(void)
     uint64_t judged = accepted(kilmstra_plan_read(levels, size, block, length));
     printf("plan %d %u %lu\n", TASKS, kilmstra_nominal_level(judged),
            (unsigned long)kilmstra_hyperperiod(judged));
-    return accepted(kilmstra_start(levels, size, block, length, state, sizeof state));
+    print_pairs(levels, size, block, length);
+    return accepted(kilmstra_start(levels, size, block, length, pairs, sizeof pairs,
+                                   state, sizeof state));
 }
 
 /* Does what the order says, and tells the dispatcher what came of it. */

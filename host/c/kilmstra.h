@@ -21,6 +21,15 @@
  * one is allowed at least the ticks to the next arrival. So it may end after its plain job, but no
  * later than the first arrival after that, and every deadline is met all the same.
  *
+ * A task may read what another wrote, as the valve does with the angle. A list of pairs says so when a
+ * plan is started: up to 16 pairs, each of two bytes, the number of the earlier task (the angle) and
+ * then that of the later one (the valve). A pair is good if the plan has both tasks, the later one's
+ * period is a multiple of the earlier one's and, where the periods are equal, the earlier one has the
+ * lower number. The list may be empty, and a pair may be in it twice. For each pair of a list that
+ * starting accepted, in the whole run from there: before every accepted pass in which a job of the
+ * later task runs, the earlier one's job that arrived at the same tick has finished. So what it wrote
+ * is there to be read. No order depends on the list, and the state does not keep it.
+ *
  * What holds for every call:
  * - It answers with one number, a reply. The functions at the end of this file take it apart.
  * - A reply is a refusal, with a number of enum kilmstra_refusal, or else what the call says below.
@@ -50,9 +59,11 @@ extern "C" {
 enum {
     KILMSTRA_TASKS = 16,             /* a plan has at most so many */
     KILMSTRA_LEVELS = 8,             /* a level block has at most so many */
+    KILMSTRA_PAIRS = 16,             /* a list of pairs has at most so many */
     KILMSTRA_STATE_BYTES = 217,      /* a state has exactly so many */
     KILMSTRA_LEVEL_BLOCK_BYTES = 11, /* enough for every level block */
     KILMSTRA_BLOCK_BYTES = 96,       /* enough for every plan block */
+    KILMSTRA_PAIRS_BYTES = 32,       /* enough for every list of pairs */
     KILMSTRA_QUEUE_BYTES = 48        /* enough for every queue */
 };
 
@@ -60,6 +71,9 @@ enum {
 static const uint8_t kilmstra_base_levels[KILMSTRA_LEVEL_BLOCK_BYTES] = {
     0x80, 0x28, 0x14, 0x07, 0x82, 0x80, 0xc8, 0x3c, 0x14, 0x06, 0x40
 };
+
+/* The list of a plan without pairs is this, which is not null, with the length 0. */
+static const uint8_t kilmstra_no_pairs[1] = {0};
 
 /* Why a call was refused. Where there are several reasons, the one that stands first here is told,
  * whatever its number; only 10 comes before 9. */
@@ -79,6 +93,7 @@ enum kilmstra_refusal {
     KILMSTRA_NO_ADDITION = 21,        /* a plan block of edition 2 in which no task has fixed ticks */
     KILMSTRA_LONG_HYPERPERIOD = 7,    /* the least common multiple of all periods is over 1,000,000 */
     KILMSTRA_OVERLOAD = 8,            /* the plan is too much for the highest level */
+    KILMSTRA_WRONG_PAIRS = 22,        /* more than 16 pairs, an odd byte, or a pair that is not good */
     KILMSTRA_SHORT_BUFFER = 9,        /* what is to be written does not fit the lent buffer */
     KILMSTRA_UNSOUND_STATE = 10,      /* not exactly 217 bytes, or they do not agree with each other */
     KILMSTRA_NO_TICK = 11,            /* d is 0 */
@@ -98,13 +113,14 @@ struct kilmstra_task {
     uint32_t fixed;
 };
 
-/* Starts a plan over the speeds of a level block at tick 0, where a job of every task arrives, and
- * answers with the first order.
+/* Starts a plan, with its list of pairs, over the speeds of a level block at tick 0, where a job of
+ * every task arrives, and answers with the first order.
  * Writes the first 217 bytes of state; bytes past them stay as they were.
- * Refuses with 18 to 20, then with 1 to 6, 21, 7, 8, as reading the two blocks does, then with 9 if
- * state has fewer than 217 bytes. */
+ * Refuses with 18 to 20, then with 1 to 6, 21, 7, 8, as reading the two blocks does, then with 22 if
+ * the list is not good, then with 9 if state has fewer than 217 bytes. */
 uint64_t kilmstra_start(const uint8_t *levels, size_t levels_len,
-                        const uint8_t *block, size_t block_len, uint8_t *state, size_t state_len);
+                        const uint8_t *block, size_t block_len,
+                        const uint8_t *pairs, size_t pairs_len, uint8_t *state, size_t state_len);
 
 /* Says that d ticks went by, and whether the running job finished at their end (0 for no, anything
  * else for yes). Brings the state up to date and answers with the order that stands from then on: a
@@ -142,6 +158,15 @@ uint64_t kilmstra_plan_judge(const uint8_t *levels, size_t levels_len,
  * Refuses with 18 to 20, then with 1 to 6, 21, 7, 8. */
 uint64_t kilmstra_plan_read(const uint8_t *levels, size_t levels_len,
                             const uint8_t *block, size_t block_len);
+
+/* Says, before a plan is started, whether a list of pairs is good for it, and answers with the count
+ * of the pairs. What is accepted here, starting accepts for every state of 217 bytes or more; what is
+ * refused here, starting refuses with the same number. Writes nothing.
+ * Refuses with 18 to 20, then with 1 to 6, 21, 7, 8, as reading the two blocks does, then with 22 if
+ * the list is not good. */
+uint64_t kilmstra_pairs(const uint8_t *levels, size_t levels_len,
+                        const uint8_t *block, size_t block_len,
+                        const uint8_t *pairs, size_t pairs_len);
 
 /* Writes the block of a plan, which is given as for judging, and answers with the count of bytes.
  * Where no task has fixed ticks, the block is of edition 1: 6 bytes for one task, 74 for sixteen. Else
@@ -214,6 +239,13 @@ static inline size_t kilmstra_byte_count(uint64_t reply)
 /* A reply of reading a level block that is no refusal. */
 
 static inline uint8_t kilmstra_level_count(uint64_t reply)
+{
+    return (uint8_t)(reply >> 8);
+}
+
+/* A reply of asking about a list of pairs that is no refusal. */
+
+static inline uint8_t kilmstra_pair_count(uint64_t reply)
 {
     return (uint8_t)(reply >> 8);
 }

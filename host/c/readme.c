@@ -1,7 +1,9 @@
 /* What the loop in the README at the top needs around it, so that it can be built and run as it stands
- * there: 01's speeds and bench plan, and a processor, a timer and jobs that are played. Up to tick 20
- * the jobs end as in 01's example with the passes of 02's No. 4, where the processor idles at tick 19.
- * The last job never ends, so that its pass is refused. */
+ * there: 01's speeds and bench plan with a pair, and a processor, a timer and jobs that are played.
+ * Up to tick 20 the jobs end as in 01's example with the passes of 02's No. 4, where the processor
+ * idles at tick 19. The last job never ends, so that its pass is refused. After that starting is
+ * refused: with the pair turned round, then with the plan cut as well, then with the level block cut
+ * as well. */
 
 #include "kilmstra.h"
 
@@ -19,6 +21,10 @@ enum { TASKS = 3, MOST_ORDERS = 20 };
 
 /* A period, a worst case and fixed ticks for each task. */
 static const uint32_t plan[3 * TASKS] = {10, 400, 0, 10, 400, 0, 30, 600, 0};
+
+/* The first task before the second, and turned round. */
+static const uint8_t pairs[2] = {0, 1};
+static const uint8_t turned[2] = {1, 0};
 
 /* The ticks that each job takes, in the order in which they run; one with 0 never ends. */
 static const uint32_t taken[MOST_ORDERS] = {1, 7, 2, 4, 5, 5};
@@ -73,8 +79,9 @@ int main(void)
         return 1;
     }
     size_t length = kilmstra_byte_count(written);
-    dispatch(levels, size, block, length);
-    dispatch(levels, size, block, length - 1);
-    dispatch(levels, size - 1, block, length - 1);
+    dispatch(levels, size, block, length, pairs, sizeof pairs);
+    dispatch(levels, size, block, length, turned, sizeof turned);
+    dispatch(levels, size, block, length - 1, turned, sizeof turned);
+    dispatch(levels, size - 1, block, length - 1, turned, sizeof turned);
     return 0;
 }

@@ -1,11 +1,12 @@
 // An answer packed into one number, as C gets it.
 use plan::Load;
+use plan::Paired;
 use plan::Verdict;
 use plan::Written;
 use reclaiming::Reply;
 ghost use mathlib.Core.Path.{_≡_};
 ghost use Prim.Native.Nat.{_<_, _^_};
-ghost use Rattle.plan.specs.Numbers.{loadNumber, verdictNumber, writtenNumber};
+ghost use Rattle.plan.specs.Numbers.{loadNumber, verdictNumber, writtenNumber, pairedNumber};
 ghost use Rattle.reclaiming.specs.Numbers.{replyNumber};
 
 // What reading a level block answers as one number.
@@ -41,6 +42,17 @@ pub fn written_number(w: Written) -> u64
     match w {
         Written::Refused(n) => n as u64,
         Written::Bytes(n) => 256 * (n as u64),
+    }
+}
+
+// What asking about a list of pairs answers as one number.
+pub fn paired_number(p: Paired) -> u64
+    requires { ⌜ pairedNumber p < 2 ^ 36 ⌝ }
+    ensures { λ r. ⌜ r ≡ pairedNumber p ⌝ }
+{
+    match p {
+        Paired::Refused(n) => n as u64,
+        Paired::Pairs(n) => 256 * (n as u64),
     }
 }
 

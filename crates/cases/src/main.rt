@@ -29,7 +29,7 @@ fn tell(what: &[u8], answer: u64) {
 // "Bench plan at tick 0, passes: 5 finished, 14; 0, 11." A refusal leaves the state, so one state serves both.
 fn at_the_start(levels: &[u8], block: &[u8]) {
     let mut state = [0u8; STATE_LENGTH];
-    tell(b"start", kilmstra_start(levels, block, &mut state));
+    tell(b"start", kilmstra_start(levels, block, &[], &mut state));
     tell(b"tick 0, 5 finished", kilmstra_pass(&mut state, 5, 1));
     tell(b"tick 0, 0", kilmstra_pass(&mut state, 0, 0));
     tell(b"tick 0, 1 finished", kilmstra_pass(&mut state, 1, 1));
@@ -44,7 +44,7 @@ fn at_the_start(levels: &[u8], block: &[u8]) {
 // the whole listing's orders.
 fn along_the_listing(levels: &[u8], block: &[u8]) {
     let mut state = [0u8; STATE_LENGTH];
-    tell(b"start", kilmstra_start(levels, block, &mut state));
+    tell(b"start", kilmstra_start(levels, block, &[], &mut state));
     tell(b"tick 1", kilmstra_pass(&mut state, 1, 1));
     tell(b"tick 8", kilmstra_pass(&mut state, 7, 1));
     tell(b"tick 10", kilmstra_pass(&mut state, 2, 1));

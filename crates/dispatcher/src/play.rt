@@ -12,7 +12,7 @@ ghost use lib.ListN.{length, drop};
 ghost use Rattle.reclaiming.specs.Calls.{isOrder, startReply, passReply, passBytes};
 ghost use Rattle.reclaiming.specs.Run.{trace, bytesAfter};
 ghost use Rattle.reclaiming.specs.Numbers.{replyNumber};
-ghost use Rattle.reclaiming.specs.Play.{passFrom, playedPasses, replyNumbers, playedState, playedReplies, PlayedOnTime, PlayedInTime, PlayedMostUrgent};
+ghost use Rattle.reclaiming.specs.Play.{passFrom, playedPasses, replyNumbers, playedState, playedReplies, PlayedOnTime, PlayedInTime, PlayedMostUrgent, PlayedPairsKept};
 ghost use Rattle.reclaiming.specs.Play.{playedShown, playedQueue, PlayedQueueShown};
 
 // One pass, as a number, played on a state; the reply as a number.
@@ -56,22 +56,24 @@ fn is_order(r: Reply) -> bool
     }
 }
 
-// Starts a plan over a level block and plays a list of passes on it. The start's reply is returned; those of the passes stand in the lent block.
+// Starts a plan with its pairs over a level block and plays a list of passes on it. The start's reply is returned; those of the passes stand in the lent block.
 pub fn play(
     levels: &[u8],
     block: &[u8],
+    pairs: &[u8],
     state: &mut [u8],
     passes: &[u64],
     replies: &mut [u64],
 ) -> u64
-    ensures { λ r. ⌜ r ≡ replyNumber (startReply (now (levels .entry)) (now (block .entry)) (length (now (state .entry)))) ⌝ }
-    ensures { λ _. ⌜ now (state .exit) ≡ playedState (now (levels .entry)) (now (block .entry)) (now (state .entry)) (playedPasses (now (passes .entry)) (length (now (replies .entry)))) ⌝ }
-    ensures { λ _. ⌜ now (replies .exit) ≡ playedReplies (now (levels .entry)) (now (block .entry)) (now (state .entry)) (playedPasses (now (passes .entry)) (length (now (replies .entry)))) (now (replies .entry)) ⌝ }
+    ensures { λ r. ⌜ r ≡ replyNumber (startReply (now (levels .entry)) (now (block .entry)) (now (pairs .entry)) (length (now (state .entry)))) ⌝ }
+    ensures { λ _. ⌜ now (state .exit) ≡ playedState (now (levels .entry)) (now (block .entry)) (now (pairs .entry)) (now (state .entry)) (playedPasses (now (passes .entry)) (length (now (replies .entry)))) ⌝ }
+    ensures { λ _. ⌜ now (replies .exit) ≡ playedReplies (now (levels .entry)) (now (block .entry)) (now (pairs .entry)) (now (state .entry)) (playedPasses (now (passes .entry)) (length (now (replies .entry)))) (now (replies .entry)) ⌝ }
     ensures { λ r. ⌜ PlayedOnTime (now (levels .entry)) (now (block .entry)) r (playedPasses (now (passes .entry)) (length (now (replies .entry)))) (now (replies .exit)) ⌝ }
     ensures { λ r. ⌜ PlayedInTime (now (levels .entry)) (now (block .entry)) r (playedPasses (now (passes .entry)) (length (now (replies .entry)))) (now (replies .exit)) ⌝ }
     ensures { λ r. ⌜ PlayedMostUrgent (now (levels .entry)) (now (block .entry)) r (playedPasses (now (passes .entry)) (length (now (replies .entry)))) (now (replies .exit)) ⌝ }
+    ensures { λ r. ⌜ PlayedPairsKept (now (levels .entry)) (now (block .entry)) r (playedPasses (now (passes .entry)) (length (now (replies .entry)))) (now (replies .exit)) (now (pairs .entry)) ⌝ }
 {
-    let first = start(levels, block, state);
+    let first = start(levels, block, pairs, state);
     if !is_order(first) {
         return reply_number(first);
     }
@@ -89,19 +91,20 @@ pub struct Played {
 pub fn play_and_show(
     levels: &[u8],
     block: &[u8],
+    pairs: &[u8],
     state: &mut [u8],
     passes: &[u64],
     replies: &mut [u64],
     buffer: &mut [u8],
 ) -> Played
-    ensures { λ r. ⌜ r .first ≡ replyNumber (startReply (now (levels .entry)) (now (block .entry)) (length (now (state .entry)))) ⌝ }
-    ensures { λ r. ⌜ r .shown ≡ playedShown (now (levels .entry)) (now (block .entry)) (now (state .entry)) (playedPasses (now (passes .entry)) (length (now (replies .entry)))) (length (now (buffer .entry))) ⌝ }
-    ensures { λ _. ⌜ now (state .exit) ≡ playedState (now (levels .entry)) (now (block .entry)) (now (state .entry)) (playedPasses (now (passes .entry)) (length (now (replies .entry)))) ⌝ }
-    ensures { λ _. ⌜ now (replies .exit) ≡ playedReplies (now (levels .entry)) (now (block .entry)) (now (state .entry)) (playedPasses (now (passes .entry)) (length (now (replies .entry)))) (now (replies .entry)) ⌝ }
-    ensures { λ _. ⌜ now (buffer .exit) ≡ playedQueue (now (levels .entry)) (now (block .entry)) (now (state .entry)) (playedPasses (now (passes .entry)) (length (now (replies .entry)))) (now (buffer .entry)) ⌝ }
+    ensures { λ r. ⌜ r .first ≡ replyNumber (startReply (now (levels .entry)) (now (block .entry)) (now (pairs .entry)) (length (now (state .entry)))) ⌝ }
+    ensures { λ r. ⌜ r .shown ≡ playedShown (now (levels .entry)) (now (block .entry)) (now (pairs .entry)) (now (state .entry)) (playedPasses (now (passes .entry)) (length (now (replies .entry)))) (length (now (buffer .entry))) ⌝ }
+    ensures { λ _. ⌜ now (state .exit) ≡ playedState (now (levels .entry)) (now (block .entry)) (now (pairs .entry)) (now (state .entry)) (playedPasses (now (passes .entry)) (length (now (replies .entry)))) ⌝ }
+    ensures { λ _. ⌜ now (replies .exit) ≡ playedReplies (now (levels .entry)) (now (block .entry)) (now (pairs .entry)) (now (state .entry)) (playedPasses (now (passes .entry)) (length (now (replies .entry)))) (now (replies .entry)) ⌝ }
+    ensures { λ _. ⌜ now (buffer .exit) ≡ playedQueue (now (levels .entry)) (now (block .entry)) (now (pairs .entry)) (now (state .entry)) (playedPasses (now (passes .entry)) (length (now (replies .entry)))) (now (buffer .entry)) ⌝ }
     ensures { λ r. ⌜ PlayedQueueShown (now (levels .entry)) (now (block .entry)) (r .first) (playedPasses (now (passes .entry)) (length (now (replies .entry)))) (now (replies .exit)) (now (buffer .entry)) (r .shown) (now (buffer .exit)) ⌝ }
 {
-    let first = play(levels, block, state, passes, replies);
+    let first = play(levels, block, pairs, state, passes, replies);
     if first < 256 {
         return Played {
             first,

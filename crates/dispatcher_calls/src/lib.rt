@@ -10,13 +10,14 @@ ghost use Rattle.plan.specs.Numbers.{writtenNumber};
 ghost use Rattle.reclaiming.specs.Calls.{startReply, startBuffer, passReply, passBytes, showReply, showBuffer};
 ghost use Rattle.reclaiming.specs.Numbers.{replyNumber, isYes};
 
-// Starts a plan's block over a level block into a state of 217 bytes: 18 to 20, 1 to 9 or 21 is a refusal's number; else the order.
+// Starts a plan's block with its list of pairs over a level block into a state of 217 bytes: 18 to 20, 1 to 9, 21 or 22 is a refusal's
+// number; else the order.
 #[no_mangle]
-pub extern "C" fn kilmstra_start(levels: &[u8], block: &[u8], state: &mut [u8]) -> u64
-    ensures { λ r. ⌜ r ≡ replyNumber (startReply (now (levels .entry)) (now (block .entry)) (length (now (state .entry)))) ⌝ }
-    ensures { λ _. ⌜ now (state .exit) ≡ startBuffer (now (levels .entry)) (now (block .entry)) (now (state .entry)) ⌝ }
+pub extern "C" fn kilmstra_start(levels: &[u8], block: &[u8], pairs: &[u8], state: &mut [u8]) -> u64
+    ensures { λ r. ⌜ r ≡ replyNumber (startReply (now (levels .entry)) (now (block .entry)) (now (pairs .entry)) (length (now (state .entry)))) ⌝ }
+    ensures { λ _. ⌜ now (state .exit) ≡ startBuffer (now (levels .entry)) (now (block .entry)) (now (pairs .entry)) (now (state .entry)) ⌝ }
 {
-    let r = start(levels, block, state);
+    let r = start(levels, block, pairs, state);
     reply_number(r)
 }
 

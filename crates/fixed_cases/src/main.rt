@@ -83,7 +83,7 @@ fn the_editions(levels: &[u8]) {
 fn the_sensor(levels: &[u8]) {
     let block = [33u8, 0, 3, 0, 0, 80, 0, 0, 18, 0, 1, 64, 112];
     let mut state = [0u8; STATE_LENGTH];
-    tell_order(b"start", kilmstra_start(levels, &block, &mut state));
+    tell_order(b"start", kilmstra_start(levels, &block, &[], &mut state));
     tell_order(b"tick 1", kilmstra_pass(&mut state, 1, 1));
     tell_order(b"tick 6", kilmstra_pass(&mut state, 5, 0));
     tell_order(b"tick 7", kilmstra_pass(&mut state, 1, 1));

@@ -59,7 +59,7 @@ fn one_level_alone() {
     let levels = [31u8, 160];
     let block = [16u8, 128, 0, 128, 31, 64];
     let mut state = [0u8; STATE_LENGTH];
-    tell_order(b"start", kilmstra_start(&levels, &block, &mut state));
+    tell_order(b"start", kilmstra_start(&levels, &block, &[], &mut state));
     tell_order(b"tick 1", kilmstra_pass(&mut state, 1, 1));
 }
 

@@ -3,7 +3,7 @@
 use Prim.Native.Nat.{ℕ, _-_, _<_, _≤_}
 use mathlib.Core.Bool.{Bool}
 use mathlib.Core.Path.{_≡_, refl, sym, subst, ap, ap₂, _∙_}
-use mathlib.Core.List.{List, _++_, append-assoc}
+use mathlib.Core.List.{List, [], _++_, append-assoc}
 use native.Mathlib.Nat.{zero-add}
 use native.Mathlib.Omega.{arith}
 use borrow.Author.Tests.{le-leb, lt-leb}
@@ -58,12 +58,12 @@ opened-clock ts (reply.Refused n) = refl
 -- the lines from the start on
 pub started-is :
     (levels block passes : List ℕ) {r : Reply} {s : List ℕ} →
-    r ≡ startReply levels block stateLength →
-    s ≡ startBuffer levels block (replicate stateLength 0) →
+    r ≡ startReply levels block [] stateLength →
+    s ≡ startBuffer levels block [] (replicate stateLength 0) →
     length s ≡ stateLength →
     replyLine 0 r ++ passesText (speedsIn levels) (tasksIn block) (openedBook (tasksIn block) r) s passes ≡ startedLines levels block passes
 started-is levels block passes {r} {s} a b size =
-    let begun : s ≡ startedBytes levels block (replicate stateLength 0) = sym (take-all stateLength s (omega arith)) ∙ ap (take stateLength) b in
+    let begun : s ≡ startedBytes levels block [] (replicate stateLength 0) = sym (take-all stateLength s (omega arith)) ∙ ap (take stateLength) b in
     let ts : List Task = tasksIn block in
     let lines : Reply → List ℕ → List ℕ = λ x y. linesText (linesFrom (speedsIn levels) ts (openedBook ts x) (trace y (passesIn passes))) in
     sym (append-assoc (replyLine 0 r) (lines r s) (oddLine passes))

@@ -33,7 +33,7 @@ fn started_lines(levels: &[u8], block: &[u8], passes: &[u8], out: &mut [u8], fro
     ensures { λ r. ⌜ Put 1900000 (now (out .entry)) from (startedLines (now (levels .entry)) (now (block .entry)) (now (passes .entry))) r (now (out .exit)) ⌝ }
 {
     let mut state = [0u8; STATE_LENGTH];
-    let reply = start(levels, block, &mut state);
+    let reply = start(levels, block, &[], &mut state);
     let at = reply_line(out, from, 0, reply);
     pass_lines(passes, &mut state, out, at)
 }

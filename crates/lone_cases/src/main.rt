@@ -30,7 +30,7 @@ fn past_the_plain_finish() {
     let levels = [32u8, 4, 2];
     let block = [17u8, 0, 1, 128, 0, 16, 0, 24, 0, 1, 0];
     let mut state = [0u8; STATE_LENGTH];
-    tell(b"start", kilmstra_start(&levels, &block, &mut state));
+    tell(b"start", kilmstra_start(&levels, &block, &[], &mut state));
     tell(b"tick 1", kilmstra_pass(&mut state, 1, 1));
     tell(b"tick 2", kilmstra_pass(&mut state, 1, 0));
     let mut none = [0u8; 0];

@@ -1,5 +1,6 @@
 pub mod BlockBits
 pub mod Facts
+pub mod PairLaws
 pub mod LevelLaws
 pub mod LevelBlockLaws
 pub mod LevelTrip
@@ -7,3 +8,4 @@ pub mod TimeLaws
 pub mod RoundTrip
 pub mod NumberLaws
 pub mod AnswerLaws
+pub mod JudgedLaws

@@ -3,6 +3,7 @@ pub mod Levels
 pub mod LevelBlocks
 pub mod Blocks
 pub mod Questions
+pub mod Pairs
 pub mod Answers
 pub mod Laws
 pub mod Numbers

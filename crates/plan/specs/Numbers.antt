@@ -12,6 +12,8 @@ use Rattle.plan.specs.declared.Verdict.{Verdict}
 use Rattle.plan.specs.declared.Verdict.the-variants as verdict
 use Rattle.plan.specs.declared.Written.{Written}
 use Rattle.plan.specs.declared.Written.the-variants as written
+use Rattle.plan.specs.declared.Paired.{Paired}
+use Rattle.plan.specs.declared.Paired.the-variants as paired
 
 -- task i of a list of numbers: a period, then a worst case, then fixed ticks, for each task; past the list's end they are 0
 abbrev pub taskAt : List ℕ → ℕ → Task
@@ -38,3 +40,8 @@ verdictNumber (verdict.Refused n) = n
 abbrev pub writtenNumber : Written → ℕ
 writtenNumber (written.Bytes n) = 256 * n
 writtenNumber (written.Refused n) = n
+
+-- a refusal is its number; else the count of pairs times 256
+abbrev pub pairedNumber : Paired → ℕ
+pairedNumber (paired.Pairs n) = 256 * n
+pairedNumber (paired.Refused n) = n

@@ -48,3 +48,9 @@ pub enum Written {
     Bytes(usize),
     Refused(u32),
 }
+
+// What asking about a list of pairs answers: the count of pairs, or a refusal's number.
+pub enum Paired {
+    Pairs(usize),
+    Refused(u32),
+}

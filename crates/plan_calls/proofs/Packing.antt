@@ -12,19 +12,22 @@ use Rattle.plan.specs.declared.Plan.{Plan}
 use Rattle.plan.specs.declared.Judged.{Judged}
 use Rattle.plan.specs.declared.Written.{Written}
 use Rattle.plan.specs.declared.Board.{Board}
+use Rattle.plan.specs.declared.Paired.{Paired}
 use Rattle.plan.specs.Levels.{hyperperiod, nominal}
 use Rattle.plan.specs.LevelBlocks.{speedsIn, loading, boardBy, readLevels}
 use Rattle.plan.specs.Blocks.{noTask, tasksOf, tasksIn, editionIn, countIn, editionOf, planBlock}
 use Rattle.plan.specs.Questions.{judging, reading, writing, roomQuestion}
 use Rattle.arith.specs.Asking.{Question, firstNo}
 use Rattle.plan.specs.Answers.{answered, judgedBy, judgedPlan, readBlock, writeNumber, writtenBy, writePlan, copyNumber}
-use Rattle.plan.specs.Numbers.{taskAt, planFrom, loadNumber, verdictNumber, writtenNumber}
+use Rattle.plan.specs.Pairs.{pairsIn, pairsQuestion, pairNumber, askPairs}
+use Rattle.plan.specs.Numbers.{taskAt, planFrom, loadNumber, verdictNumber, writtenNumber, pairedNumber}
 use Rattle.plan.proofs.LevelBlockLaws.{loaded-table}
-use Rattle.plan.proofs.NumberLaws.{written-most}
+use Rattle.plan.proofs.NumberLaws.{written-most, paired-most}
 use Rattle.plan.proofs.Facts.{FineTasks, FineList, FineBlock, fine-list, fine-block}
+use Rattle.plan.proofs.PairLaws.{pairs-few}
 use Rattle.plan.proofs.BlockBits.{length-planBlock, blockLength-most}
 use Rattle.arith.proofs.ArrayLaws.{values-more}
-use Rattle.arith.proofs.QuestionLaws.{firstNo-most, yes-of, yes-after}
+use Rattle.arith.proofs.QuestionLaws.{firstNo-most, yes-of, yes-after, all-yes}
 
 -- the loop that fills a plan with the tasks of a list of numbers
 pub record Put (numbers : List ℕ) (count : ℕ) (q : Plan) (i : ℕ) : Type 0 where
@@ -93,6 +96,23 @@ module _ (levels : List ℕ) where
       let asked : List Question = reading (speedsIn levels) block in
       entered-most asked (tasksIn block) (firstNo-most 255 (loading levels ++ asked) refl)
       (λ z. fine-block (speedsIn levels) block z .tasks)
+
+  -- and what is answered about pairs, of which a good list has at most 16
+  pub pairs-most : (block pairs : List ℕ) {p : Paired} → p ≡ askPairs levels block pairs → pairedNumber p < 2 ^ 36
+  pairs-most block pairs e =
+      subst (λ (x : Paired). pairedNumber x < 2 ^ 36) (sym e)
+      (paired-most (pairNumber levels block pairs) (pairsIn pairs) (firstNo-most 255 (loading levels ++ (asked ++ last)) refl) few)
+    where
+      asked : List Question
+      asked = reading (speedsIn levels) block
+
+      last : List Question
+      last = pairsQuestion (tasksIn block) pairs ∷ []
+
+      few : pairNumber levels block pairs ≡ 0 → length (pairsIn pairs) ≤ 255
+      few z =
+          let good = all-yes last refl (yes-after asked last refl (yes-after (loading levels) (asked ++ last) refl z)) .0 in
+          omega (arith, pairs-few (tasksIn block) pairs good)
 
   -- and what writing answers
   pub wrote-most : (p : Plan) (room : ℕ) {w : Written} → w ≡ writePlan levels p room → writtenNumber w < 2 ^ 36

@@ -2,11 +2,13 @@
 pub mod lists;
 
 use answers::load_number;
+use answers::paired_number;
 use answers::verdict_number;
 use answers::written_number;
 use judging::empty_plan;
 use judging::judge;
 use levels::read_levels;
+use paired_reading::ask_pairs;
 use plan::Plan;
 use plan::Task;
 use plan_reading::read;
@@ -15,8 +17,9 @@ use plan_writing::write;
 ghost use mathlib.Core.Path.{_≡_};
 ghost use lib.ListN.{length, getD};
 ghost use Rattle.plan.specs.LevelBlocks.{readLevels};
+ghost use Rattle.plan.specs.Pairs.{askPairs};
 ghost use Rattle.plan.specs.Answers.{judgedPlan, readBlock, writePlan, writeBuffer, writtenBy, storedBy, copyNumber};
-ghost use Rattle.plan.specs.Numbers.{planFrom, loadNumber, verdictNumber, writtenNumber};
+ghost use Rattle.plan.specs.Numbers.{planFrom, loadNumber, verdictNumber, writtenNumber, pairedNumber};
 
 // The number at a place of a list, 0 past its end.
 fn number_at(numbers: &[u32], k: usize) -> u32
@@ -81,6 +84,16 @@ pub extern "C" fn kilmstra_plan_read(levels: &[u8], block: &[u8]) -> u64
     let j = read(levels, block);
     let v = j.verdict;
     verdict_number(v)
+}
+
+// Asks whether a list of pairs is good for a plan's block over a level block: 18 to 20, 1 to 8, 21 or 22 is a refusal's number; else the
+// count of pairs stands from bit 8 on.
+#[no_mangle]
+pub extern "C" fn kilmstra_pairs(levels: &[u8], block: &[u8], pairs: &[u8]) -> u64
+    ensures { λ r. ⌜ r ≡ pairedNumber (askPairs (now (levels .entry)) (now (block .entry)) (now (pairs .entry))) ⌝ }
+{
+    let p = ask_pairs(levels, block, pairs);
+    paired_number(p)
 }
 
 // Writes a plan's block, judged over a level block: a number below 256 is a refusal's; else the count of bytes stands from bit 8 on.

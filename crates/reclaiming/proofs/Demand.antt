@@ -4,14 +4,14 @@ use Prim.Native.Nat.{ℕ, zero, suc, _+_, _-_, _%_, _≤_, _<_}
 use mathlib.Core.Path.{_≡_, refl, sym, subst, subst₂, ap, ap₂, _∙_}
 use mathlib.Core.Bool.{Bool, true, true≢false, not}
 use mathlib.Core.List.{List, [], _∷_}
-use mathlib.Core.Logic.{_⊎_, inl, inr, ⊎-elim}
+use mathlib.Core.Logic.{_⊎_, inl, inr, ⊎-elim, _≢_}
 use native.Mathlib.Decide.{decLe, ℕ-discrete}
 use native.Mathlib.Omega.{arith}
 use borrow.Author.Tests.{eq-eqb}
 use lib.Dec.{eqb}
 use lib.ListN.{length, getD, take, drop}
 use lib.Seq.{take-at, drop-at}
-use Rattle.arith.specs.Choice.{pick, both}
+use Rattle.arith.specs.Choice.{pick, both, every}
 use Rattle.arith.specs.Asking.{firstNo}
 use Rattle.arith.specs.Ranges.{listTo}
 use Rattle.arith.proofs.Tests.{passed, failed, tested}
@@ -22,14 +22,17 @@ use Rattle.plan.specs.Times.{timeOf}
 use Rattle.plan.specs.Levels.{Rising, speedOf, hyperperiod, nominal}
 use Rattle.plan.specs.LevelBlocks.{speedsIn}
 use Rattle.plan.specs.Blocks.{tasksIn}
+use Rattle.plan.specs.Pairs.{Pair, pairsIn, periodOf, goodPair}
 use Rattle.plan.specs.Answers.{roomNumber, writtenBy, storedBy}
 use Rattle.plan.proofs.TimeLaws.{time-some}
 use Rattle.plan.proofs.LevelBlockLaws.{FineTable, few-levels}
 use Rattle.plan.proofs.Facts.{FineList, range-at}
+use Rattle.plan.proofs.PairLaws.{GoodPair, good-pair, each-good}
 use Rattle.schedule.specs.PlainSchedule.{Timing, Job, Pending, Book, latest, deadline, moreUrgent, canonicalAt, queueOf, opened}
 use Rattle.schedule.specs.Feasibility.{In, Fitting}
-use Rattle.schedule.proofs.Members.{all-in}
-use Rattle.schedule.proofs.Urgency.{MoreUrgent, urgent-true}
+use Rattle.schedule.proofs.Members.{all-in, every-in}
+use Rattle.schedule.proofs.Urgency.{MoreUrgent, asymmetric, urgent-true}
+use Rattle.schedule.proofs.Together.{Before, arrives-too, urgent-before}
 use Rattle.schedule.proofs.Invariant.{canonical-good}
 use Rattle.schedule.proofs.Invariant as invariant
 use Rattle.schedule.proofs.Feasible.{never-late}
@@ -47,7 +50,7 @@ use Rattle.reclaiming.specs.Calls.{repliedBy, isOrder, startReply, start
 use Rattle.reclaiming.specs.Calls.{showNumber, showReply, showBuffer}
 use Rattle.reclaiming.specs.Run.{Pass, DispatcherBook, Arrived, moved, booked, bookedAll, ranAll, bytesAfter, trace, unopenedBook, openedBook, ordered, startedBytes}
 use Rattle.reclaiming.specs.Promises.{Started, OpenPlain, OpenActual, InGap, OnTime, ClosesByArrival, ClosesInTime, MostUrgent, NamesMostUrgent, Shows}
-use Rattle.reclaiming.specs.Promises.{Demand3, QueueShown, StaysSound, SameSpeeds, RunsMostUrgent, SameLeft, NoDeadEnd, Open}
+use Rattle.reclaiming.specs.Promises.{Demand3, QueueShown, PairsKept, arrivedWith, StaysSound, SameSpeeds, RunsMostUrgent, SameLeft, NoDeadEnd, Open}
 use Rattle.reclaiming.specs.Promises.{timeLeft, isRun, holdIn, lastOrder, stateAfter, actualBook, plainBook, replies}
 use Rattle.reclaiming.proofs.Fine.{Ahead, Gap, Fine, Accepted, nominalSpeed}
 use Rattle.reclaiming.proofs.Replies.{is-idle, is-run, viewOrder, order-accepted, order-booked, order-runs, order-held, not-refused}
@@ -69,7 +72,7 @@ ordered-clock b (reply.Idle hold) = refl
 ordered-clock b (reply.Refused n) = refl
 
 -- what an accepted start has shown
-module _ (levels block buffer : List ℕ) (ok : Started levels block buffer) where
+module _ (levels block pairs buffer : List ℕ) (ok : Started levels block pairs buffer) where
   abbrev speeds : List ℕ
   speeds = speedsIn levels
 
@@ -82,11 +85,11 @@ module _ (levels block buffer : List ℕ) (ok : Started levels block buffer) whe
   abbrev s : State
   s = startState speeds ts
 
-  number : startNumber levels block (length buffer) ≡ 0
-  number = not-refused (startNumber levels block (length buffer)) (startOrder speeds s) ok
+  number : startNumber levels block pairs (length buffer) ≡ 0
+  number = not-refused (startNumber levels block pairs (length buffer)) (startOrder speeds s) ok
 
-  starts : Starts levels block (length buffer)
-  starts = start-facts levels block (length buffer) number
+  starts : Starts levels block pairs (length buffer)
+  starts = start-facts levels block pairs (length buffer) number
 
   -- the level block was accepted, the block reads as an accepted plan, and the buffer had room
   pub table : FineTable speeds
@@ -97,6 +100,10 @@ module _ (levels block buffer : List ℕ) (ok : Started levels block buffer) whe
 
   pub room : stateLength ≤ length buffer
   room = starts .long
+
+  -- and each pair is good
+  pairs-are : every (goodPair ts) (pairsIn pairs) ≡ true
+  pairs-are = each-good ts pairs (starts .paired)
 
   fine : Fine speeds ts s
   fine = start-fine speeds ts good (table .rising)
@@ -117,13 +124,13 @@ module _ (levels block buffer : List ℕ) (ok : Started levels block buffer) whe
   size : length (encode s) ≡ stateLength
   size = length-encode s (fine-storable speeds ts s good (table .rising) (few-levels table) fine in-time (subst StorableTable (sym own) (fine-stored table)) .count)
 
-  begun : startedBytes levels block buffer ≡ encode s
+  begun : startedBytes levels block pairs buffer ≡ encode s
   begun =
       ap (λ (n : ℕ). take stateLength (storedBy n (encode s) buffer)) number
       ∙ take-at (encode s) (drop (length (encode s)) buffer) stateLength size
 
   -- what lies past the state is untouched
-  pub untouched : drop stateLength (startBuffer levels block buffer) ≡ drop stateLength buffer
+  pub untouched : drop stateLength (startBuffer levels block pairs buffer) ≡ drop stateLength buffer
   untouched =
       ap (λ (n : ℕ). drop stateLength (storedBy n (encode s) buffer)) number
       ∙ drop-at (encode s) (drop (length (encode s)) buffer) stateLength size
@@ -144,7 +151,7 @@ module _ (levels block buffer : List ℕ) (ok : Started levels block buffer) whe
   fits = plan-fits speeds ts good (table .rising)
 
   abbrev first : Reply
-  first = startReply levels block (length buffer)
+  first = startReply levels block pairs (length buffer)
 
   abbrev hold : ℕ
   hold = holdOf speeds (timing speeds (planIn s)) s
@@ -158,7 +165,7 @@ module _ (levels block buffer : List ℕ) (ok : Started levels block buffer) whe
       ≡ record { clock = 0; closed = []; task = s .task; level = s .level; left = unopenedBook ts .left }
   book = ap (ordered (unopenedBook ts)) replied ∙ order-booked s hold (idle-level good fine) (unopenedBook ts)
 
-  kept-start : Kept speeds ts (startedBytes levels block buffer) (openedBook ts first) (opened τ) first
+  kept-start : Kept speeds ts (startedBytes levels block pairs buffer) (openedBook ts first) (opened τ) first
   kept-start = record {
     state = s;
     stored = begun;
@@ -389,6 +396,42 @@ module _ (speeds : List ℕ) (table : FineTable speeds) where
                   (subst₂ (MoreUrgent (timing speeds ts)) (ap (λ (c : ℕ). latest (timing speeds ts) c (s .task)) (sym (t .clock))) (sym (open-latest k o .0))
                   (r .urgent (k .task) (o .arrived .task) (open-latest k o .1) e)))
 
+      -- of two jobs that arrive together the earlier task's is more urgent: open, it would be the one that runs
+      pair-closed : (p : Pair) → GoodPair ts p → a .task ≡ p .later → In (arrivedWith (timing speeds ts) a (p .earlier)) (a .closed)
+      pair-closed p q same =
+          elim (worked.ordered speeds ts s (t .fine)) [
+            | idles e l z ↦ absurd (omega (arith, t .task, q .later-below, good .count-high))
+            | runs r ↦ ⊎-elim (λ m. m) (λ o. absurd (runs-instead r o)) (t .held with-it (here with-it arrived))
+          ]
+        where
+          with-it : Job
+          with-it = arrivedWith (timing speeds ts) a (p .earlier)
+
+          before : Before (timing speeds ts) (p .earlier) (a .task)
+          before =
+              subst (Before (timing speeds ts) (p .earlier)) (sym same)
+              (record {
+                first-positive = fits-run .periods (p .earlier) (q .earlier-below);
+                second-positive = fits-run .periods (p .later) (q .later-below);
+                multiple = q .multiple;
+                lower-number = q .lower;
+              })
+
+          arrived : Arrived (timing speeds ts) (a .clock) with-it
+          arrived =
+              let run = latest-arrived (timing speeds ts) (a .clock) (a .task) (omega (arith, q .later-below)) in
+              record { task = q .earlier-below; arrival = run .arrival; multiple = arrives-too before (with-it .arrival) (run .multiple) }
+
+          -- it is another task's
+          other : p .earlier ≢ s .task
+          other e = let i : p .earlier ≡ p .later = e ∙ (sym (t .task) ∙ same) in omega (arith, q .lower (ap (periodOf ts) i))
+
+          runs-instead : Runs speeds (timing speeds ts) (nominal speeds ts) s → OpenLatest (timing speeds ts) (s .clock) (workOf s) with-it → ⊥
+          runs-instead r o =
+              asymmetric (urgent-before before (with-it .arrival))
+              (subst₂ (MoreUrgent (timing speeds ts)) (ap₂ (latest (timing speeds ts)) (sym (t .clock)) (sym (t .task))) (sym (o .0))
+              (r .urgent (p .earlier) (q .earlier-below) (o .1) other))
+
       held-is : holdIn last ≡ holdOf speeds (timing speeds ts) s
       held-is = ap holdIn (t .order-is) ∙ order-held s (holdOf speeds (timing speeds ts) s)
 
@@ -529,56 +572,63 @@ module _ (speeds : List ℕ) (table : FineTable speeds) where
 
 -- a run: an accepted start, then any list of passes
 after-run :
-    (levels block buffer : List ℕ) (passes : List Pass) →
-    Started levels block buffer →
-    Kept (speedsIn levels) (tasksIn block) (stateAfter levels block buffer passes) (actualBook levels block buffer passes)
-    (plainBook levels block buffer passes) (lastOrder (startReply levels block (length buffer)) (replies levels block buffer passes))
-after-run levels block buffer passes ok =
-    kept-run (speedsIn levels) (table levels block buffer ok) (tasksIn block) (good levels block buffer ok) passes (kept-start levels block buffer ok)
+    (levels block pairs buffer : List ℕ) (passes : List Pass) →
+    Started levels block pairs buffer →
+    Kept (speedsIn levels) (tasksIn block) (stateAfter levels block pairs buffer passes) (actualBook levels block pairs buffer passes)
+    (plainBook levels block pairs buffer passes) (lastOrder (startReply levels block pairs (length buffer)) (replies levels block pairs buffer passes))
+after-run levels block pairs buffer passes ok =
+    kept-run (speedsIn levels) (table levels block pairs buffer ok) (tasksIn block) (good levels block pairs buffer ok) passes (kept-start levels block pairs buffer ok)
 
 -- the state is 217 bytes all along
 pub after-length :
-    (levels block buffer : List ℕ) (passes : List Pass) → Started levels block buffer → length (stateAfter levels block buffer passes) ≡ stateLength
-after-length levels block buffer passes ok =
-    let k = after-run levels block buffer passes ok in
-    stored-length (speedsIn levels) (table levels block buffer ok) (tasksIn block) (good levels block buffer ok) (k .stored) (k .in-time) (k .own)
+    (levels block pairs buffer : List ℕ) (passes : List Pass) → Started levels block pairs buffer → length (stateAfter levels block pairs buffer passes) ≡ stateLength
+after-length levels block pairs buffer passes ok =
+    let k = after-run levels block pairs buffer passes ok in
+    stored-length (speedsIn levels) (table levels block pairs buffer ok) (tasksIn block) (good levels block pairs buffer ok) (k .stored) (k .in-time) (k .own)
     (k .tied .fine)
 
 pub demand-3 : Demand3
-demand-3 levels block buffer passes ok =
-    on-time (speedsIn levels) (table levels block buffer ok) (tasksIn block) (good levels block buffer ok) (after-run levels block buffer passes ok .tied)
+demand-3 levels block pairs buffer passes ok =
+    on-time (speedsIn levels) (table levels block pairs buffer ok) (tasksIn block) (good levels block pairs buffer ok) (after-run levels block pairs buffer passes ok .tied)
 
 pub closes-in-time : ClosesInTime
-closes-in-time levels block buffer passes n ok =
-    closes-run (speedsIn levels) (table levels block buffer ok) (tasksIn block) (good levels block buffer ok) passes n (kept-start levels block buffer ok)
+closes-in-time levels block pairs buffer passes n ok =
+    closes-run (speedsIn levels) (table levels block pairs buffer ok) (tasksIn block) (good levels block pairs buffer ok) passes n (kept-start levels block pairs buffer ok)
 
 pub queue-shown : QueueShown
-queue-shown levels block buffer passes lent ok =
-    shows (speedsIn levels) (table levels block buffer ok) (tasksIn block) (good levels block buffer ok) (after-run levels block buffer passes ok) lent
+queue-shown levels block pairs buffer passes lent ok =
+    shows (speedsIn levels) (table levels block pairs buffer ok) (tasksIn block) (good levels block pairs buffer ok) (after-run levels block pairs buffer passes ok) lent
 
 pub runs-most-urgent : RunsMostUrgent
-runs-most-urgent levels block buffer passes ok =
-    names-most-urgent (speedsIn levels) (table levels block buffer ok) (tasksIn block) (good levels block buffer ok)
-    (after-run levels block buffer passes ok .tied)
+runs-most-urgent levels block pairs buffer passes ok =
+    names-most-urgent (speedsIn levels) (table levels block pairs buffer ok) (tasksIn block) (good levels block pairs buffer ok)
+    (after-run levels block pairs buffer passes ok .tied)
+
+pub pairs-kept : PairsKept
+pairs-kept levels block pairs buffer passes ok p m =
+    pair-closed (speedsIn levels) (table levels block pairs buffer ok) (tasksIn block) (good levels block pairs buffer ok)
+    (after-run levels block pairs buffer passes ok .tied)
+    p
+    (good-pair (tasksIn block) p (every-in (goodPair (tasksIn block)) (pairsIn pairs) (pairs-are levels block pairs buffer ok) p m))
 
 pub stays-sound : StaysSound
-stays-sound levels block buffer passes ok =
-    let k = after-run levels block buffer passes ok in
-    stored-sound (speedsIn levels) (table levels block buffer ok) (tasksIn block) (good levels block buffer ok) (k .stored) (k .in-time) (k .own)
+stays-sound levels block pairs buffer passes ok =
+    let k = after-run levels block pairs buffer passes ok in
+    stored-sound (speedsIn levels) (table levels block pairs buffer ok) (tasksIn block) (good levels block pairs buffer ok) (k .stored) (k .in-time) (k .own)
     (k .tied .fine)
 
 pub same-speeds : SameSpeeds
-same-speeds levels block buffer passes ok =
-    let k = after-run levels block buffer passes ok in
-    speeds-are (speedsIn levels) (table levels block buffer ok) (tasksIn block) (good levels block buffer ok) (k .stored) (k .in-time) (k .own)
+same-speeds levels block pairs buffer passes ok =
+    let k = after-run levels block pairs buffer passes ok in
+    speeds-are (speedsIn levels) (table levels block pairs buffer ok) (tasksIn block) (good levels block pairs buffer ok) (k .stored) (k .in-time) (k .own)
     (k .tied .fine)
 
 pub same-left : SameLeft
-same-left levels block buffer passes ok i h =
-    let k = after-run levels block buffer passes ok in
+same-left levels block pairs buffer passes ok i h =
+    let k = after-run levels block pairs buffer passes ok in
     k .tied .left i h
-    ∙ sym (ap (λ (s : State). restOf s i) (is-state (speedsIn levels) (table levels block buffer ok) (tasksIn block) (good levels block buffer ok) k))
+    ∙ sym (ap (λ (s : State). restOf s i) (is-state (speedsIn levels) (table levels block pairs buffer ok) (tasksIn block) (good levels block pairs buffer ok) k))
 
 pub no-dead-end : NoDeadEnd
-no-dead-end levels block buffer passes ok =
-    not-dead (speedsIn levels) (table levels block buffer ok) (tasksIn block) (good levels block buffer ok) (after-run levels block buffer passes ok)
+no-dead-end levels block pairs buffer passes ok =
+    not-dead (speedsIn levels) (table levels block pairs buffer ok) (tasksIn block) (good levels block pairs buffer ok) (after-run levels block pairs buffer passes ok)

@@ -14,6 +14,7 @@ pub mod PassSound
 pub mod Books
 pub mod Runs
 pub mod Demand
+pub mod Asked
 pub mod PlayLaws
 pub mod PlayShown
 pub mod NumberLaws

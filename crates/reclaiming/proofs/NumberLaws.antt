@@ -61,20 +61,20 @@ module _ (speeds : List ℕ) (table : FineTable speeds) where
       order-most s (holdOf speeds τ s) (fits .0) (fits .1)
       (omega (arith, hold-next speeds (table .rising) ts plan s fine, task-range speeds ts plan (table .rising) 0 (plan .count-low) .period-high))
 
-pub start-most : (levels block : List ℕ) (room : ℕ) (r : Reply) → r ≡ startReply levels block room → replyNumber r < 2 ^ 64
-start-most levels block room r e =
+pub start-most : (levels block pairs : List ℕ) (room : ℕ) (r : Reply) → r ≡ startReply levels block pairs room → replyNumber r < 2 ^ 64
+start-most levels block pairs room r e =
     subst (λ (x : Reply). replyNumber x < 2 ^ 64) (sym e)
-    (reply-most (startNumber levels block room) (startOrder speeds (startState speeds (tasksIn block)))
-    (firstNo-most 255 (starting levels block room) refl) order)
+    (reply-most (startNumber levels block pairs room) (startOrder speeds (startState speeds (tasksIn block)))
+    (firstNo-most 255 (starting levels block pairs room) refl) order)
   where
     speeds : List ℕ
     speeds = speedsIn levels
 
-    order : startNumber levels block room ≡ 0 → replyNumber (startOrder speeds (startState speeds (tasksIn block))) < 2 ^ 64
+    order : startNumber levels block pairs room ≡ 0 → replyNumber (startOrder speeds (startState speeds (tasksIn block))) < 2 ^ 64
     order z =
         let ts : List Task = tasksIn block in
         let s : State = startState speeds ts in
-        let k : Starts levels block room = start-facts levels block room z in
+        let k : Starts levels block pairs room = start-facts levels block pairs room z in
         let fine : Fine speeds ts s = start-fine speeds ts (k .good) (k .table .rising) in
         subst (λ (us : List Task). replyNumber (orderWith s (holdOf speeds (timing speeds us) s)) < 2 ^ 64) (sym (fine .entries .plan))
         (fine-most speeds (k .table) ts s (k .good) fine)

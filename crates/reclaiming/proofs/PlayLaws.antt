@@ -13,6 +13,7 @@ use Rattle.arith.specs.Choice.{pick}
 use Rattle.arith.proofs.QuestionLaws.{Yes, all-yes, yes-all, firstNo-most}
 use Rattle.plan.specs.LevelBlocks.{speedsIn}
 use Rattle.plan.specs.Blocks.{tasksIn}
+use Rattle.plan.specs.Pairs.{pairsIn}
 use Rattle.plan.specs.Answers.{storedBy}
 use Rattle.plan.proofs.LevelBlockLaws.{FineTable, few-levels}
 use Rattle.plan.proofs.Facts.{FineList}
@@ -25,14 +26,14 @@ use Rattle.reclaiming.specs.Passes.{startState, passedState, passedHold}
 use Rattle.reclaiming.specs.Questions.{passing, starting, passQuestions}
 use Rattle.reclaiming.specs.Calls.{repliedBy, isOrder, startNumber, startReply, startBuffer, startOrder, passNumber, passReply, passBytes, passOrder}
 use Rattle.reclaiming.specs.Run.{Pass, Answered, trace, bytesAfter, startedBytes, openedBook, bookedAll, ranAll}
-use Rattle.reclaiming.specs.Promises.{Started, OnTime, ClosesByArrival, NamesMostUrgent, lastOrder, actualBook}
+use Rattle.reclaiming.specs.Promises.{Started, OnTime, ClosesByArrival, EarlierClosed, NamesMostUrgent, lastOrder, actualBook}
 use Rattle.reclaiming.specs.Numbers.{replyNumber}
-use Rattle.reclaiming.specs.Play.{replyFrom, replyNumbers, answersFrom, leftBy, playedState, playedReplies, PlayedOnTime, PlayedInTime, PlayedMostUrgent, actualTo}
+use Rattle.reclaiming.specs.Play.{replyFrom, replyNumbers, answersFrom, leftBy, playedState, playedReplies, PlayedOnTime, PlayedInTime, PlayedMostUrgent, PlayedPairsKept, actualTo}
 use Rattle.reclaiming.proofs.Fine.{Fine, Accepted}
 use Rattle.reclaiming.proofs.Replies.{is-idle, is-run, viewOrder, order-accepted, not-refused}
 use Rattle.reclaiming.proofs.Soundness.{sound-state, sound-fine, sound-table, sound-own, pass-accepted, fine-small, Starts, start-facts}
 use Rattle.reclaiming.proofs.PassSound.{start-fine, pass-fine}
-use Rattle.reclaiming.proofs.Demand.{demand-3, closes-in-time, runs-most-urgent, room, untouched}
+use Rattle.reclaiming.proofs.Demand.{demand-3, closes-in-time, runs-most-urgent, pairs-kept, room, untouched}
 
 -- a reply whose parts each fit their place in the number
 abbrev pub Small : Reply → Type 0
@@ -77,10 +78,10 @@ replied-small zero order small fits = fits refl
 replied-small (suc n) order small fits = small
 
 -- a start on lent blocks: its reply, whether that is an order, and the state that it leaves
-pub record Begun (levels block state : List ℕ) (x : Reply) (b : Bool) (l : List ℕ) : Type 0 where
-  pub replied : x ≡ startReply levels block (length state)
+pub record Begun (levels block pairs state : List ℕ) (x : Reply) (b : Bool) (l : List ℕ) : Type 0 where
+  pub replied : x ≡ startReply levels block pairs (length state)
   pub tested : b ≡ isOrder x
-  pub left : l ≡ startBuffer levels block state
+  pub left : l ≡ startBuffer levels block pairs state
   pub kept : length l ≡ length state
 
 -- every reply of a pass is such
@@ -134,7 +135,7 @@ module _ (levels : List ℕ) where
   speeds = speedsIn levels
 
   -- every reply of a start is such
-  module _ (block buffer : List ℕ) where
+  module _ (block pairs buffer : List ℕ) where
     abbrev begun : State
     begun = startState speeds (tasksIn block)
 
@@ -142,58 +143,58 @@ module _ (levels : List ℕ) where
     begun-hold = holdOf speeds (timing speeds (planIn begun)) begun
 
     -- a start is answered with an order exactly if no question is answered no
-    pub started-number : Started levels block buffer → startNumber levels block (length buffer) ≡ 0
-    started-number = not-refused (startNumber levels block (length buffer)) (startOrder speeds begun)
+    pub started-number : Started levels block pairs buffer → startNumber levels block pairs (length buffer) ≡ 0
+    started-number = not-refused (startNumber levels block pairs (length buffer)) (startOrder speeds begun)
 
-    pub number-started : startNumber levels block (length buffer) ≡ 0 → Started levels block buffer
+    pub number-started : startNumber levels block pairs (length buffer) ≡ 0 → Started levels block pairs buffer
     number-started e = ap (λ (n : ℕ). isOrder (repliedBy n (orderWith begun begun-hold))) e ∙ order-accepted begun begun-hold
 
-    start-small : Small (startReply levels block (length buffer))
+    start-small : Small (startReply levels block pairs (length buffer))
     start-small =
-        replied-small (startNumber levels block (length buffer)) (startOrder speeds begun)
-        (omega (arith, firstNo-most 255 (starting levels block (length buffer)) refl))
-        (λ e. order-small begun begun-hold (small (start-facts levels block (length buffer) e)))
+        replied-small (startNumber levels block pairs (length buffer)) (startOrder speeds begun)
+        (omega (arith, firstNo-most 255 (starting levels block pairs (length buffer)) refl))
+        (λ e. order-small begun begun-hold (small (start-facts levels block pairs (length buffer) e)))
       where
-        small : Starts levels block (length buffer) → (begun .task < 256) × (begun .level < 256)
+        small : Starts levels block pairs (length buffer) → (begun .task < 256) × (begun .level < 256)
         small k = fine-small speeds (tasksIn block) begun (k .good) (few-levels (k .table)) (start-fine speeds (tasksIn block) (k .good) (k .table .rising))
 
   -- what playing leaves where the start is accepted
-  module _ (block state : List ℕ) (passes : List Pass) where
+  module _ (block pairs state : List ℕ) (passes : List Pass) where
     abbrev bytes-left : List ℕ
-    bytes-left = bytesAfter (startedBytes levels block state) passes ++ drop stateLength state
+    bytes-left = bytesAfter (startedBytes levels block pairs state) passes ++ drop stateLength state
 
     abbrev replies-left : List ℕ → List ℕ
-    replies-left found = replyNumbers (trace (startedBytes levels block state) passes) ++ drop (length passes) found
+    replies-left found = replyNumbers (trace (startedBytes levels block pairs state) passes) ++ drop (length passes) found
 
   -- what holds of a run's replies holds of the numbers that playing leaves
-  module _ (block state found : List ℕ) (passes : List Pass) where
+  module _ (block pairs state found : List ℕ) (passes : List Pass) where
     abbrev first-number : ℕ
-    first-number = replyNumber (startReply levels block (length state))
+    first-number = replyNumber (startReply levels block pairs (length state))
 
     abbrev replies-found : List ℕ
-    replies-found = playedReplies levels block state passes found
+    replies-found = playedReplies levels block pairs state passes found
 
-    first-back : replyFrom first-number ≡ startReply levels block (length state)
-    first-back = from-number (startReply levels block (length state)) (start-small block state)
+    first-back : replyFrom first-number ≡ startReply levels block pairs (length state)
+    first-back = from-number (startReply levels block pairs (length state)) (start-small block pairs state)
 
-    pub number-accepted : isOrder (replyFrom first-number) ≡ true → Started levels block state
+    pub number-accepted : isOrder (replyFrom first-number) ≡ true → Started levels block pairs state
     number-accepted ok = ap isOrder (sym first-back) ∙ ok
 
     answers-back :
-        Started levels block state →
+        Started levels block pairs state →
         (n : ℕ) →
-        take n (answersFrom passes replies-found) ≡ trace (startedBytes levels block state) (take n passes)
+        take n (answersFrom passes replies-found) ≡ trace (startedBytes levels block pairs state) (take n passes)
     answers-back ok n =
         ap (take n)
-        (ap (λ (k : ℕ). answersFrom passes (leftBy k (replies-left block state passes found) found)) (started-number block state ok)
-        ∙ answers-same passes (startedBytes levels block state) (drop (length passes) found))
-        ∙ trace-take n (startedBytes levels block state) passes
+        (ap (λ (k : ℕ). answersFrom passes (leftBy k (replies-left block pairs state passes found) found)) (started-number block pairs state ok)
+        ∙ answers-same passes (startedBytes levels block pairs state) (drop (length passes) found))
+        ∙ trace-take n (startedBytes levels block pairs state) passes
 
     pub carried :
         (P : Reply → List Answered → Type 0) →
-        Started levels block state →
+        Started levels block pairs state →
         (n : ℕ) →
-        P (startReply levels block (length state)) (trace (startedBytes levels block state) (take n passes)) →
+        P (startReply levels block pairs (length state)) (trace (startedBytes levels block pairs state) (take n passes)) →
         P (replyFrom first-number) (take n (answersFrom passes replies-found))
     carried P ok n = subst₂ P (sym first-back) (sym (answers-back ok n))
 
@@ -202,119 +203,132 @@ module _ (levels : List ℕ) where
 
     played-on-time : PlayedOnTime levels block first-number passes replies-found
     played-on-time accepted n =
-        let ok : Started levels block state = number-accepted accepted in
+        let ok : Started levels block pairs state = number-accepted accepted in
         carried (λ (r : Reply) (l : List Answered). OnTime speeds τ (bookedAll speeds (tasksIn block) (openedBook (tasksIn block) r) l) (ranAll τ (opened τ) l)) ok n
-        (demand-3 levels block state (take n passes) ok)
+        (demand-3 levels block pairs state (take n passes) ok)
 
     played-in-time : PlayedInTime levels block first-number passes replies-found
     played-in-time accepted n =
-        let ok : Started levels block state = number-accepted accepted in
-        subst₂ (ClosesByArrival τ) (booked-back ok n) (booked-back ok (suc n)) (closes-in-time levels block state passes n ok)
+        let ok : Started levels block pairs state = number-accepted accepted in
+        subst₂ (ClosesByArrival τ) (booked-back ok n) (booked-back ok (suc n)) (closes-in-time levels block pairs state passes n ok)
       where
         booked-back :
-            Started levels block state →
+            Started levels block pairs state →
             (m : ℕ) →
-            actualBook levels block state (take m passes) ≡ actualTo levels block first-number passes replies-found m
+            actualBook levels block pairs state (take m passes) ≡ actualTo levels block first-number passes replies-found m
         booked-back ok m =
             ap₂ (λ (r : Reply) (l : List Answered). bookedAll speeds (tasksIn block) (openedBook (tasksIn block) r) l) (sym first-back) (sym (answers-back ok m))
 
     played-most-urgent : PlayedMostUrgent levels block first-number passes replies-found
     played-most-urgent accepted n =
-        let ok : Started levels block state = number-accepted accepted in
+        let ok : Started levels block pairs state = number-accepted accepted in
         carried (λ (r : Reply) (l : List Answered). NamesMostUrgent τ (bookedAll speeds (tasksIn block) (openedBook (tasksIn block) r) l) (lastOrder r l)) ok n
-        (runs-most-urgent levels block state (take n passes) ok)
+        (runs-most-urgent levels block pairs state (take n passes) ok)
+
+    played-pairs-kept : PlayedPairsKept levels block first-number passes replies-found pairs
+    played-pairs-kept accepted n =
+        let ok : Started levels block pairs state = number-accepted accepted in
+        carried (λ (r : Reply) (l : List Answered). EarlierClosed τ (pairsIn pairs) (bookedAll speeds (tasksIn block) (openedBook (tasksIn block) r) l)) ok n
+        (pairs-kept levels block pairs state (take n passes) ok)
 
   -- what it leaves where the start is refused, and where it is accepted
-  module _ (block state : List ℕ) (passes : List Pass) (found : List ℕ) where
+  module _ (block pairs state : List ℕ) (passes : List Pass) (found : List ℕ) where
     -- the number that is returned, the state and the replies; the promises are said of that number and those replies
     abbrev Promised : ℕ → List ℕ → Type 0
     Promised first replies =
         PlayedOnTime levels block first passes replies
-        × (PlayedInTime levels block first passes replies × PlayedMostUrgent levels block first passes replies)
+        × (PlayedInTime levels block first passes replies
+        × (PlayedMostUrgent levels block first passes replies × PlayedPairsKept levels block first passes replies pairs))
 
     abbrev PlayLeaves : ℕ → List ℕ → List ℕ → Type 0
     PlayLeaves first m replies =
-        (first ≡ replyNumber (startReply levels block (length state)))
-        × ((m ≡ playedState levels block state passes)
-        × ((replies ≡ playedReplies levels block state passes found) × Promised first replies))
+        (first ≡ replyNumber (startReply levels block pairs (length state)))
+        × ((m ≡ playedState levels block pairs state passes)
+        × ((replies ≡ playedReplies levels block pairs state passes found) × Promised first replies))
 
     play-leaves :
         (first : ℕ) (m replies : List ℕ) →
-        first ≡ replyNumber (startReply levels block (length state)) →
-        m ≡ playedState levels block state passes →
-        replies ≡ playedReplies levels block state passes found →
+        first ≡ replyNumber (startReply levels block pairs (length state)) →
+        m ≡ playedState levels block pairs state passes →
+        replies ≡ playedReplies levels block pairs state passes found →
         PlayLeaves first m replies
     play-leaves first m replies e f r =
         (e, (f, (r, subst₂ Promised (sym e) (sym r) promised)))
       where
-        promised : Promised (replyNumber (startReply levels block (length state))) (playedReplies levels block state passes found)
-        promised = (played-on-time block state found passes, (played-in-time block state found passes, played-most-urgent block state found passes))
+        promised : Promised (replyNumber (startReply levels block pairs (length state))) (playedReplies levels block pairs state passes found)
+        promised = (
+          played-on-time block pairs state found passes,
+          (
+            played-in-time block pairs state found passes,
+            (played-most-urgent block pairs state found passes, played-pairs-kept block pairs state found passes),
+          ),
+        )
 
     -- by the number of the start's questions
     abbrev stateBy : ℕ → List ℕ
-    stateBy n = leftBy n (bytes-left block state passes) state
+    stateBy n = leftBy n (bytes-left block pairs state passes) state
 
     abbrev repliesBy : ℕ → List ℕ
-    repliesBy n = leftBy n (replies-left block state passes found) found
+    repliesBy n = leftBy n (replies-left block pairs state passes found) found
 
     left-refused :
         (n : ℕ) →
-        startNumber levels block (length state) ≡ n →
-        (Started levels block state → ⊥) →
-        (startBuffer levels block state ≡ playedState levels block state passes) × (found ≡ playedReplies levels block state passes found)
-    left-refused zero e never = absurd (never (number-started block state e))
+        startNumber levels block pairs (length state) ≡ n →
+        (Started levels block pairs state → ⊥) →
+        (startBuffer levels block pairs state ≡ playedState levels block pairs state passes) × (found ≡ playedReplies levels block pairs state passes found)
+    left-refused zero e never = absurd (never (number-started block pairs state e))
     left-refused (suc n) e never = (
-      ap (λ (k : ℕ). storedBy k (encode (begun block state)) state) e ∙ sym (ap stateBy e),
+      ap (λ (k : ℕ). storedBy k (encode (begun block pairs state)) state) e ∙ sym (ap stateBy e),
       sym (ap repliesBy e),
     )
 
-    module _ (ok : Started levels block state) (l : List ℕ) (started : l ≡ startBuffer levels block state) where
-      left-state : (m : List ℕ) → m ≡ bytesAfter (take stateLength l) passes → m ++ drop stateLength l ≡ playedState levels block state passes
+    module _ (ok : Started levels block pairs state) (l : List ℕ) (started : l ≡ startBuffer levels block pairs state) where
+      left-state : (m : List ℕ) → m ≡ bytesAfter (take stateLength l) passes → m ++ drop stateLength l ≡ playedState levels block pairs state passes
       left-state m e =
           ap₂ (λ (x y : List ℕ). x ++ y)
           (e ∙ ap (λ (x : List ℕ). bytesAfter (take stateLength x) passes) started)
-          (ap (drop stateLength) started ∙ untouched levels block state ok)
-          ∙ sym (ap stateBy (started-number block state ok))
+          (ap (drop stateLength) started ∙ untouched levels block pairs state ok)
+          ∙ sym (ap stateBy (started-number block pairs state ok))
 
       left-replies :
           (m : List ℕ) →
           m ≡ replyNumbers (trace (take stateLength l) passes) ++ drop (length passes) found →
-          m ≡ playedReplies levels block state passes found
+          m ≡ playedReplies levels block pairs state passes found
       left-replies m e =
           e
           ∙ ap (λ (x : List ℕ). replyNumbers (trace (take stateLength x) passes) ++ drop (length passes) found) started
-          ∙ sym (ap repliesBy (started-number block state ok))
+          ∙ sym (ap repliesBy (started-number block pairs state ok))
 
-  module _ {block state : List ℕ} {x : Reply} {b : Bool} {l : List ℕ} (begun : Begun levels block state x b l) where
-    order-tested : b ≡ isOrder (startReply levels block (length state))
+  module _ {block pairs state : List ℕ} {x : Reply} {b : Bool} {l : List ℕ} (begun : Begun levels block pairs state x b l) where
+    order-tested : b ≡ isOrder (startReply levels block pairs (length state))
     order-tested = begun .tested ∙ ap isOrder (begun .replied)
 
-    is-refusal : b ≡ false → Started levels block state → ⊥
+    is-refusal : b ≡ false → Started levels block pairs state → ⊥
     is-refusal f ok = true≢false (sym ok ∙ sym order-tested ∙ f)
 
-    no-refusal : b ≡ true → Started levels block state
+    no-refusal : b ≡ true → Started levels block pairs state
     no-refusal t = sym order-tested ∙ t
 
     -- an accepted start has its 217 bytes
     pub play-room : b ≡ true → stateLength ≤ length l
-    play-room t = omega (arith, room levels block state (no-refusal t), begun .kept)
+    play-room t = omega (arith, room levels block pairs state (no-refusal t), begun .kept)
 
     module _ (passes : List Pass) (found : List ℕ) {first : ℕ} (numbered : first ≡ replyNumber x) where
-      first-is : first ≡ replyNumber (startReply levels block (length state))
+      first-is : first ≡ replyNumber (startReply levels block pairs (length state))
       first-is = numbered ∙ ap replyNumber (begun .replied)
 
-      pub play-refused : b ≡ false → PlayLeaves block state passes found first l found
+      pub play-refused : b ≡ false → PlayLeaves block pairs state passes found first l found
       play-refused f =
-          let same = left-refused block state passes found (startNumber levels block (length state)) refl (is-refusal f) in
-          play-leaves block state passes found first l found first-is (begun .left ∙ same .0) (same .1)
+          let same = left-refused block pairs state passes found (startNumber levels block pairs (length state)) refl (is-refusal f) in
+          play-leaves block pairs state passes found first l found first-is (begun .left ∙ same .0) (same .1)
 
       pub play-accepted :
           {m replies : List ℕ} →
           b ≡ true →
           m ≡ bytesAfter (take stateLength l) passes →
           replies ≡ replyNumbers (trace (take stateLength l) passes) ++ drop (length passes) found →
-          PlayLeaves block state passes found first (m ++ drop stateLength l) replies
+          PlayLeaves block pairs state passes found first (m ++ drop stateLength l) replies
       play-accepted {m} {replies} t e r =
-          play-leaves block state passes found first (m ++ drop stateLength l) replies first-is
-          (left-state block state passes found (no-refusal t) l (begun .left) m e)
-          (left-replies block state passes found (no-refusal t) l (begun .left) replies r)
+          play-leaves block pairs state passes found first (m ++ drop stateLength l) replies first-is
+          (left-state block pairs state passes found (no-refusal t) l (begun .left) m e)
+          (left-replies block pairs state passes found (no-refusal t) l (begun .left) replies r)

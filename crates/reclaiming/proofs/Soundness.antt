@@ -20,6 +20,7 @@ use Rattle.plan.specs.Times.{whole, Within, timeOf, taskTime}
 use Rattle.plan.specs.Levels.{Rising, nominal}
 use Rattle.plan.specs.LevelBlocks.{tableGood, loading, speedsIn}
 use Rattle.plan.specs.Blocks.{noTask, tasksIn}
+use Rattle.plan.specs.Pairs.{pairsGood, pairsQuestion, pairedReading}
 use Rattle.plan.specs.Questions.{judging, reading, roomQuestion}
 use Rattle.plan.proofs.LevelBlockLaws.{FineTable, fine-table, loaded-table}
 use Rattle.plan.proofs.Facts.{FineList, InRange, fine-list, list-yes, fine-block, block-list}
@@ -268,21 +269,25 @@ module _ (bytes : List ℕ) (h : sound bytes ≡ true) where
   sound-own = both-right (tableGood held) (soundAt held bytes) h
 
 -- a start that no question refuses: its level block and its plan are accepted, and there is room
-pub record Starts (levels block : List ℕ) (room : ℕ) : Type 0 where
+pub record Starts (levels block pairs : List ℕ) (room : ℕ) : Type 0 where
   pub table : FineTable (speedsIn levels)
   pub good : FineList (speedsIn levels) (length (tasksIn block)) (tasksIn block)
+  pub paired : pairsGood (tasksIn block) pairs ≡ true
   pub long : stateLength ≤ room
 
-pub start-facts : (levels block : List ℕ) (room : ℕ) → firstNo (starting levels block room) ≡ 0 → Starts levels block room
-start-facts levels block room h =
+pub start-facts : (levels block pairs : List ℕ) (room : ℕ) → firstNo (starting levels block pairs room) ≡ 0 → Starts levels block pairs room
+start-facts levels block pairs room h =
     let speeds : List ℕ = speedsIn levels in
     let then-room : List Question = roomQuestion stateLength room ∷ [] in
-    let then-plan : List Question = reading speeds block ++ then-room in
-    let plan : firstNo then-plan ≡ 0 = yes-after (loading levels) then-plan refl h in
+    let then-pairs : List Question = pairsQuestion (tasksIn block) pairs ∷ [] in
+    let then-plan : List Question = pairedReading speeds block pairs ++ then-room in
+    let all : firstNo then-plan ≡ 0 = yes-after (loading levels) then-plan refl h in
+    let plan : firstNo (pairedReading speeds block pairs) ≡ 0 = yes-of (pairedReading speeds block pairs) then-room all in
     record {
       table = loaded-table levels (yes-of (loading levels) then-plan h);
-      good = block-list speeds block (fine-block speeds block (yes-of (reading speeds block) then-room plan));
-      long = leb-true stateLength room (all-yes then-room refl (yes-after (reading speeds block) then-room refl plan) .0);
+      good = block-list speeds block (fine-block speeds block (yes-of (reading speeds block) then-pairs plan));
+      paired = all-yes then-pairs refl (yes-after (reading speeds block) then-pairs refl plan) .0;
+      long = leb-true stateLength room (all-yes then-room refl (yes-after (pairedReading speeds block pairs) then-room refl all) .0);
     }
 
 -- an order's task and level fit a byte each

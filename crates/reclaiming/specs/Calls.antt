@@ -35,19 +35,19 @@ abbrev pub isOrder : Reply → Bool
 isOrder r = isAccepted (replyAnswer r)
 
 -- starting
-abbrev pub startNumber : List ℕ → List ℕ → ℕ → ℕ
-startNumber levels block room = firstNo (starting levels block room)
+abbrev pub startNumber : List ℕ → List ℕ → List ℕ → ℕ → ℕ
+startNumber levels block pairs room = firstNo (starting levels block pairs room)
 
 abbrev pub startOrder : List ℕ → State → Reply
 startOrder speeds s = orderWith s (holdOf speeds (timing speeds (planIn s)) s)
 
-abbrev pub startReply : List ℕ → List ℕ → ℕ → Reply
-startReply levels block room =
-    repliedBy (startNumber levels block room) (startOrder (speedsIn levels) (startState (speedsIn levels) (tasksIn block)))
+abbrev pub startReply : List ℕ → List ℕ → List ℕ → ℕ → Reply
+startReply levels block pairs room =
+    repliedBy (startNumber levels block pairs room) (startOrder (speedsIn levels) (startState (speedsIn levels) (tasksIn block)))
 
-abbrev pub startBuffer : List ℕ → List ℕ → List ℕ → List ℕ
-startBuffer levels block buffer =
-    storedBy (startNumber levels block (length buffer)) (encode (startState (speedsIn levels) (tasksIn block))) buffer
+abbrev pub startBuffer : List ℕ → List ℕ → List ℕ → List ℕ → List ℕ
+startBuffer levels block pairs buffer =
+    storedBy (startNumber levels block pairs (length buffer)) (encode (startState (speedsIn levels) (tasksIn block))) buffer
 
 -- passing
 abbrev pub passNumber : List ℕ → ℕ → Bool → ℕ

@@ -11,13 +11,14 @@ use Rattle.plan.specs.declared.Written.{Written}
 use Rattle.plan.specs.declared.Written.the-variants as written
 use Rattle.plan.specs.LevelBlocks.{speedsIn}
 use Rattle.plan.specs.Blocks.{tasksIn}
+use Rattle.plan.specs.Pairs.{pairsIn}
 use Rattle.schedule.specs.PlainSchedule.{Book, opened}
 use Rattle.reclaiming.specs.declared.Reply.{Reply}
 use Rattle.reclaiming.specs.declared.Reply.the-variants as reply
 use Rattle.reclaiming.specs.StateBlock.{timing, stateLength}
 use Rattle.reclaiming.specs.Calls.{isOrder, startNumber, showReply, showBuffer}
 use Rattle.reclaiming.specs.Run.{Pass, Answered, DispatcherBook, trace, bytesAfter, startedBytes, openedBook, bookedAll, ranAll}
-use Rattle.reclaiming.specs.Promises.{OnTime, ClosesByArrival, NamesMostUrgent, Shows, lastOrder}
+use Rattle.reclaiming.specs.Promises.{OnTime, ClosesByArrival, EarlierClosed, NamesMostUrgent, Shows, lastOrder}
 use Rattle.reclaiming.specs.Numbers.{replyNumber}
 
 -- a pass as a number: d in its lower 32 bits, and the next bit says whether the job finished
@@ -44,16 +45,16 @@ abbrev pub leftBy {ℓ} : {A : Type ℓ} → ℕ → A → A → A
 leftBy zero done found = done
 leftBy (suc n) done found = found
 
-abbrev pub playedState : List ℕ → List ℕ → List ℕ → List Pass → List ℕ
-playedState levels block state passes =
-    leftBy (startNumber levels block (length state))
-    (bytesAfter (startedBytes levels block state) passes ++ drop stateLength state)
+abbrev pub playedState : List ℕ → List ℕ → List ℕ → List ℕ → List Pass → List ℕ
+playedState levels block pairs state passes =
+    leftBy (startNumber levels block pairs (length state))
+    (bytesAfter (startedBytes levels block pairs state) passes ++ drop stateLength state)
     state
 
-abbrev pub playedReplies : List ℕ → List ℕ → List ℕ → List Pass → List ℕ → List ℕ
-playedReplies levels block state passes replies =
-    leftBy (startNumber levels block (length state))
-    (replyNumbers (trace (startedBytes levels block state) passes) ++ drop (length passes) replies)
+abbrev pub playedReplies : List ℕ → List ℕ → List ℕ → List ℕ → List Pass → List ℕ → List ℕ
+playedReplies levels block pairs state passes replies =
+    leftBy (startNumber levels block pairs (length state))
+    (replyNumbers (trace (startedBytes levels block pairs state) passes) ++ drop (length passes) replies)
     replies
 
 -- the passes with the replies that stand in the lent block
@@ -63,16 +64,16 @@ answersFrom (p ∷ ps) [] = []
 answersFrom (p ∷ ps) (x ∷ xs) = record { pass = p; reply = replyFrom x } ∷ answersFrom ps xs
 
 -- what showing the queue after the passes answers, no bytes where the start was refused and nothing is shown; and what it leaves
-abbrev pub playedShown : List ℕ → List ℕ → List ℕ → List Pass → ℕ → Written
-playedShown levels block state passes room =
-    leftBy (startNumber levels block (length state))
-    (showReply (bytesAfter (startedBytes levels block state) passes) room)
+abbrev pub playedShown : List ℕ → List ℕ → List ℕ → List ℕ → List Pass → ℕ → Written
+playedShown levels block pairs state passes room =
+    leftBy (startNumber levels block pairs (length state))
+    (showReply (bytesAfter (startedBytes levels block pairs state) passes) room)
     (written.Bytes 0)
 
-abbrev pub playedQueue : List ℕ → List ℕ → List ℕ → List Pass → List ℕ → List ℕ
-playedQueue levels block state passes lent =
-    leftBy (startNumber levels block (length state))
-    (showBuffer (bytesAfter (startedBytes levels block state) passes) lent)
+abbrev pub playedQueue : List ℕ → List ℕ → List ℕ → List ℕ → List Pass → List ℕ → List ℕ
+playedQueue levels block pairs state passes lent =
+    leftBy (startNumber levels block pairs (length state))
+    (showBuffer (bytesAfter (startedBytes levels block pairs state) passes) lent)
     lent
 
 -- the promises, said of the number that was returned and of those that were left in the lent block
@@ -107,6 +108,13 @@ module _ (levels block : List ℕ) (first : ℕ) (passes : List Pass) (replies :
       isOrder (replyFrom first) ≡ true →
       (n : ℕ) →
       NamesMostUrgent (timing (speedsIn levels) (tasksIn block)) (actualTo n) (lastOrder (replyFrom first) (answersTo n))
+
+  -- 02, No. 5: before pass n, where the later task of a pair runs in it, the earlier's job that arrived with the running one is closed
+  abbrev pub PlayedPairsKept : List ℕ → Type 0
+  PlayedPairsKept pairs =
+      isOrder (replyFrom first) ≡ true →
+      (n : ℕ) →
+      EarlierClosed (timing (speedsIn levels) (tasksIn block)) (pairsIn pairs) (actualTo n)
 
   -- demand 2: the queue shown after all passes is that of the plain schedule's book
   abbrev pub PlayedQueueShown : List ℕ → Written → List ℕ → Type 0

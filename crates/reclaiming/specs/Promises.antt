@@ -7,21 +7,22 @@ use mathlib.Core.List.{List, [], _∷_}
 use mathlib.Core.Logic.{_⊎_}
 use lib.Dec.{eqb}
 use lib.ListN.{length, take}
-use Rattle.arith.specs.Choice.{both}
+use Rattle.arith.specs.Choice.{pick, both}
 use Rattle.plan.specs.declared.Written.{Written}
 use Rattle.plan.specs.Times.{timeOf}
 use Rattle.plan.specs.Levels.{speedOf}
 use Rattle.plan.specs.LevelBlocks.{speedsIn}
 use Rattle.plan.specs.Blocks.{tasksIn}
+use Rattle.plan.specs.Pairs.{Pair, pairsIn, pairNumber}
 use Rattle.plan.specs.Answers.{roomNumber, writtenBy, storedBy}
 use Rattle.schedule.specs.PlainSchedule.{Timing, Job, Pending, Book, deadline, moreUrgent, latest, opened, canonicalAt}
 use Rattle.schedule.specs.Feasibility.{In}
 use Rattle.reclaiming.specs.declared.Reply.{Reply}
 use Rattle.reclaiming.specs.declared.Reply.the-variants as reply
-use Rattle.reclaiming.specs.StateBlock.{restOf, decode, timing}
+use Rattle.reclaiming.specs.StateBlock.{restOf, decode, timing, stateLength}
 use Rattle.reclaiming.specs.Orders.{nextArrival}
 use Rattle.reclaiming.specs.Questions.{sound, largestClock}
-use Rattle.reclaiming.specs.Calls.{isOrder, startReply, passReply, queueBytes, showReply, showBuffer}
+use Rattle.reclaiming.specs.Calls.{isOrder, startNumber, startReply, passReply, queueBytes, showReply, showBuffer}
 use Rattle.reclaiming.specs.Run.{Pass, Answered, DispatcherBook, Arrived, trace, bytesAfter, startedBytes, openedBook, bookedAll, ranAll}
 
 -- a job is open in the plain schedule's book
@@ -90,9 +91,18 @@ NamesMostUrgent τ b (reply.Run task level hold) = MostUrgent τ b (latest τ (b
 NamesMostUrgent τ b (reply.Idle hold) = (j : Job) → OpenActual τ b j → ⊥
 NamesMostUrgent τ b (reply.Refused n) = ⊥
 
--- "on an accepted plan": starting answered with an order, so the level block before it was accepted too
-abbrev pub Started : List ℕ → List ℕ → List ℕ → Type 0
-Started levels block buffer = isOrder (startReply levels block (length buffer)) ≡ true
+-- 02, No. 5: the job of a task "that arrived at the same tick" as the running one
+abbrev pub arrivedWith : Timing → DispatcherBook → ℕ → Job
+arrivedWith τ b i = record { task = i; arrival = latest τ (b .clock) (b .task) .arrival }
+
+-- 02, No. 5: "no job of the later task first runs while the earlier's job that arrived at the same tick is open": where a pair's later task
+-- is the running one, for the first time or not, that job is closed
+abbrev pub EarlierClosed : Timing → List Pair → DispatcherBook → Type 0
+EarlierClosed τ pairs b = (p : Pair) → In p pairs → b .task ≡ p .later → In (arrivedWith τ b (p .earlier)) (b .closed)
+
+-- "on an accepted plan": starting answered with an order, so the level block before it and the pairs with it were accepted too
+abbrev pub Started : List ℕ → List ℕ → List ℕ → List ℕ → Type 0
+Started levels block pairs buffer = isOrder (startReply levels block pairs (length buffer)) ≡ true
 
 -- a queue is shown in a lent buffer: 9 if it is not long enough, else the count of the queue's bytes, and these at its front
 pub record Shows (queue : List Pending) (lent : List ℕ) (answer : Written) (left : List ℕ) : Type 0 where
@@ -100,15 +110,15 @@ pub record Shows (queue : List Pending) (lent : List ℕ) (answer : Written) (le
   pub leaves : left ≡ storedBy (roomNumber (length (queueBytes queue)) (length lent)) (queueBytes queue) lent
 
 -- a run: a start on a lent buffer, over a level block, then any list of passes
-module _ (levels block buffer : List ℕ) (passes : List Pass) where
+module _ (levels block pairs buffer : List ℕ) (passes : List Pass) where
   abbrev pub replies : List Answered
-  replies = trace (startedBytes levels block buffer) passes
+  replies = trace (startedBytes levels block pairs buffer) passes
 
   abbrev pub stateAfter : List ℕ
-  stateAfter = bytesAfter (startedBytes levels block buffer) passes
+  stateAfter = bytesAfter (startedBytes levels block pairs buffer) passes
 
   abbrev pub actualBook : DispatcherBook
-  actualBook = bookedAll (speedsIn levels) (tasksIn block) (openedBook (tasksIn block) (startReply levels block (length buffer))) replies
+  actualBook = bookedAll (speedsIn levels) (tasksIn block) (openedBook (tasksIn block) (startReply levels block pairs (length buffer))) replies
 
   abbrev pub plainBook : Book
   plainBook = ranAll (timing (speedsIn levels) (tasksIn block)) (opened (timing (speedsIn levels) (tasksIn block))) replies
@@ -117,50 +127,65 @@ module _ (levels block buffer : List ℕ) (passes : List Pass) where
 -- 2 and 3 are shown once for any accepted table, not for each."
 abbrev pub Demand3 : Type 0
 Demand3 =
-    (levels block buffer : List ℕ) (passes : List Pass) →
-    Started levels block buffer →
-    OnTime (speedsIn levels) (timing (speedsIn levels) (tasksIn block)) (actualBook levels block buffer passes) (plainBook levels block buffer passes)
+    (levels block pairs buffer : List ℕ) (passes : List Pass) →
+    Started levels block pairs buffer →
+    OnTime (speedsIn levels) (timing (speedsIn levels) (tasksIn block)) (actualBook levels block pairs buffer passes) (plainBook levels block pairs buffer passes)
 
 -- 02, No. 4, of every pass of a run: the n-th of any list
 abbrev pub ClosesInTime : Type 0
 ClosesInTime =
-    (levels block buffer : List ℕ) (passes : List Pass) (n : ℕ) →
-    Started levels block buffer →
-    ClosesByArrival (timing (speedsIn levels) (tasksIn block)) (actualBook levels block buffer (take n passes))
-    (actualBook levels block buffer (take (suc n) passes))
+    (levels block pairs buffer : List ℕ) (passes : List Pass) (n : ℕ) →
+    Started levels block pairs buffer →
+    ClosesByArrival (timing (speedsIn levels) (tasksIn block)) (actualBook levels block pairs buffer (take n passes))
+    (actualBook levels block pairs buffer (take (suc n) passes))
 
 -- Demand 2: "The queue shown is the ready queue of the plain schedule at that tick, from any accepted start on."
 -- Said of the call: of what showing answers and leaves, for any lent buffer.
 abbrev pub QueueShown : Type 0
 QueueShown =
-    (levels block buffer : List ℕ) (passes : List Pass) (lent : List ℕ) →
-    Started levels block buffer →
-    Shows (plainBook levels block buffer passes .pending) lent
-    (showReply (stateAfter levels block buffer passes) (length lent))
-    (showBuffer (stateAfter levels block buffer passes) lent)
+    (levels block pairs buffer : List ℕ) (passes : List Pass) (lent : List ℕ) →
+    Started levels block pairs buffer →
+    Shows (plainBook levels block pairs buffer passes .pending) lent
+    (showReply (stateAfter levels block pairs buffer passes) (length lent))
+    (showBuffer (stateAfter levels block pairs buffer passes) lent)
 
 -- A started state is sound, and so is every state that a pass leaves: in a run refusal 10 never comes.
 abbrev pub StaysSound : Type 0
 StaysSound =
-    (levels block buffer : List ℕ) (passes : List Pass) →
-    Started levels block buffer →
-    sound (stateAfter levels block buffer passes) ≡ true
+    (levels block pairs buffer : List ℕ) (passes : List Pass) →
+    Started levels block pairs buffer →
+    sound (stateAfter levels block pairs buffer passes) ≡ true
 
 -- Its speeds stay those that were loaded.
 abbrev pub SameSpeeds : Type 0
 SameSpeeds =
-    (levels block buffer : List ℕ) (passes : List Pass) →
-    Started levels block buffer →
-    decode (stateAfter levels block buffer passes) .speeds ≡ speedsIn levels
+    (levels block pairs buffer : List ℕ) (passes : List Pass) →
+    Started levels block pairs buffer →
+    decode (stateAfter levels block pairs buffer passes) .speeds ≡ speedsIn levels
 
 -- What is left of each task's latest job by the dispatcher's book, which takes nothing from the state, is what the state holds.
 abbrev pub SameLeft : Type 0
 SameLeft =
-    (levels block buffer : List ℕ) (passes : List Pass) →
-    Started levels block buffer →
+    (levels block pairs buffer : List ℕ) (passes : List Pass) →
+    Started levels block pairs buffer →
     (i : ℕ) →
     i < length (tasksIn block) →
-    actualBook levels block buffer passes .left i ≡ restOf (decode (stateAfter levels block buffer passes)) i
+    actualBook levels block pairs buffer passes .left i ≡ restOf (decode (stateAfter levels block pairs buffer passes)) i
+
+-- 02, No. 5, "in a run as in demand 3", of the dispatcher's book after any list of passes. That is the book before the pass that comes next,
+-- so it is said of every pass in which a later task runs, the accepted ones among them.
+abbrev pub PairsKept : Type 0
+PairsKept =
+    (levels block pairs buffer : List ℕ) (passes : List Pass) →
+    Started levels block pairs buffer →
+    EarlierClosed (timing (speedsIn levels) (tasksIn block)) (pairsIn pairs) (actualBook levels block pairs buffer passes)
+
+-- What is answered about a list before the start is what starting with it is answered; then only the room is left to ask.
+abbrev pub AskedBefore : Type 0
+AskedBefore =
+    (levels block pairs : List ℕ) (room : ℕ) →
+    startNumber levels block pairs room
+    ≡ pick (eqb (pairNumber levels block pairs) 0) (roomNumber stateLength room) (pairNumber levels block pairs)
 
 -- an order to run
 abbrev pub isRun : Reply → Bool
@@ -187,10 +212,10 @@ lastOrder last (a ∷ rest) = lastOrder (orderAfter last (a .reply)) rest
 -- After any run the order that stands names the most urgent open job.
 abbrev pub RunsMostUrgent : Type 0
 RunsMostUrgent =
-    (levels block buffer : List ℕ) (passes : List Pass) →
-    Started levels block buffer →
-    NamesMostUrgent (timing (speedsIn levels) (tasksIn block)) (actualBook levels block buffer passes)
-    (lastOrder (startReply levels block (length buffer)) (replies levels block buffer passes))
+    (levels block pairs buffer : List ℕ) (passes : List Pass) →
+    Started levels block pairs buffer →
+    NamesMostUrgent (timing (speedsIn levels) (tasksIn block)) (actualBook levels block pairs buffer passes)
+    (lastOrder (startReply levels block pairs (length buffer)) (replies levels block pairs buffer passes))
 
 -- No dead end: after any run, the pass that the order itself suggests (its hold; finished exactly if that is the whole time needed) is
 -- accepted, and so is every earlier finish, as long as the clock stays within the largest.
@@ -208,8 +233,8 @@ pub record Open (speeds bytes : List ℕ) (order : Reply) (book : DispatcherBook
 
 abbrev pub NoDeadEnd : Type 0
 NoDeadEnd =
-    (levels block buffer : List ℕ) (passes : List Pass) →
-    Started levels block buffer →
-    Open (speedsIn levels) (stateAfter levels block buffer passes)
-    (lastOrder (startReply levels block (length buffer)) (replies levels block buffer passes))
-    (actualBook levels block buffer passes)
+    (levels block pairs buffer : List ℕ) (passes : List Pass) →
+    Started levels block pairs buffer →
+    Open (speedsIn levels) (stateAfter levels block pairs buffer passes)
+    (lastOrder (startReply levels block pairs (length buffer)) (replies levels block pairs buffer passes))
+    (actualBook levels block pairs buffer passes)

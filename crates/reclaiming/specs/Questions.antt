@@ -10,7 +10,8 @@ use Rattle.arith.specs.Asking.{Question, ask, firstNo}
 use Rattle.plan.specs.Times.{timeOf, taskTime}
 use Rattle.plan.specs.Levels.{speedOf, nominal}
 use Rattle.plan.specs.LevelBlocks.{tableGood, loading, speedsIn}
-use Rattle.plan.specs.Questions.{judging, reading, roomQuestion}
+use Rattle.plan.specs.Questions.{judging, roomQuestion}
+use Rattle.plan.specs.Pairs.{pairedReading}
 use Rattle.schedule.specs.PlainSchedule.{Timing, Pending}
 use Rattle.reclaiming.specs.declared.Entry.{Entry}
 use Rattle.reclaiming.specs.StateBlock.{State, restIn, taskOf, planIn, timing, decode, laidOut, stateLength}
@@ -94,6 +95,8 @@ passing bytes d finished = ask 10 (sound bytes) ∷ passQuestions (decode bytes 
 abbrev pub showing : List ℕ → ℕ → ℕ → List Question
 showing bytes wanted room = ask 10 (sound bytes) ∷ roomQuestion wanted room ∷ []
 
--- "Starting reads the block, then puts 9 for the [217] bytes."; the level block's questions come "before all else"
-abbrev pub starting : List ℕ → List ℕ → ℕ → List Question
-starting levels block room = loading levels ++ (reading (speedsIn levels) block ++ (roomQuestion stateLength room ∷ []))
+-- "Starting reads the block, then puts 9 for the [217] bytes."; the level block's questions come "before all else"; 02, No. 5: a list of
+-- pairs "comes with the plan at starting", and 22 is "put after 8"
+abbrev pub starting : List ℕ → List ℕ → List ℕ → ℕ → List Question
+starting levels block pairs room =
+    loading levels ++ (pairedReading (speedsIn levels) block pairs ++ (roomQuestion stateLength room ∷ []))

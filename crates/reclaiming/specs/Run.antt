@@ -42,8 +42,8 @@ bytesAfter bytes [] = bytes
 bytesAfter bytes (p ∷ ps) = bytesAfter (passBytes bytes (p .d) (p .finished)) ps
 
 -- demand 3: "the first gets the state that starting gave on an accepted plan": the first 217 bytes of the lent buffer
-abbrev pub startedBytes : List ℕ → List ℕ → List ℕ → List ℕ
-startedBytes levels block buffer = take stateLength (startBuffer levels block buffer)
+abbrev pub startedBytes : List ℕ → List ℕ → List ℕ → List ℕ → List ℕ
+startedBytes levels block pairs buffer = take stateLength (startBuffer levels block pairs buffer)
 
 -- the dispatcher's book: its clock, the jobs that it has closed, the running task and its level, which are those of "the order last
 -- returned" (255 and 0 for none), and what is left of each task's latest job
@@ -128,8 +128,8 @@ linesFrom speeds ts b (a ∷ rest) =
     line (next .clock) (a .reply) ∷ linesFrom speeds ts next rest
 
 -- the lines of a run: one for the start, at clock 0, and one for each pass
-abbrev pub runLines : List ℕ → List ℕ → List ℕ → List Pass → List Line
-runLines levels block buffer passes =
-    let first : Reply = startReply levels block (length buffer) in
+abbrev pub runLines : List ℕ → List ℕ → List ℕ → List ℕ → List Pass → List Line
+runLines levels block pairs buffer passes =
+    let first : Reply = startReply levels block pairs (length buffer) in
     line 0 first
-    ∷ linesFrom (speedsIn levels) (tasksIn block) (openedBook (tasksIn block) first) (trace (startedBytes levels block buffer) passes)
+    ∷ linesFrom (speedsIn levels) (tasksIn block) (openedBook (tasksIn block) first) (trace (startedBytes levels block pairs buffer) passes)

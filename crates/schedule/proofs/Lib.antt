@@ -5,6 +5,7 @@ pub mod Arrivals
 pub mod Invariant
 pub mod Closing
 pub mod Periods
+pub mod Together
 pub mod Demand
 pub mod Feasible
 pub mod Drain

@@ -17,14 +17,16 @@ use Rattle.plan.specs.declared.Verdict.the-variants as verdict
 use Rattle.plan.specs.Times.{whole, timeOf, taskTime}
 use Rattle.plan.specs.Levels.{Rising, speedOf, nominal}
 use Rattle.plan.specs.LevelBlocks.{loading, speedsIn}
-use Rattle.plan.specs.Blocks.{noTask, tasksOf, tasksIn, planOf}
+use Rattle.plan.specs.Blocks.{noTask, tasksOf, tasksIn}
 use Rattle.plan.specs.Questions.{inRange, judging, reading, roomQuestion}
 use Rattle.arith.specs.Asking.{Question, firstNo}
-use Rattle.plan.specs.Answers.{roomNumber, answered, beside, judgedBy, storedBy}
+use Rattle.plan.specs.Answers.{roomNumber, judgedBy, storedBy}
+use Rattle.plan.specs.Pairs.{pairsQuestion, pairedReading}
 use Rattle.plan.proofs.Facts.{InRange, range-at, FineList, fine-list, length-tasksOf}
-use Rattle.plan.proofs.RoundTrip.{tasksOf-planOf, read-judged}
-use Rattle.plan.proofs.AnswerLaws.{told-refused, told-admitted, Refusal}
-use Rattle.arith.proofs.QuestionLaws.{no-before, yes-before}
+use Rattle.plan.proofs.RoundTrip.{read-judged}
+use Rattle.plan.proofs.AnswerLaws.{Refusal}
+use Rattle.plan.proofs.JudgedLaws.{judged-refused, Admitted, none-answered-no, plan-is, tasks-are, level-is}
+use Rattle.arith.proofs.QuestionLaws.{no-before, yes-before, yes-of}
 use Rattle.schedule.specs.PlainSchedule.{Timing}
 use Rattle.reclaiming.specs.declared.Entry.{Entry}
 use Rattle.reclaiming.specs.declared.Reply.{Reply}
@@ -331,80 +333,67 @@ module _ {speeds : List ℕ} {ts : List Task} {image : List ℕ} (new : Newly sp
       ∙ ap (λ (n : ℕ). encode S ++ drop n buffer) (sym (length-encode S (start-storable .count))) in
       subst (λ (n : ℕ). LeftBy speeds n ts buffer r m) zero-is (order, stored)
 
--- what starting a block leaves at a table of speeds: a reply, and the bytes of the state
-abbrev pub Left : List ℕ → List ℕ → List ℕ → Reply → List ℕ → Type 0
-Left speeds block buffer r m = LeftBy speeds (startNo speeds block (length buffer)) (tasksIn block) buffer r m
+-- what starting a block with its pairs leaves at a table of speeds: a reply, and the bytes of the state
+abbrev pub Left : List ℕ → List ℕ → List ℕ → List ℕ → Reply → List ℕ → Type 0
+Left speeds block pairs buffer r m = LeftBy speeds (startNo speeds block pairs (length buffer)) (tasksIn block) buffer r m
 
--- by what reading the block answers
-abbrev pub readAt : List ℕ → List ℕ → Judged
-readAt speeds block = judgedBy (firstNo (reading speeds block)) speeds (tasksIn block)
+-- by what reading the block with them answers
+module _ (speeds block pairs : List ℕ) where
+  abbrev pub readNumber : ℕ
+  readNumber = firstNo (pairedReading speeds block pairs)
 
-pub start-unread :
-    (speeds block buffer : List ℕ) {j : Judged} {n : ℕ} →
-    j ≡ readAt speeds block →
-    j .verdict ≡ verdict.Refused n →
-    Left speeds block buffer (reply.Refused n) buffer
-start-unread speeds block buffer {j} {n} read told =
-    let t : (0 < n) × (firstNo (reading speeds block) ≡ n) =
-    told-refused speeds (tasksIn block) (j .verdict) (firstNo (reading speeds block)) n (ap (λ (x : Judged). x .verdict) read) told in
-    left-refused speeds (startNo speeds block (length buffer)) n (tasksIn block) buffer (t .0)
-    (no-before (reading speeds block) (roomQuestion stateLength (length buffer) ∷ []) n (t .0) (t .1))
+  abbrev then-room : List ℕ → List Question
+  then-room buffer = roomQuestion stateLength (length buffer) ∷ []
 
-pub record Admitted (speeds block : List ℕ) (j : Judged) (level span : ℕ) : Type 0 where
-  pub read : j ≡ readAt speeds block
-  pub told : j .verdict ≡ verdict.Admitted level span
+  pub start-unread :
+      (buffer : List ℕ) {j : Judged} {n : ℕ} →
+      j ≡ judgedBy readNumber speeds (tasksIn block) →
+      j .verdict ≡ verdict.Refused n →
+      Left speeds block pairs buffer (reply.Refused n) buffer
+  start-unread buffer {n = n} read told =
+      let f : Refusal readNumber n = judged-refused speeds readNumber (tasksIn block) read told in
+      left-refused speeds (startNo speeds block pairs (length buffer)) n (tasksIn block) buffer (f .positive)
+      (no-before (pairedReading speeds block pairs) (then-room buffer) n (f .positive) (f .is))
 
-module _ {speeds block : List ℕ} {j : Judged} {level span : ℕ} (k : Admitted speeds block j level span) where
-  verdict-is : j .verdict ≡ answered (firstNo (reading speeds block)) speeds (tasksIn block)
-  verdict-is = ap (λ (x : Judged). x .verdict) (k .read)
+  module _ {j : Judged} {level span : ℕ} (k : Admitted speeds readNumber (tasksIn block) j level span) where
+    accepted : firstNo (reading speeds block) ≡ 0
+    accepted = yes-of (reading speeds block) (pairsQuestion (tasksIn block) pairs ∷ []) (none-answered-no k)
 
-  accepted : firstNo (reading speeds block) ≡ 0
-  accepted = told-admitted speeds (tasksIn block) (j .verdict) (firstNo (reading speeds block)) level span verdict-is (k .told)
+    pub start-read : (firstNo (judging speeds (j .plan .count) (tasksOf (j .plan))) ≡ 0) × (level ≡ nominal speeds (tasksOf (j .plan)))
+    start-read = (
+      read-judged speeds block (j .plan) accepted (plan-is k),
+      level-is k ∙ sym (ap (nominal speeds) (tasks-are k)),
+    )
 
-  plan-is : j .plan ≡ planOf (tasksIn block)
-  plan-is = ap (λ (x : Judged). x .plan) (k .read) ∙ ap (λ (n : ℕ). beside n (tasksIn block)) accepted
-
-  tasks-are : tasksOf (j .plan) ≡ tasksIn block
-  tasks-are = ap tasksOf plan-is ∙ tasksOf-planOf (tasksIn block)
-
-  level-is : level ≡ nominal speeds (tasksIn block)
-  level-is =
-      let v : verdict.Admitted level span ≡ answered 0 speeds (tasksIn block) =
-      sym (k .told) ∙ verdict-is ∙ ap (λ (n : ℕ). answered n speeds (tasksIn block)) accepted in
-      cc
-
-  pub start-read : (firstNo (judging speeds (j .plan .count) (tasksOf (j .plan))) ≡ 0) × (level ≡ nominal speeds (tasksOf (j .plan)))
-  start-read = (
-    read-judged speeds block (j .plan) accepted plan-is,
-    level-is ∙ sym (ap (nominal speeds) tasks-are),
-  )
-
-  pub start-left :
-      (buffer : List ℕ) {r : Reply} {m : List ℕ} →
-      LeftBy speeds (roomNumber stateLength (length buffer)) (tasksOf (j .plan)) buffer r m →
-      Left speeds block buffer r m
-  start-left buffer {r} {m} h =
-      subst (λ (n : ℕ). LeftBy speeds n (tasksIn block) buffer r m)
-      (sym (yes-before (reading speeds block) (roomQuestion stateLength (length buffer) ∷ []) refl accepted))
-      (subst (λ (ts : List Task). LeftBy speeds (roomNumber stateLength (length buffer)) ts buffer r m) tasks-are h)
+    pub start-left :
+        (buffer : List ℕ) {r : Reply} {m : List ℕ} →
+        LeftBy speeds (roomNumber stateLength (length buffer)) (tasksOf (j .plan)) buffer r m →
+        Left speeds block pairs buffer r m
+    start-left buffer {r} {m} h =
+        subst (λ (n : ℕ). LeftBy speeds n (tasksIn block) buffer r m)
+        (sym (yes-before (pairedReading speeds block pairs) (then-room buffer) refl (none-answered-no k)))
+        (subst (λ (ts : List Task). LeftBy speeds (roomNumber stateLength (length buffer)) ts buffer r m) (tasks-are k) h)
 
 -- what starting leaves by the call's own definitions
-abbrev pub Started : List ℕ → List ℕ → List ℕ → Reply → List ℕ → Type 0
-Started levels block buffer r m = LeftBy (speedsIn levels) (startNumber levels block (length buffer)) (tasksIn block) buffer r m
+abbrev pub Started : List ℕ → List ℕ → List ℕ → List ℕ → Reply → List ℕ → Type 0
+Started levels block pairs buffer r m = LeftBy (speedsIn levels) (startNumber levels block pairs (length buffer)) (tasksIn block) buffer r m
 
-module _ (levels block buffer : List ℕ) where
+module _ (levels block pairs buffer : List ℕ) where
   abbrev own : List Question
-  own = reading (speedsIn levels) block ++ (roomQuestion stateLength (length buffer) ∷ [])
+  own = pairedReading (speedsIn levels) block pairs ++ (roomQuestion stateLength (length buffer) ∷ [])
 
   -- the level block is refused
-  pub start-unloaded : {n : ℕ} → Refusal (firstNo (loading levels)) n → Started levels block buffer (reply.Refused n) buffer
+  pub start-unloaded : {n : ℕ} → Refusal (firstNo (loading levels)) n → Started levels block pairs buffer (reply.Refused n) buffer
   start-unloaded {n} f =
-      left-refused (speedsIn levels) (startNumber levels block (length buffer)) n (tasksIn block) buffer (f .positive)
+      left-refused (speedsIn levels) (startNumber levels block pairs (length buffer)) n (tasksIn block) buffer (f .positive)
       (no-before (loading levels) own n (f .positive) (f .is))
 
   -- it is accepted, and the plan is started over its speeds
   pub start-loaded :
-      {held : List ℕ} {count : ℕ} {r : Reply} {m : List ℕ} → Loads levels held count → Left (loaded held count) block buffer r m → Started levels block buffer r m
+      {held : List ℕ} {count : ℕ} {r : Reply} {m : List ℕ} →
+      Loads levels held count →
+      Left (loaded held count) block pairs buffer r m →
+      Started levels block pairs buffer r m
   start-loaded {r = r} {m = m} k h =
       subst (λ (n : ℕ). LeftBy (speedsIn levels) n (tasksIn block) buffer r m) (sym (yes-before (loading levels) own refl (k .number)))
-      (subst (λ (l : List ℕ). Left l block buffer r m) (k .is) h)
+      (subst (λ (l : List ℕ). Left l block pairs buffer r m) (k .is) h)

@@ -4,7 +4,8 @@ use Prim.Native.Nat.{ℕ}
 use mathlib.Core.List.{List, [], _∷_, _++_}
 use lib.ListN.{length}
 use Rattle.arith.specs.Asking.{firstNo}
-use Rattle.plan.specs.Questions.{reading, roomQuestion}
+use Rattle.plan.specs.Questions.{roomQuestion}
+use Rattle.plan.specs.Pairs.{pairedReading}
 use Rattle.reclaiming.specs.StateBlock.{State, stateLength, timingAt}
 use Rattle.reclaiming.specs.Passes.{newEntry}
 use Rattle.arith.specs.Ranges.{listTo}
@@ -20,6 +21,6 @@ newState speeds speed ts = record {
   speeds = speeds;
 }
 
--- the number that starting a block at a table of speeds is answered with: reading's questions, then 9
-abbrev pub startNo : List ℕ → List ℕ → ℕ → ℕ
-startNo speeds block room = firstNo (reading speeds block ++ (roomQuestion stateLength room ∷ []))
+-- the number that starting a block with its pairs at a table of speeds is answered with: reading's questions, 22, then 9
+abbrev pub startNo : List ℕ → List ℕ → List ℕ → ℕ → ℕ
+startNo speeds block pairs room = firstNo (pairedReading speeds block pairs ++ (roomQuestion stateLength room ∷ []))

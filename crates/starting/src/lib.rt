@@ -1,6 +1,7 @@
 // Starting: a state in which every task of a plan has a new job, with an order chosen in it.
 use choosing::choose;
 use levels::read_levels;
+use paired_reading::read_paired;
 use plan::Load;
 use plan::Plan;
 use plan::Verdict;
@@ -94,18 +95,24 @@ fn started(speeds: &[u32; 8], levels: usize, p: Plan, highest: usize, state: &mu
     r
 }
 
-// Starting over a table of speeds whose numbers past its count are zero: those questions of the block that reading puts, then 9 for the
-// 217 bytes.
-fn start_over(speeds: &[u32; 8], levels: usize, block: &[u8], state: &mut [u8]) -> Reply
+// Starting over a table of speeds whose numbers past its count are zero: those questions of the block that reading puts, 22 of its pairs,
+// then 9 for the 217 bytes.
+fn start_over(
+    speeds: &[u32; 8],
+    levels: usize,
+    block: &[u8],
+    pairs: &[u8],
+    state: &mut [u8],
+) -> Reply
     requires { ⌜ Table (now speeds) levels × (now speeds ≡ padded 8 0 (loaded (now speeds) levels)) ⌝ }
     ensures { λ r. ⌜ r ≡ repliedBy
-        (startNo (loaded (now (speeds .entry)) levels) (now (block .entry)) (length (now (state .entry))))
+        (startNo (loaded (now (speeds .entry)) levels) (now (block .entry)) (now (pairs .entry)) (length (now (state .entry))))
         (startOrder (loaded (now (speeds .entry)) levels) (startState (loaded (now (speeds .entry)) levels) (tasksIn (now (block .entry))))) ⌝ }
     ensures { λ _. ⌜ now (state .exit) ≡ storedBy
-        (startNo (loaded (now (speeds .entry)) levels) (now (block .entry)) (length (now (state .entry))))
+        (startNo (loaded (now (speeds .entry)) levels) (now (block .entry)) (now (pairs .entry)) (length (now (state .entry))))
         (encode (startState (loaded (now (speeds .entry)) levels) (tasksIn (now (block .entry))))) (now (state .entry)) ⌝ }
 {
-    let j = plan_reading::read_over(speeds, levels, block);
+    let j = read_paired(speeds, levels, block, pairs);
     let v = j.verdict;
     let p = j.plan;
     match v {
@@ -117,16 +124,16 @@ fn start_over(speeds: &[u32; 8], levels: usize, block: &[u8], state: &mut [u8]) 
     }
 }
 
-// Starting: the questions 18 to 20 of the level block, those of the plan's that reading puts, then 9 for the 217 bytes.
-pub fn start(levels: &[u8], block: &[u8], state: &mut [u8]) -> Reply
-    ensures { λ r. ⌜ r ≡ startReply (now (levels .entry)) (now (block .entry)) (length (now (state .entry))) ⌝ }
-    ensures { λ _. ⌜ now (state .exit) ≡ startBuffer (now (levels .entry)) (now (block .entry)) (now (state .entry)) ⌝ }
+// Starting: the questions 18 to 20 of the level block, those of the plan's that reading puts, 22 of its pairs, then 9 for the 217 bytes.
+pub fn start(levels: &[u8], block: &[u8], pairs: &[u8], state: &mut [u8]) -> Reply
+    ensures { λ r. ⌜ r ≡ startReply (now (levels .entry)) (now (block .entry)) (now (pairs .entry)) (length (now (state .entry))) ⌝ }
+    ensures { λ _. ⌜ now (state .exit) ≡ startBuffer (now (levels .entry)) (now (block .entry)) (now (pairs .entry)) (now (state .entry)) ⌝ }
 {
     let board = read_levels(levels);
     let answer = board.answer;
     let speeds = board.speeds;
     match answer {
         Load::Refused(n) => Reply::Refused(n),
-        Load::Levels(count) => start_over(&speeds, count, block, state),
+        Load::Levels(count) => start_over(&speeds, count, block, pairs, state),
     }
 }

@@ -69,9 +69,9 @@ abbrev pub linesText : List Line → List ℕ
 linesText [] = []
 linesText (l ∷ ls) = replyLine (l .clock) (l .reply) ++ linesText ls
 
--- the lines from the start on: those of the run over a fresh state
+-- the lines from the start on: those of the run over a fresh state; 02, No. 5, of the list of pairs: "the bench program's is empty"
 abbrev pub startedLines : List ℕ → List ℕ → List ℕ → List ℕ
-startedLines levels block passes = linesText (runLines levels block (replicate stateLength 0) (passesIn passes)) ++ oddLine passes
+startedLines levels block passes = linesText (runLines levels block [] (replicate stateLength 0) (passesIn passes)) ++ oddLine passes
 
 -- the lines from a plan that was read on; "If the reading is refused, the bench program prints that line and ends."
 abbrev pub judgedLines : List ℕ → List ℕ → Verdict → ℕ → List ℕ → List ℕ

@@ -1,3 +1,4 @@
 pub mod Listing
 pub mod Exception
+pub mod PairNeeds
 pub mod Starred

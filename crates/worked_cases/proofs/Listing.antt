@@ -3,6 +3,7 @@
 -- Assumes nothing.
 use mathlib.Core.Path.{_≡_, refl}
 use mathlib.Core.Bool.{true}
+use mathlib.Core.List.{[]}
 use Rattle.arith.specs.Need.{need}
 use Rattle.arith.specs.Divisor.{gcd, lcm}
 use Rattle.plan.specs.Times.{timeOf, worn}
@@ -23,7 +24,7 @@ unfolding need timeOf worn lcm gcd moreUrgent
 bench-listing = refl
 
 -- the hypothesis of demand 3 holds of it
-pub bench-started : isOrder (startReply baseLevels benchBlock stateLength) ≡ true
+pub bench-started : isOrder (startReply baseLevels benchBlock [] stateLength) ≡ true
 unfolding need timeOf worn lcm gcd moreUrgent
 bench-started = refl
 
@@ -31,7 +32,7 @@ pub angle-listing : angleLines ≡ wantedLines
 unfolding need timeOf worn lcm gcd moreUrgent
 angle-listing = refl
 
-pub angle-started : isOrder (startReply baseLevels anglePlan stateLength) ≡ true
+pub angle-started : isOrder (startReply baseLevels anglePlan [] stateLength) ≡ true
 unfolding need timeOf worn lcm gcd moreUrgent
 angle-started = refl
 
@@ -39,6 +40,6 @@ pub pair-listing : pairLines ≡ gapLines
 unfolding need timeOf worn lcm gcd moreUrgent
 pair-listing = refl
 
-pub pair-started : isOrder (startReply twoLevels pairPlan stateLength) ≡ true
+pub pair-started : isOrder (startReply twoLevels pairPlan [] stateLength) ≡ true
 unfolding need timeOf worn lcm gcd moreUrgent
 pair-started = refl

@@ -1,5 +1,5 @@
--- 01, "On each side of the edge": every starred case of the table holds. 02, No. 1, 2 and 4: so does every case of level blocks, of fixed
--- ticks and of lone jobs.
+-- 01, "On each side of the edge": every starred case of the table holds. 02, No. 1, 2, 4 and 5: so does every case of level blocks, of
+-- fixed ticks, of lone jobs and of pairs.
 -- Assumes nothing.
 use mathlib.Core.Path.{_≡_, refl}
 use mathlib.Core.Bool.{true}
@@ -13,6 +13,7 @@ use Rattle.schedule.proofs.Members.{every-in}
 use Rattle.worked_cases.specs.Cases.{Case, starred, boards, matches, agrees}
 use Rattle.worked_cases.specs.FixedCases.{conversions}
 use Rattle.worked_cases.specs.LoneCases.{gaps}
+use Rattle.worked_cases.specs.PairCases.{lists, starts}
 use Rattle.reclaiming.proofs.StateCodec.{same-bytes}
 
 -- the table's test, computed
@@ -32,6 +33,14 @@ gaps-agree : agrees gaps ≡ true
 unfolding need timeOf worn lcm gcd moreUrgent
 gaps-agree = refl
 
+lists-agree : agrees lists ≡ true
+unfolding need timeOf worn lcm gcd moreUrgent
+lists-agree = refl
+
+starts-agree : agrees starts ≡ true
+unfolding need timeOf worn lcm gcd moreUrgent
+starts-agree = refl
+
 -- so each of its rows holds
 row-holds : (cases : List Case) → agrees cases ≡ true → (c : Case) → In c cases → c .found ≡ c .wanted
 row-holds cases h c m = same-bytes (c .found) (c .wanted) (every-in matches cases h c m)
@@ -47,3 +56,9 @@ conversion-cases = row-holds conversions conversions-agree
 
 pub gap-cases : (c : Case) → In c gaps → c .found ≡ c .wanted
 gap-cases = row-holds gaps gaps-agree
+
+pub list-cases : (c : Case) → In c lists → c .found ≡ c .wanted
+list-cases = row-holds lists lists-agree
+
+pub start-cases : (c : Case) → In c starts → c .found ≡ c .wanted
+start-cases = row-holds starts starts-agree

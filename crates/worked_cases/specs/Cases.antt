@@ -46,7 +46,7 @@ baseLevels = levelBlock baseSpeeds
 
 -- the state's bytes at the start, and after the first n of these passes
 abbrev pub benchStarted : List ℕ
-benchStarted = startedBytes baseLevels benchBlock (replicate stateLength 0)
+benchStarted = startedBytes baseLevels benchBlock [] (replicate stateLength 0)
 
 abbrev pub benchAfter : ℕ → List ℕ
 benchAfter n = bytesAfter benchStarted (take n benchPasses)
@@ -58,7 +58,7 @@ benchJudged = record { verdict = verdict.Admitted 7 30; plan = planOf benchTasks
 -- the example's run, line for line; the line that begins with `unfolding`, here and below, only lets them be computed
 abbrev pub benchLines : List Line
 unfolding need timeOf worn lcm gcd moreUrgent
-benchLines = runLines baseLevels benchBlock (replicate stateLength 0) benchPasses
+benchLines = runLines baseLevels benchBlock [] (replicate stateLength 0) benchPasses
 
 -- the example's lines after the first; 02, No. 4: "the line at 14 becomes "14 run 1 6 5", [..] and the idle line becomes "19 idle 1""
 abbrev pub listedLines : List Line
@@ -101,7 +101,7 @@ abbrev loadValues : List ℕ → List ℕ
 loadValues levels = told (loadAnswer (readLevels levels .answer)) ++ readLevels levels .speeds
 
 abbrev pub startValues : List ℕ → List ℕ → ℕ → List ℕ
-startValues levels block room = told (replyAnswer (startReply levels block room))
+startValues levels block room = told (replyAnswer (startReply levels block [] room))
 
 -- a case: what the definitions give, and what 01 says that it is
 pub record Case : Type 0 where
@@ -203,7 +203,7 @@ boards =
     ∷ []
   where
     oneLevel : List ℕ
-    oneLevel = startedBytes (levelBlock (1000 ∷ [])) (planBlock (task 1 1000 ∷ [])) (replicate stateLength 0)
+    oneLevel = startedBytes (levelBlock (1000 ∷ [])) (planBlock (task 1 1000 ∷ [])) [] (replicate stateLength 0)
 
 -- one test of a whole table
 abbrev pub matches : Case → Bool

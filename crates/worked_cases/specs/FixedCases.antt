@@ -21,7 +21,7 @@ abbrev converting : ℕ → ℕ → ℕ → Task
 converting p w f = record { period = p; worst = w; fixed = f }
 
 -- a block in edition 2, whatever the tasks add
-abbrev inEdition2 : List Task → List ℕ
+abbrev pub inEdition2 : List Task → List ℕ
 inEdition2 ts = packed (planBits 2 ts)
 
 -- one task of period 40 and worst case 300 with 3 fixed ticks; in 01 it is, without them, "in hex, 10 80 14 00 09 60"
@@ -37,12 +37,12 @@ anglePasses = pass true 1 ∷ pass false 5 ∷ pass true 1 ∷ pass true 1 ∷ [
 
 -- the state's bytes after the first n of these passes
 abbrev angleAfter : ℕ → List ℕ
-angleAfter n = bytesAfter (startedBytes baseLevels anglePlan (replicate stateLength 0)) (take n anglePasses)
+angleAfter n = bytesAfter (startedBytes baseLevels anglePlan [] (replicate stateLength 0)) (take n anglePasses)
 
 -- the run, line for line; the line that begins with `unfolding`, here and below, only lets it be computed
 abbrev pub angleLines : List Line
 unfolding need timeOf worn lcm gcd moreUrgent
-angleLines = runLines baseLevels anglePlan (replicate stateLength 0) anglePasses
+angleLines = runLines baseLevels anglePlan [] (replicate stateLength 0) anglePasses
 
 abbrev pub wantedLines : List Line
 wantedLines =

@@ -1,3 +1,4 @@
 pub mod Cases
 pub mod FixedCases
 pub mod LoneCases
+pub mod PairCases

@@ -33,12 +33,12 @@ pairPasses = pass true 1 ∷ pass false 1 ∷ pass false 1 ∷ pass true 1 ∷ [
 
 -- the state's bytes after the first n of these passes
 abbrev pairAfter : ℕ → List ℕ
-pairAfter n = bytesAfter (startedBytes twoLevels pairPlan (replicate stateLength 0)) (take n pairPasses)
+pairAfter n = bytesAfter (startedBytes twoLevels pairPlan [] (replicate stateLength 0)) (take n pairPasses)
 
 -- the run, line for line; the line that begins with `unfolding`, here and below, only lets it be computed
 abbrev pub pairLines : List Line
 unfolding need timeOf worn lcm gcd moreUrgent
-pairLines = runLines twoLevels pairPlan (replicate stateLength 0) pairPasses
+pairLines = runLines twoLevels pairPlan [] (replicate stateLength 0) pairPasses
 
 -- at 1 the gap is 2 ticks and 01's allowance 1; at 2 the plain job is closed, and an unfinished tick would reach the arrival
 abbrev pub gapLines : List Line
@@ -82,7 +82,7 @@ gaps =
     ∷ case (startValues twoLevels (planBlock (task 2 2 ∷ [])) stateLength) (0 ∷ 0 ∷ 0 ∷ 2 ∷ [])
     -- "the larger of 01's and the ticks to the next arrival": at tick 1 of (2, 1), (6, 4) they are 2 and 1
     ∷ case
-    (passValues (startedBytes twoLevels (planBlock (task 2 1 ∷ task 6 4 ∷ [])) (replicate stateLength 0)) 1 true)
+    (passValues (startedBytes twoLevels (planBlock (task 2 1 ∷ task 6 4 ∷ [])) [] (replicate stateLength 0)) 1 true)
     (0 ∷ 1 ∷ 1 ∷ 1 ∷ [])
     -- at 2 the queue of the plain schedule is empty, and the job that goes on is accepted; with all its time, unfinished, it is not
     ∷ case (shownValues (pairAfter 2) (replicate 3 255)) (0 ∷ 0 ∷ replicate 3 255)
@@ -103,19 +103,19 @@ gaps =
 -- demand 3 without the exception: "every job still open in the dispatcher is open in the plain schedule", and no more
 abbrev pub NeverBehind : Type 0
 NeverBehind =
-    (levels block buffer : List ℕ) (passes : List Pass) →
-    Started levels block buffer →
+    (levels block pairs buffer : List ℕ) (passes : List Pass) →
+    Started levels block pairs buffer →
     (j : Job) →
-    OpenActual (timing (speedsIn levels) (tasksIn block)) (actualBook levels block buffer passes) j →
-    OpenPlain (plainBook levels block buffer passes) j
+    OpenActual (timing (speedsIn levels) (tasksIn block)) (actualBook levels block pairs buffer passes) j →
+    OpenPlain (plainBook levels block pairs buffer passes) j
 
 -- and with "below" for "at most"
 abbrev pub BelowTheGap : Type 0
 BelowTheGap =
-    (levels block buffer : List ℕ) (passes : List Pass) →
-    Started levels block buffer →
+    (levels block pairs buffer : List ℕ) (passes : List Pass) →
+    Started levels block pairs buffer →
     (j : Job) →
-    OpenActual (timing (speedsIn levels) (tasksIn block)) (actualBook levels block buffer passes) j →
-    OpenPlain (plainBook levels block buffer passes) j
-    ⊎ (timeLeft (speedsIn levels) (actualBook levels block buffer passes)
-    < nextArrival (timing (speedsIn levels) (tasksIn block)) (actualBook levels block buffer passes .clock))
+    OpenActual (timing (speedsIn levels) (tasksIn block)) (actualBook levels block pairs buffer passes) j →
+    OpenPlain (plainBook levels block pairs buffer passes) j
+    ⊎ (timeLeft (speedsIn levels) (actualBook levels block pairs buffer passes)
+    < nextArrival (timing (speedsIn levels) (tasksIn block)) (actualBook levels block pairs buffer passes .clock))

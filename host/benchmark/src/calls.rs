@@ -5,7 +5,16 @@ use crate::fast;
 use differ as _;
 use std::slice::{from_raw_parts, from_raw_parts_mut};
 
-pub type Start = unsafe extern "C" fn(*const u8, usize, *const u8, usize, *mut u8, usize) -> u64;
+pub type Start = unsafe extern "C" fn(
+    *const u8,
+    usize,
+    *const u8,
+    usize,
+    *const u8,
+    usize,
+    *mut u8,
+    usize,
+) -> u64;
 pub type Pass = unsafe extern "C" fn(*mut u8, usize, u32, u8) -> u64;
 pub type Show = unsafe extern "C" fn(*const u8, usize, *mut u8, usize) -> u64;
 
@@ -22,6 +31,8 @@ extern "C" {
         levels_len: usize,
         block: *const u8,
         block_len: usize,
+        pairs: *const u8,
+        pairs_len: usize,
         state: *mut u8,
         state_len: usize,
     ) -> u64;
@@ -63,7 +74,7 @@ impl Calls {
         }
     }
 
-    pub fn start(&self, levels: &[u8], block: &[u8], state: &mut [u8]) -> u64 {
+    pub fn start(&self, levels: &[u8], block: &[u8], pairs: &[u8], state: &mut [u8]) -> u64 {
         // SAFETY: pointers and lengths are those of slices; the one that is written overlaps no other.
         unsafe {
             (self.start)(
@@ -71,6 +82,8 @@ impl Calls {
                 levels.len(),
                 block.as_ptr(),
                 block.len(),
+                pairs.as_ptr(),
+                pairs.len(),
                 state.as_mut_ptr(),
                 state.len(),
             )
@@ -100,6 +113,8 @@ unsafe extern "C" fn fast_start(
     levels_len: usize,
     block: *const u8,
     block_len: usize,
+    pairs: *const u8,
+    pairs_len: usize,
     state: *mut u8,
     state_len: usize,
 ) -> u64 {
@@ -108,6 +123,7 @@ unsafe extern "C" fn fast_start(
         fast::start(
             from_raw_parts(levels, levels_len),
             from_raw_parts(block, block_len),
+            from_raw_parts(pairs, pairs_len),
             from_raw_parts_mut(state, state_len),
         )
     }
@@ -134,6 +150,8 @@ unsafe extern "C" fn fast_show(
 }
 
 unsafe extern "C" fn no_start(
+    _: *const u8,
+    _: usize,
     _: *const u8,
     _: usize,
     _: *const u8,

@@ -1,11 +1,14 @@
-//! What the measured calls are given: level blocks, blocks of plans that are accepted over them, states
-//! that their runs reach, and passes that are accepted there. The same every time.
+//! What the measured calls are given: level blocks, blocks of plans that are accepted over them, lists
+//! of pairs that are good for these, states that their runs reach, and passes that are accepted there.
+//! The same every time.
 
 use crate::calls::PROVED;
 use sim::level_block::write_levels;
 use sim::levels::Levels;
+use sim::pairs::{pack_pairs, Pair, MOST_PAIRS};
 use sim::plan::{judge_list, Task, LARGEST_FIXED};
 use sim::random::blocks::block_of;
+use sim::random::pairs::good_pairs;
 use sim::random::Random;
 
 pub use sim::layout::STATE_BYTES;
@@ -26,11 +29,13 @@ const PERIODS: [u64; 12] = [
     280, 420, 560, 630, 840, 1_008, 1_260, 1_680, 2_520, 5_040, 9_360, 10_010,
 ];
 
-/// One input: the blocks are for starting, the state for passing and showing, the rest for passing.
+/// One input: the blocks and the pairs are for starting, the state for passing and showing, the rest for
+/// passing.
 #[derive(Clone)]
 pub struct Input {
     pub levels: Vec<u8>,
     pub block: Vec<u8>,
+    pub pairs: Vec<u8>,
     pub state: [u8; STATE_BYTES],
     pub d: u32,
     pub finished: bool,
@@ -44,8 +49,8 @@ pub fn inputs(tasks: usize) -> Vec<Input> {
         let table = Levels::new(table);
         let levels = write_levels(&table);
         for with_fixed in [false, true] {
-            let block = block_of(&accepted_plan(&mut random, &table, tasks, with_fixed));
-            add_run(&mut random, &levels, &block, &mut found);
+            let plan = accepted_plan(&mut random, &table, tasks, with_fixed);
+            add_run(&mut random, &levels, &plan, &mut found);
         }
     }
     found
@@ -78,10 +83,19 @@ fn accepted_plan(
     }
 }
 
+/// As many pairs as a list may have, from all over the good ones of a plan; none if it has none.
+fn full_list(plan: &[Task]) -> Vec<u8> {
+    let good = good_pairs(plan);
+    let nth = |place: usize| good.get(place * good.len() / MOST_PAIRS).copied();
+    let pairs: Vec<Pair> = (0..MOST_PAIRS).filter_map(nth).collect();
+    pack_pairs(&pairs)
+}
+
 /// Runs a plan, and keeps each accepted pass with the state that it was made in.
-fn add_run(random: &mut Random, levels: &[u8], block: &[u8], found: &mut Vec<Input>) {
+fn add_run(random: &mut Random, levels: &[u8], plan: &[Task], found: &mut Vec<Input>) {
+    let (block, pairs) = (block_of(plan), full_list(plan));
     let mut state = [0; STATE_BYTES];
-    let mut hold = hold_of(PROVED.start(levels, block, &mut state));
+    let mut hold = hold_of(PROVED.start(levels, &block, &pairs, &mut state));
     let mut kept = 0;
     while kept < PASSES_OF_A_PLAN {
         // Half the passes use the hold up, so that there are many ends and arrivals.
@@ -97,7 +111,8 @@ fn add_run(random: &mut Random, levels: &[u8], block: &[u8], found: &mut Vec<Inp
             kept += 1;
             found.push(Input {
                 levels: levels.to_vec(),
-                block: block.to_vec(),
+                block: block.clone(),
+                pairs: pairs.clone(),
                 state: before,
                 d,
                 finished,

@@ -9,12 +9,11 @@
 
 use benchmark::calls::{Calls, BY_HAND, PROVED};
 use benchmark::inputs::inputs;
-use benchmark::measure::{round, times, Call, CALLS};
+use benchmark::measure::{round, times, Call, CALLS, COUNTS};
 use benchmark::stack::most_used;
 use std::env::args;
 use std::process::ExitCode;
 
-const COUNTS: [usize; 4] = [1, 3, 8, 16];
 const TIMED_ROUNDS: usize = 400;
 const COUNTED_ROUNDS: usize = 4;
 
@@ -37,7 +36,7 @@ fn main() -> ExitCode {
 
 fn print_times() -> bool {
     for call in CALLS {
-        for tasks in COUNTS {
+        for &tasks in call.counts() {
             let (proved, hand) = times(call, &inputs(tasks), TIMED_ROUNDS);
             let ratio = proved / hand;
             println!("{} {tasks} {proved:.0} {hand:.0} {ratio:.2}", call.name());
@@ -48,7 +47,7 @@ fn print_times() -> bool {
 
 fn print_stack() -> bool {
     for call in CALLS {
-        for tasks in COUNTS {
+        for &tasks in call.counts() {
             let inputs = inputs(tasks);
             let [proved, hand] = [PROVED, BY_HAND].map(|calls| most_used(call, &calls, &inputs));
             println!("{} {tasks} {proved} {hand}", call.name());

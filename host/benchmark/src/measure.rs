@@ -6,11 +6,17 @@ use std::arch::asm;
 use std::ptr::addr_of_mut;
 use std::time::Instant;
 
-pub const CALLS: [Call; 3] = [Call::Start, Call::Pass, Call::Show];
+pub const CALLS: [Call; 4] = [Call::Start, Call::StartPairs, Call::Pass, Call::Show];
+
+/// The counts of tasks that the calls are measured at.
+pub const COUNTS: [usize; 4] = [1, 3, 8, 16];
 
 #[derive(Clone, Copy)]
 pub enum Call {
+    /// Without pairs.
     Start,
+    /// With as many pairs as there may be.
+    StartPairs,
     Pass,
     Show,
 }
@@ -19,6 +25,7 @@ impl Call {
     pub fn name(self) -> &'static str {
         match self {
             Call::Start => "start",
+            Call::StartPairs => "start-pairs",
             Call::Pass => "pass",
             Call::Show => "show",
         }
@@ -26,6 +33,14 @@ impl Call {
 
     pub fn named(name: &str) -> Option<Call> {
         CALLS.into_iter().find(|call| call.name() == name)
+    }
+
+    /// Pairs take the same time whatever the count is, so the largest does for them.
+    pub fn counts(self) -> &'static [usize] {
+        match self {
+            Call::StartPairs => &[16],
+            _ => &COUNTS,
+        }
     }
 }
 
@@ -45,7 +60,8 @@ pub fn round(call: Call, calls: &Calls, inputs: &[Input]) {
         state.copy_from_slice(&input.state);
         let lent = black_box(&mut state);
         black_box(match call {
-            Call::Start => calls.start(&input.levels, &input.block, lent),
+            Call::Start => calls.start(&input.levels, &input.block, &[], lent),
+            Call::StartPairs => calls.start(&input.levels, &input.block, &input.pairs, lent),
             Call::Pass => calls.pass(lent, input.d, input.finished),
             Call::Show => calls.show(lent, black_box(&mut queue)),
         });

@@ -14,7 +14,8 @@ const PATTERNS: [u8; 2] = [0xa5, 0x5a];
 #[repr(align(16))]
 struct Stack([u8; STACK_BYTES]);
 
-/// The most bytes that a call on any of the inputs uses, the return address included.
+/// The most bytes that a call on any of the inputs uses, the return address included, and the numbers
+/// that it is given on the stack.
 pub fn most_used(call: Call, calls: &Calls, inputs: &[Input]) -> usize {
     let used = inputs.iter().map(|input| used_by(call, calls, input));
     used.max().unwrap_or(0)
@@ -27,40 +28,60 @@ fn used_by(call: Call, calls: &Calls, input: &Input) -> usize {
     for pattern in PATTERNS {
         state.copy_from_slice(&input.state);
         let lent = [state.as_mut_ptr() as u64, state.len() as u64];
-        let (function, pairs) = match call {
-            Call::Start => {
-                let blocks = (lent_to_read(&input.levels), lent_to_read(&input.block));
-                (calls.start as usize, [blocks.0, blocks.1, lent])
-            }
+        let (function, given) = match call {
+            Call::Start => (calls.start as usize, for_starting(input, &[], lent)),
+            Call::StartPairs => (
+                calls.start as usize,
+                for_starting(input, &input.pairs, lent),
+            ),
             Call::Pass => {
                 let told = [u64::from(input.d), u64::from(input.finished)];
-                (calls.pass as usize, [lent, told, NOT_TAKEN])
+                (calls.pass as usize, vec![lent, told])
             }
             Call::Show => {
                 let room = [queue.as_mut_ptr() as u64, queue.len() as u64];
-                (calls.show as usize, [lent, room, NOT_TAKEN])
+                (calls.show as usize, vec![lent, room])
             }
         };
         let mut stack = Box::new(Stack([pattern; STACK_BYTES]));
-        // SAFETY: the function takes these numbers or the first four of them, and the stack is large
-        // and aligned.
-        unsafe { call_on(&mut stack, function, pairs) };
+        // SAFETY: the function takes these numbers, and the stack is large and aligned.
+        unsafe { call_on(&mut stack, function, &given) };
         let untouched = stack.0.iter().take_while(|byte| **byte == pattern).count();
         most = most.max(STACK_BYTES - untouched);
     }
     most
 }
 
-/// What a call with four numbers gets for the last two: C lets it not look at them.
-const NOT_TAKEN: [u64; 2] = [0, 0];
+/// Two numbers that a C function is given: most often a pointer and a length.
+type Two = [u64; 2];
 
-fn lent_to_read(bytes: &[u8]) -> [u64; 2] {
+fn for_starting(input: &Input, pairs: &[u8], state: Two) -> Vec<Two> {
+    let (levels, block) = (lent_to_read(&input.levels), lent_to_read(&input.block));
+    vec![levels, block, lent_to_read(pairs), state]
+}
+
+fn lent_to_read(bytes: &[u8]) -> Two {
     [bytes.as_ptr() as u64, bytes.len() as u64]
 }
 
-/// Calls a C function of six numbers, which are three pairs, on another stack.
-unsafe fn call_on(stack: &mut Stack, function: usize, pairs: [[u64; 2]; 3]) -> u64 {
-    let top = stack.0.as_mut_ptr_range().end;
+/// As many twos go into registers. A function that takes fewer does not look at the others.
+const IN_REGISTERS: usize = 3;
+
+/// Puts the twos that no register takes at the stack's upper end, the first of them lowest, as C does.
+/// Says how many bytes they are; sixteen for each leave the stack aligned.
+fn put_the_rest(stack: &mut Stack, given: &[Two]) -> usize {
+    let rest = given.iter().skip(IN_REGISTERS).flatten();
+    let rest: Vec<u8> = rest.flat_map(|number| number.to_ne_bytes()).collect();
+    stack.0[STACK_BYTES - rest.len()..].copy_from_slice(&rest);
+    rest.len()
+}
+
+/// Calls a C function on another stack. Of that the call uses what it is given there, too.
+unsafe fn call_on(stack: &mut Stack, function: usize, given: &[Two]) -> u64 {
+    let in_registers = |place: usize| given.get(place).copied().unwrap_or([0, 0]);
+    let [first, second, third]: [Two; IN_REGISTERS] = [0, 1, 2].map(in_registers);
+    let rest = put_the_rest(stack, given);
+    let top = stack.0.as_mut_ptr_range().end.wrapping_sub(rest);
     let reply;
     // SAFETY: r12 is kept by what is called, so the old stack is found again.
     unsafe {
@@ -71,12 +92,12 @@ unsafe fn call_on(stack: &mut Stack, function: usize, pairs: [[u64; 2]; 3]) -> u
             "mov rsp, r12",
             top = in(reg) top,
             function = in(reg) function,
-            in("rdi") pairs[0][0],
-            in("rsi") pairs[0][1],
-            in("rdx") pairs[1][0],
-            in("rcx") pairs[1][1],
-            in("r8") pairs[2][0],
-            in("r9") pairs[2][1],
+            in("rdi") first[0],
+            in("rsi") first[1],
+            in("rdx") second[0],
+            in("rcx") second[1],
+            in("r8") third[0],
+            in("r9") third[1],
             out("r12") _,
             lateout("rax") reply,
             clobber_abi("C"),

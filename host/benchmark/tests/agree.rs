@@ -4,13 +4,16 @@
 
 use benchmark::calls::{BY_HAND, PROVED};
 use benchmark::inputs::{inputs, QUEUE_BYTES};
+use benchmark::measure::{Call, COUNTS};
 use sim::dispatch::Order;
 use sim::layout::{self, STATE_BYTES};
 use sim::level_block::write_levels;
 use sim::levels::Levels;
+use sim::pairs::{pack_pairs, MOST_PAIRS, PAIR_BYTES};
 use sim::plan::Task;
 use sim::random::blocks::{block_of, block_of_no_additions, damaged_block};
 use sim::random::lone::{lone_state, with_another_job_open};
+use sim::random::pairs::{any_list, bad_list, good_list, good_pairs};
 use sim::random::passes::any_pass;
 use sim::random::plans;
 use sim::random::states::{forged_state, invented_state, late_state, with_a_table_changed};
@@ -74,14 +77,26 @@ fn order_in(reply: u64) -> Order {
     }
 }
 
+/// Without pairs.
 fn start_agrees(levels: &[u8], block: &[u8], room: usize, seen: &mut Seen) -> Outcome {
+    start_with_agrees(levels, block, &[], room, seen)
+}
+
+fn start_with_agrees(
+    levels: &[u8],
+    block: &[u8],
+    pairs: &[u8],
+    room: usize,
+    seen: &mut Seen,
+) -> Outcome {
     let lent = vec![0xa5; room];
-    let hand = outcome(&lent, |state| BY_HAND.start(levels, block, state));
+    let simulated = |state: &mut [u8]| reply_of(sim::start(levels, block, pairs, state));
+    let hand = outcome(&lent, |state| BY_HAND.start(levels, block, pairs, state));
     same(
         &hand,
-        &outcome(&lent, |state| PROVED.start(levels, block, state)),
-        &outcome(&lent, |state| reply_of(sim::start(levels, block, state))),
-        format_args!("{levels:02x?}, {block:02x?}, {room} bytes"),
+        &outcome(&lent, |state| PROVED.start(levels, block, pairs, state)),
+        &outcome(&lent, simulated),
+        format_args!("{levels:02x?}, {block:02x?}, {pairs:?}, {room} bytes"),
     );
     seen.add(hand.0);
     hand
@@ -164,12 +179,130 @@ fn starts_agree() {
             block = damaged_block(&mut random, &block);
         }
         let levels = any_level_block(&mut random, &table);
-        let exact = STATE_BYTES;
-        let room = random.pick(&[0, exact - 1, exact, exact, exact, exact + 1, exact + 40]);
-        start_agrees(&levels, &block, room, &mut seen);
+        let pairs = list_of_another_plan(&mut random, &table);
+        let room = any_room(&mut random);
+        start_with_agrees(&levels, &block, &pairs, room, &mut seen);
     }
-    let all = [0, 1, 2, 3, 4, 5, 6, 7, 8, 9, 18, 19, 20, 21];
+    let all = [0, 1, 2, 3, 4, 5, 6, 7, 8, 9, 18, 19, 20, 21, 22];
     seen.were("start", &all);
+}
+
+/// Too little for the state, as much as it has, and more.
+fn any_room(random: &mut Random) -> usize {
+    let exact = STATE_BYTES;
+    random.pick(&[0, exact - 1, exact, exact, exact, exact + 1, exact + 40])
+}
+
+/// No pairs, or a list that was not made for the plan that it is to come with, which need not be
+/// accepted.
+fn list_of_another_plan(random: &mut Random, levels: &Levels) -> Vec<u8> {
+    if random.one_in(2) {
+        return Vec::new();
+    }
+    let plan = good_plan(random, levels);
+    any_list(random, &plan)
+}
+
+/// Would catch a list judged in another way, asked about at another place, or that leaves a trace: a
+/// good one is to leave what an empty one does.
+#[test]
+fn lists_of_pairs_agree() {
+    let mut random = Random::new(5);
+    let (mut with, mut without) = Default::default();
+    for _ in 0..6_000 {
+        let table = some_or_base_levels(&mut random);
+        let plan = good_plan(&mut random, &table);
+        let (levels, block) = (write_levels(&table), block_of(&plan));
+        let room = any_room(&mut random);
+        let pairs = good_list(&mut random, &plan);
+        let started = start_with_agrees(&levels, &block, &pairs, room, &mut with);
+        assert_eq!(started, start_agrees(&levels, &block, room, &mut without));
+        let pairs = bad_list(&mut random, &plan);
+        start_with_agrees(&levels, &block, &pairs, room, &mut with);
+    }
+    with.were("start, with pairs", &[0, 9, 22]);
+    without.were("start, without them", &[0, 9]);
+}
+
+/// Periods of all kinds beside each other: equal, multiples, and neither. Sixteen of them, and so little
+/// work that every level admits it.
+fn mixed_plan() -> Vec<Task> {
+    let periods = [
+        300, 100, 100, 200, 600, 450, 150, 900, 100, 300, 1_800, 225, 200, 600, 50, 50,
+    ];
+    let task = |period| Task {
+        period,
+        worst: 1,
+        fixed: 0,
+    };
+    periods.map(task).to_vec()
+}
+
+/// Would catch an edge of a pair that is drawn elsewhere: every pair of two bytes with sixteen tasks, and
+/// with fewer of them every pair of numbers around theirs.
+#[test]
+fn every_pair_agrees() {
+    let mut seen = Seen::default();
+    let levels = write_levels(&Levels::base());
+    let plan = mixed_plan();
+    for bytes in 0..=u16::MAX {
+        let pair = bytes.to_be_bytes();
+        start_with_agrees(&levels, &block_of(&plan), &pair, STATE_BYTES, &mut seen);
+    }
+    for count in 1..=plan.len() {
+        let block = block_of(&plan[..count]);
+        for earlier in 0..18 {
+            for later in 0..18 {
+                start_with_agrees(&levels, &block, &[earlier, later], STATE_BYTES, &mut seen);
+            }
+        }
+    }
+    seen.were("start, every pair", &[0, 22]);
+}
+
+/// Would catch a length that is asked about in another way: each up to past twice the longest, and ones
+/// that are short again when counted in a byte or in two.
+#[test]
+fn lengths_of_lists_agree() {
+    let mut seen = Seen::default();
+    let levels = write_levels(&Levels::base());
+    let plan = mixed_plan();
+    let good = pack_pairs(&good_pairs(&plan));
+    let wrapped = [1 << 8, 1 << 9, 1 << 16, 1 << 17];
+    let around = wrapped.iter().flat_map(|length| length - 2..=length + 34);
+    for length in (0..=70).chain(around) {
+        let pairs: Vec<u8> = good.iter().cycle().copied().take(length).collect();
+        let room = STATE_BYTES;
+        let (reply, _) = start_with_agrees(&levels, &block_of(&plan), &pairs, room, &mut seen);
+        let is_right = length <= PAIR_BYTES * MOST_PAIRS && length % PAIR_BYTES == 0;
+        assert_eq!(reply % 256 == 0, is_right, "{length} bytes");
+    }
+    seen.were("start, every length", &[0, 22]);
+}
+
+/// Would catch a pair that is not looked at, and 22 after 9: in a list of each length one pair after the
+/// other is bad, in several ways, with room for the state and without.
+#[test]
+fn pairs_at_every_place_agree() {
+    let mut seen = Seen::default();
+    let levels = write_levels(&Levels::base());
+    let plan = mixed_plan();
+    let good = pack_pairs(&good_pairs(&plan));
+    // A task with itself, two turned round, periods that do not divide, and numbers that are too high.
+    let bad = [[0, 0], [2, 1], [4, 0], [0, 5], [16, 0], [1, 16], [255, 255]];
+    for count in 1..=MOST_PAIRS {
+        for place in (0..PAIR_BYTES * count).step_by(PAIR_BYTES) {
+            for pair in bad {
+                let mut pairs = good[..PAIR_BYTES * count].to_vec();
+                pairs[place..place + PAIR_BYTES].copy_from_slice(&pair);
+                for room in [STATE_BYTES, STATE_BYTES - 1] {
+                    let block = block_of(&plan);
+                    start_with_agrees(&levels, &block, &pairs, room, &mut seen);
+                }
+            }
+        }
+    }
+    seen.were("start, a bad pair at each place", &[22]);
 }
 
 /// Would catch an edge of the plan block's second edition that is drawn elsewhere: every edition and
@@ -439,14 +572,26 @@ fn fixed_ticks_in_states_agree() {
 #[test]
 fn measured_inputs_agree() {
     let (mut starts, mut passes, mut shows) = Default::default();
-    for input in [1, 3, 8, 16].into_iter().flat_map(inputs) {
-        start_agrees(&input.levels, &input.block, STATE_BYTES, &mut starts);
+    for input in COUNTS.into_iter().flat_map(inputs) {
+        let (levels, block) = (&input.levels, &input.block);
+        start_agrees(levels, block, STATE_BYTES, &mut starts);
+        start_with_agrees(levels, block, &input.pairs, STATE_BYTES, &mut starts);
         show_agrees(&input.state, QUEUE_BYTES, &mut shows);
         pass_agrees(&input.state, input.d, input.finished, &mut passes);
     }
     starts.were("start, measured", &[0]);
     passes.were("pass, measured", &[0]);
     shows.were("show, measured", &[0]);
+}
+
+/// Would catch a start measured with fewer pairs than it is said to have.
+#[test]
+fn measured_lists_are_full() {
+    for &tasks in Call::StartPairs.counts() {
+        for input in inputs(tasks) {
+            assert_eq!(input.pairs.len(), PAIR_BYTES * MOST_PAIRS);
+        }
+    }
 }
 
 /// Would catch a reciprocal that is off for one of the speeds that a table can have: the time of a

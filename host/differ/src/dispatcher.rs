@@ -8,6 +8,8 @@ extern "C" {
         levels_len: usize,
         block: *const u8,
         block_len: usize,
+        pairs: *const u8,
+        pairs_len: usize,
         state: *mut u8,
         state_len: usize,
     ) -> u64;
@@ -27,17 +29,19 @@ pub enum Order {
 const RUN: u8 = 1;
 const IDLE: u8 = 2;
 
-/// Reads a level block and a plan block, fills the state with a fresh start of them, and returns the
-/// first order.
-pub fn start(levels: &[u8], block: &[u8], state: &mut [u8]) -> Result<Order, u32> {
-    // SAFETY: pointers and lengths are those of three slices that don't overlap; the call reads the
-    // first two and writes within the third.
+/// Reads a level block, a plan block and the plan's list of pairs, fills the state with a fresh start
+/// of the first two, and returns the first order.
+pub fn start(levels: &[u8], block: &[u8], pairs: &[u8], state: &mut [u8]) -> Result<Order, u32> {
+    // SAFETY: pointers and lengths are those of four slices that don't overlap; the call reads the
+    // first three and writes within the fourth.
     let answer = unsafe {
         kilmstra_start(
             levels.as_ptr(),
             levels.len(),
             block.as_ptr(),
             block.len(),
+            pairs.as_ptr(),
+            pairs.len(),
             state.as_mut_ptr(),
             state.len(),
         )

@@ -40,6 +40,15 @@ extern "C" {
         buffer: *mut u8,
         buffer_len: usize,
     ) -> u64;
+
+    fn kilmstra_pairs(
+        levels: *const u8,
+        levels_len: usize,
+        block: *const u8,
+        block_len: usize,
+        pairs: *const u8,
+        pairs_len: usize,
+    ) -> u64;
 }
 
 /// What judging and reading say of an accepted plan.
@@ -115,6 +124,23 @@ pub fn copy(levels: &[u8], block: &[u8], buffer: &mut [u8]) -> Result<u64, u32> 
     unpacked(answer)
 }
 
+/// Reads a plan block and the list of pairs that is to come with it at starting, and says how many
+/// pairs there are.
+pub fn pairs(levels: &[u8], block: &[u8], pairs: &[u8]) -> Result<u64, u32> {
+    // SAFETY: pointers and lengths are those of three slices, which the call only reads.
+    let answer = unsafe {
+        kilmstra_pairs(
+            levels.as_ptr(),
+            levels.len(),
+            block.as_ptr(),
+            block.len(),
+            pairs.as_ptr(),
+            pairs.len(),
+        )
+    };
+    unpacked(answer)
+}
+
 /// A level in the second byte, and a hyperperiod in all above it.
 fn judged(answer: u64) -> Result<Judged, u32> {
     unpacked(answer).map(|rest| Judged {
@@ -141,6 +167,7 @@ mod tests {
         assert_eq!(unpacked(9), Err(9));
         assert_eq!(unpacked(256 + 9), Err(265));
         assert_eq!(unpacked(256 * 96), Ok(96));
+        assert_eq!(unpacked(0), Ok(0));
         assert_eq!(unpacked(1 << 63), Ok(1 << 55));
         assert_eq!(judged(3), Err(3));
         let last = Judged {

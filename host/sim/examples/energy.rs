@@ -77,7 +77,7 @@ fn random_plan(random: &mut Random, levels: &Levels, count: usize, level: usize)
 /// arrival, so after each the order is a new one.
 fn spend(levels: &Levels, plan: &Plan, dispatcher: Dispatcher, ratio: u64) -> Spent {
     let mut state = [0; STATE_BYTES];
-    start(levels, &block_of(&plan.tasks), &mut state).expect("the plan is an accepted one");
+    start(levels, &block_of(&plan.tasks), &[], &mut state).expect("the plan is an accepted one");
     let real_work = |task: &Task| div_ceil(task.worst, ratio);
     let mut real: Vec<u64> = plan.tasks.iter().map(real_work).collect();
     let mut spent = Spent::default();

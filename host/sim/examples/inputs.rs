@@ -60,7 +60,7 @@ fn run(levels: &Levels, tasks: &[Task], early_from: u64, part: u32, until: u64) 
     let plan = block_of(tasks);
     let mut input = [&write_levels(levels)[..], &plan].concat();
     let mut state = [0; STATE_BYTES];
-    let mut order = start(levels, &plan, &mut state).expect("the plan is an accepted one");
+    let mut order = start(levels, &plan, &[], &mut state).expect("the plan is an accepted one");
     let mut clock = 0;
     while clock < until {
         let (d, finished) = match order {

@@ -1,9 +1,11 @@
 //! 01, "The run in demand 3": the two job books, and the demand checked on them, with the exception
-//! that 02's No. 4 makes for a lone job. Nothing in them comes from the state block.
+//! that 02's No. 4 makes for a lone job; and what its No. 5 promises of good pairs. Nothing in them
+//! comes from the state block.
 
 use crate::dispatch::Order;
 use crate::job::{left_after, time_needed, Left};
 use crate::levels::Levels;
+use crate::pairs::pairs_in;
 use crate::plan::{judge_list, Task};
 use crate::schedule::{deadline, first_arrival_after, PlainJob, Schedule};
 
@@ -73,11 +75,19 @@ impl ActualBook {
         &self.left
     }
 
+    /// The task and the arrival of the job that the next pass is about: "the running task is the one
+    /// named by the order last returned before it", and its job is that task's latest. Nothing for an
+    /// idle order.
+    pub fn running_job(&self) -> Option<(usize, u64)> {
+        let task = self.running?.task;
+        Some((task, self.latest_arrival(task)))
+    }
+
     /// 02, No. 4: the job's "time left at the order's level", the order being the one last returned.
     /// Nothing for a job that this order doesn't run.
     pub fn time_left(&self, job: &BookJob) -> Option<u64> {
         let running = self.running?;
-        let runs = running.task == job.task && self.latest_arrival(job.task) == job.arrival;
+        let runs = self.running_job() == Some((job.task, job.arrival));
         let speed = self.levels.speed(running.level);
         runs.then(|| time_needed(self.left[job.task], speed))
     }
@@ -350,6 +360,31 @@ pub fn last_finish_holds(
         )),
         _ => Ok(()),
     }
+}
+
+/// 02, No. 5, of a list of pairs as starting takes it and the book as it stands before a pass that is
+/// accepted: if the pass is about a job of a pair's later task, "the earlier's job that arrived at the
+/// same tick" is closed. That is more than "no job of the later task first runs while" it is open: it
+/// isn't open in any later pass of that job either. A job that isn't in the book's list any more was
+/// closed, and forgotten.
+pub fn pairs_hold(actual: &ActualBook, pairs: &[u8]) -> Result<(), String> {
+    let (running, arrival) = match actual.running_job() {
+        Some(job) => job,
+        None => return Ok(()),
+    };
+    for pair in pairs_in(pairs) {
+        let open = BookJob {
+            task: pair.earlier,
+            arrival,
+            open: true,
+        };
+        if pair.later == running && actual.jobs.contains(&open) {
+            return Err(format!(
+                "open while task {running}'s job of the same arrival runs: {open:?}"
+            ));
+        }
+    }
+    Ok(())
 }
 
 /// "all deadlines hold": a job whose deadline has come is closed, in both books.

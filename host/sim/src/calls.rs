@@ -4,6 +4,7 @@
 
 use crate::dispatch::{self, Order};
 use crate::level_block::read_levels;
+use crate::pairs::read_pairs;
 use crate::plan::{self, Judged, Task};
 
 /// Judging a count and its tasks.
@@ -38,7 +39,19 @@ pub fn copy_plan(level_block: &[u8], block: &[u8], buffer: &mut [u8]) -> Result<
     plan::write_plan(&levels, tasks.len() as u64, &tasks, buffer)
 }
 
-/// Starting.
-pub fn start(level_block: &[u8], block: &[u8], state: &mut [u8]) -> Result<Order, u32> {
-    dispatch::start(&read_levels(level_block)?, block, state)
+/// Asking about the pairs that are to come with a plan: starting's questions up to 22. The answer is
+/// how many pairs there are.
+pub fn pairs(level_block: &[u8], block: &[u8], pairs: &[u8]) -> Result<usize, u32> {
+    let (tasks, _) = read_plan(level_block, block)?;
+    Ok(read_pairs(&tasks, pairs)?.len())
+}
+
+/// Starting. 02, No. 5: the list of pairs "comes with the plan".
+pub fn start(
+    level_block: &[u8],
+    block: &[u8],
+    pairs: &[u8],
+    state: &mut [u8],
+) -> Result<Order, u32> {
+    dispatch::start(&read_levels(level_block)?, block, pairs, state)
 }

@@ -7,6 +7,7 @@ use crate::clock::{clock_after, LARGEST_CLOCK};
 use crate::job::{left_after, time_needed, Left};
 use crate::layout::STATE_BYTES;
 use crate::levels::Levels;
+use crate::pairs::read_pairs;
 use crate::plan::{judge_list, read_plan, Judged, Task};
 use crate::schedule::{allotment, Urgency};
 use crate::state::{pack, unpack, Entry, Running, State};
@@ -25,10 +26,12 @@ pub enum Rule {
     LoneGap,
 }
 
-/// Starting: reads the block (1 to 8, and 21), then asks for the state's 217 bytes (9). Of a longer
-/// buffer the bytes past them stay as they were.
-pub fn start(levels: &Levels, block: &[u8], state: &mut [u8]) -> Result<Order, u32> {
+/// Starting: reads the block (1 to 8, and 21), then the pairs (22, which 02's No. 5 has "put after 8"),
+/// then asks for the state's 217 bytes (9). Of a longer buffer the bytes past them stay as they were.
+/// The pairs go no further: they are in neither the state nor the order.
+pub fn start(levels: &Levels, block: &[u8], pairs: &[u8], state: &mut [u8]) -> Result<Order, u32> {
     let (tasks, judged) = read_plan(levels, block)?;
+    read_pairs(&tasks, pairs)?;
     if state.len() < STATE_BYTES {
         return Err(9);
     }

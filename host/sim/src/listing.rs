@@ -44,7 +44,8 @@ fn lines_with(levels: &Levels, rest: &[u8]) -> Vec<String> {
         Err(number) => return vec![refused(number)],
     };
     let mut state = [0; STATE_BYTES];
-    let first = match start(levels, block, &mut state) {
+    // 02, No. 5, of the list of pairs: "the bench program's is empty".
+    let first = match start(levels, block, &[], &mut state) {
         Ok(order) => order_line(0, order),
         Err(number) => return vec![refused(number)],
     };

@@ -1,9 +1,10 @@
-//! A small generator of pseudo-random numbers, and the tables of speeds, plans, passes, blocks and
-//! states made with it.
+//! A small generator of pseudo-random numbers, and the tables of speeds, plans, pairs, passes, blocks
+//! and states made with it.
 //! The same seed always gives the same numbers.
 
 pub mod blocks;
 pub mod lone;
+pub mod pairs;
 pub mod passes;
 pub mod plans;
 pub mod states;

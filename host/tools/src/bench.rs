@@ -1,10 +1,11 @@
 //! The bench input: a level block, a plan block, then two bytes a pass.
 
-use crate::script::{largest, Pass, Script, D_BITS};
+use crate::script::{largest, Pass, Script, D_BITS, NUMBER_BITS};
 use sim::bits::Bits;
 use sim::block::{block_bytes, head, pack_block, take_head, Edition};
 use sim::block::{COUNT_BITS, FIXED_BITS, HEAD_BITS, PERIOD_BITS, SPARE_BITS, WORST_BITS};
 use sim::level_block::{self, level_block_bytes, level_count, pack_levels, read_levels};
+use sim::pairs::{pack_pairs, Pair};
 use sim::plan::{judge_list, Task};
 use std::fmt;
 
@@ -76,23 +77,25 @@ impl fmt::Display for BytesError {
     }
 }
 
-/// The bench input that says this. Every number must fit its field.
+/// The bench input that says this, but for the pairs, which it has no place for. Every number must
+/// fit its field.
 pub fn to_bytes(script: &Script) -> Vec<u8> {
     debug_assert!(fits(script));
     let mut bytes = level_block_of(script);
-    let edition = Edition::of_tasks(&script.tasks);
-    bytes.extend(pack_block(
-        edition,
-        script.tasks.len() as u64,
-        &script.tasks,
-    ));
+    bytes.extend(plan_block_of(script));
     for pass in &script.passes {
         bytes.extend(pack_pass(*pass));
     }
     bytes
 }
 
-/// Reads a bench input, whether or not the dispatcher would take it.
+/// The list of pairs alone, as starting takes it. Every number must fit its byte.
+pub fn to_pairs(script: &Script) -> Vec<u8> {
+    debug_assert!(fits(script));
+    pack_pairs(&script.pairs)
+}
+
+/// Reads a bench input, whether or not the dispatcher would take it. It says no pairs.
 pub fn from_bytes(input: &[u8]) -> Result<Script, BytesError> {
     let parts = split(input);
     let speeds = unpack_levels(parts.levels)?;
@@ -112,6 +115,7 @@ pub fn from_bytes(input: &[u8]) -> Result<Script, BytesError> {
         speeds,
         tasks,
         passes,
+        ..Script::default()
     })
 }
 
@@ -126,8 +130,20 @@ pub fn refusal(script: &Script) -> Option<u32> {
     }
 }
 
+/// The number that starting refuses the plan and the pairs with, if it does: 22 is about the pairs, and
+/// all else comes before it.
+pub fn start_refusal(script: &Script) -> Option<u32> {
+    let (levels, plan) = (level_block_of(script), plan_block_of(script));
+    sim::pairs(&levels, &plan, &to_pairs(script)).err()
+}
+
 fn level_block_of(script: &Script) -> Vec<u8> {
     pack_levels(script.speeds.len() as u64, &script.speeds)
+}
+
+fn plan_block_of(script: &Script) -> Vec<u8> {
+    let edition = Edition::of_tasks(&script.tasks);
+    pack_block(edition, script.tasks.len() as u64, &script.tasks)
 }
 
 /// The two blocks, each as far as it is there, and what follows them.
@@ -176,10 +192,13 @@ fn fits(script: &Script) -> bool {
             && task.fixed <= largest(FIXED_BITS)
     };
     let speed_fits = |speed: &u64| *speed <= largest(level_block::SPEED_BITS);
+    let number_fits = |number: usize| number as u64 <= largest(NUMBER_BITS);
+    let pair_fits = |pair: &Pair| number_fits(pair.earlier) && number_fits(pair.later);
     script.speeds.len() as u64 <= largest(level_block::COUNT_BITS)
         && script.speeds.iter().all(speed_fits)
         && script.tasks.len() as u64 <= largest(COUNT_BITS)
         && script.tasks.iter().all(task_fits)
+        && script.pairs.iter().all(pair_fits)
         && script
             .passes
             .iter()

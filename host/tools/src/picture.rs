@@ -1,9 +1,10 @@
 //! The timeline as a picture: heading, refused passes, a row for each task, idle time, axis and
-//! legend, from top to bottom.
+//! legend, from top to bottom; and arrows between the rows, if there are pairs.
 
 mod axis;
 mod heading;
 mod legend;
+mod pairs;
 mod refusals;
 mod rows;
 mod scale;
@@ -69,9 +70,12 @@ pub fn draw(run: &Run, window: Span, name: Option<&str>) -> String {
     body.add(axis::grid(&view, rows_top, rows_bottom));
     body.add(refused.threads(&view, rows_top, rows_bottom));
     rows::draw(&view, rows_top, &mut body);
+    if let Some(arrows) = pairs::draw(&view, rows_top) {
+        body.add(arrows);
+    }
     body.add(refused.draw(refusals_top));
     body.add(axis::draw(&view, rows_bottom));
-    let (legend, legend_height) = legend::draw(&run.levels, MARGIN, legend_top, width - MARGIN);
+    let (legend, legend_height) = legend::draw(run, MARGIN, legend_top, width - MARGIN);
     body.add(legend);
     page(width, (legend_top + legend_height + MARGIN).ceil(), body)
 }

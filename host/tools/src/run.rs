@@ -8,6 +8,7 @@ use sim::job::{time_needed, Left};
 use sim::layout::{ENTRIES, STATE_BYTES};
 use sim::level_block::read_levels;
 use sim::levels::Levels;
+use sim::pairs::{pairs_in, Pair};
 use sim::plan::{read_plan, Judged, Task};
 use sim::state::unpack;
 
@@ -74,6 +75,8 @@ pub struct Refusal {
 pub struct Run {
     pub levels: Levels,
     pub tasks: Vec<Task>,
+    /// The pairs that it was started with.
+    pub pairs: Vec<Pair>,
     pub judged: Judged,
     pub stretches: Vec<Stretch>,
     pub idle: Vec<Span>,
@@ -88,8 +91,14 @@ pub struct Run {
     pub to_plain_finish: u64,
 }
 
-/// The run of a bench input, or the number that the whole input is refused with.
+/// The run of a bench input, or the number that the whole input is refused with. 02, No. 5, of the list
+/// of pairs: "the bench program's is empty".
 pub fn follow(input: &[u8]) -> Result<Run, u32> {
+    follow_with_pairs(input, &[])
+}
+
+/// The same, started with a list of pairs. They change nothing in the run, but may be refused.
+pub fn follow_with_pairs(input: &[u8], pairs: &[u8]) -> Result<Run, u32> {
     if input.len() > LARGEST_INPUT {
         return Err(17);
     }
@@ -97,10 +106,11 @@ pub fn follow(input: &[u8]) -> Result<Run, u32> {
     let levels = read_levels(parts.levels)?;
     let (tasks, judged) = read_plan(&levels, parts.plan)?;
     let mut state = [0; STATE_BYTES];
-    let order = start(&levels, parts.plan, &mut state)?;
+    let order = start(&levels, parts.plan, pairs, &mut state)?;
     let mut run = Run {
         levels,
         tasks,
+        pairs: pairs_in(pairs),
         judged,
         stretches: Vec::new(),
         idle: Vec::new(),
@@ -111,11 +121,11 @@ pub fn follow(input: &[u8]) -> Result<Run, u32> {
         fixed_left: 0,
         to_plain_finish: 0,
     };
-    let mut pairs = parts.passes.chunks_exact(2);
-    for pair in &mut pairs {
-        run.put(unpack_pass(pair), &mut state);
+    let mut passes = parts.passes.chunks_exact(2);
+    for bytes in &mut passes {
+        run.put(unpack_pass(bytes), &mut state);
     }
-    if !pairs.remainder().is_empty() {
+    if !passes.remainder().is_empty() {
         run.refuse(16);
     }
     run.fixed_left = run.left_to_run(&state).fixed;

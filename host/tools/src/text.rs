@@ -1,9 +1,11 @@
-//! The text form: a `speeds S1 S2 ..` line if the speeds are not 01's, `task PERIOD WORST [FIXED]`
-//! lines, then `pass D` and `finish D` lines. `#` starts a comment, and blank lines say nothing.
+//! The text form: a `speeds S1 S2 ..` line if the speeds are not 01's, `task PERIOD WORST [FIXED]` and
+//! `before EARLIER LATER` lines, then `pass D` and `finish D` lines. `#` starts a comment, and blank
+//! lines say nothing.
 
-use crate::script::{largest, Pass, Script, D_BITS};
+use crate::script::{largest, Pass, Script, D_BITS, NUMBER_BITS};
 use sim::block::{COUNT_BITS, FIXED_BITS, PERIOD_BITS, WORST_BITS};
 use sim::level_block::{self, SPEED_BITS};
+use sim::pairs::Pair;
 use sim::plan::Task;
 use std::fmt;
 
@@ -19,6 +21,7 @@ pub enum Mistake {
     SpeedsNotFirst,
     TooManyTasks,
     TaskAfterPass,
+    PairAfterPass,
 }
 
 /// A mistake and its line, the first line being 1.
@@ -33,7 +36,7 @@ impl fmt::Display for Mistake {
         match self {
             Mistake::UnknownWord(word) => write!(
                 out,
-                "unknown word {word:?}; a line begins with speeds, task, pass or finish"
+                "unknown word {word:?}; a line begins with speeds, task, before, pass or finish"
             ),
             Mistake::Missing(field) => write!(out, "the {field} is missing"),
             Mistake::NotANumber(field, word) => {
@@ -49,6 +52,7 @@ impl fmt::Display for Mistake {
             Mistake::SpeedsNotFirst => write!(out, "the speeds come once, and before all else"),
             Mistake::TooManyTasks => too_many(out, "task", COUNT_BITS),
             Mistake::TaskAfterPass => write!(out, "a task after a pass; all tasks come first"),
+            Mistake::PairAfterPass => write!(out, "a pair after a pass; all pairs come first"),
         }
     }
 }
@@ -82,7 +86,8 @@ pub fn parse(text: &str) -> Result<Script, TextError> {
     Ok(script)
 }
 
-/// Writes the text form: the speeds if they are not 01's, the tasks, a blank line, the passes.
+/// Writes the text form: the speeds if they are not 01's, the tasks, the pairs, a blank line, the
+/// passes.
 pub fn write(script: &Script) -> String {
     let mut text = String::new();
     if script.speeds != Script::default().speeds {
@@ -99,7 +104,11 @@ pub fn write(script: &Script) -> String {
         }
         text += "\n";
     }
-    if !script.tasks.is_empty() && !script.passes.is_empty() {
+    for pair in &script.pairs {
+        text += &format!("before {} {}\n", pair.earlier, pair.later);
+    }
+    let has_plan = !script.tasks.is_empty() || !script.pairs.is_empty();
+    if has_plan && !script.passes.is_empty() {
         text += "\n";
     }
     for pass in &script.passes {
@@ -117,6 +126,7 @@ fn enter_line(script: &mut Script, words: &[&str], first: bool) -> Result<(), Mi
         Some("speeds") if !first => return Err(Mistake::SpeedsNotFirst),
         Some("speeds") => enter_speeds(script, &mut words)?,
         Some("task") => enter_task(script, &mut words)?,
+        Some("before") => enter_pair(script, &mut words)?,
         Some("pass") => enter_pass(script, &mut words, false)?,
         Some("finish") => enter_pass(script, &mut words, true)?,
         Some(other) => return Err(Mistake::UnknownWord(other.to_string())),
@@ -169,6 +179,21 @@ fn enter_task<'a>(
         worst,
         fixed,
     });
+    Ok(())
+}
+
+/// As many as there are, and before or after the tasks that they name: a list that is refused can be
+/// said too.
+fn enter_pair<'a>(
+    script: &mut Script,
+    words: &mut impl Iterator<Item = &'a str>,
+) -> Result<(), Mistake> {
+    if !script.passes.is_empty() {
+        return Err(Mistake::PairAfterPass);
+    }
+    let earlier = number(words, "earlier task", NUMBER_BITS)? as usize;
+    let later = number(words, "later task", NUMBER_BITS)? as usize;
+    script.pairs.push(Pair { earlier, later });
     Ok(())
 }
 

@@ -20,8 +20,8 @@ start-requires c κs = search needs
 reply-number-requires : tie.Need-reply-number-requires
 reply-number-requires c κs =
     let started = c .before .before in
-    let s = started .before .before .before .before .before in
-    start-most (s .args .levels .now) (s .args .block .now) (length (s .args .state .now)) (started .start .result) (started .start .ensures .0)
+    let s = started .before .before .before .before .before .before in
+    start-most (s .args .levels .now) (s .args .block .now) (s .args .pairs .now) (length (s .args .state .now)) (started .start .result) (started .start .ensures .0)
 
 same-length : tie.Need-same-length
 same-length c = search needs

@@ -17,6 +17,9 @@ use Rattle.listing.proofs.started_lines.Tie as tie
 slice-aggregate-start : tie.Need-slice-aggregate-start
 slice-aggregate-start c = search needs
 
+slice-aggregate-start-2 : tie.Need-slice-aggregate-start-2
+slice-aggregate-start-2 c = search needs
+
 start-requires : tie.Need-start-requires
 start-requires c κs = search needs
 
@@ -43,7 +46,7 @@ returns c =
     let ts : List Task = tasksIn block in
     let r : Reply = started .start .result in
     as-text (replied .reply-line .ensures then listed .pass-lines .ensures .0 (speedsIn levels) ts (openedBook ts r) (opened-clock ts r))
-    (started-is levels block (start .args .passes .now) (started .start .ensures .0) (started .start .ensures .1) (started .start .kept .1 .1 .0))
+    (started-is levels block (start .args .passes .now) (started .start .ensures .0) (started .start .ensures .1) (started .start .kept .1 .1 .1 .0))
     (omega arith)
 
 pub started-lines-spec : {M : Type 1} → statement M
@@ -51,6 +54,7 @@ started-lines-spec =
     tie.close
     (tie.spec
     slice-aggregate-start
+    slice-aggregate-start-2
     start-requires
     reply-line-requires
     slice-aggregate-pass-lines

@@ -12,7 +12,7 @@ use Rattle.starting.proofs.start.Tie as tie
 
 -- the places that others are reached from
 abbrev begun : tie.After-read-levels → tie.Start
-begun c = c .before .before .before .before
+begun c = c .before .before .before .before .before
 
 abbrev levels : tie.After-read-levels → List ℕ
 levels c = begun c .args .levels .now
@@ -41,7 +41,7 @@ start-over-requires c κs =
 returns : tie.Need-returns
 returns c =
     let r : tie.After-read-levels = c .before .before .before .before in
-    start-unloaded (levels r) (begun r .args .block .now) (begun r .args .state .now)
+    start-unloaded (levels r) (begun r .args .block .now) (begun r .args .pairs .now) (begun r .args .state .now)
     (told-unloaded (levels r) (r .read-levels .ensures) (c .before .answer .given .1))
 
 same-length : tie.Need-same-length
@@ -52,7 +52,7 @@ returns-2 c =
     let s : tie.After-start-over = c .before .before in
     let a : tie.After-answer2 = s .before .before .before .before in
     let b : tie.Start = begun (read a) in
-    start-loaded (levels (read a)) (b .args .block .now) (b .args .state .now) (loads a) (s .start-over .ensures)
+    start-loaded (levels (read a)) (b .args .block .now) (b .args .pairs .now) (b .args .state .now) (loads a) (s .start-over .ensures)
 
 pub start-spec : {M : Type 1} → statement M
 start-spec =

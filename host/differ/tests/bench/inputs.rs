@@ -189,7 +189,7 @@ fn plans_are_cut_by_their_edition() {
 fn passes_inside(levels: &Levels, plan: &[Task], input: &[u8]) -> u32 {
     let block = block_of(plan);
     let mut state = [0; STATE_BYTES];
-    if start(levels, &block, &mut state).is_err() {
+    if start(levels, &block, &[], &mut state).is_err() {
         return 0;
     }
     let mut inside = 0;

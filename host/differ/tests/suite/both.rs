@@ -23,6 +23,7 @@ pub enum Call {
     Read,
     Write,
     Copy,
+    Pairs,
     Start,
     Pass,
     Show,
@@ -34,18 +35,22 @@ pub enum Kind {
     /// A plan without fixed ticks, and one with some: one of edition 1, and one of edition 2.
     NoFixed,
     Fixed,
+    /// An empty list of pairs, and one with pairs in it.
+    NoPair,
+    SomePairs,
     /// A pass at whose end the running job had fixed ticks left, and ended there or didn't.
     EndedInFixed,
     WentOnInFixed,
 }
 
 /// The calls that take a level block.
-pub const WITH_LEVELS: [Call; 6] = [
+pub const WITH_LEVELS: [Call; 7] = [
     Call::Levels,
     Call::Judge,
     Call::Read,
     Call::Write,
     Call::Copy,
+    Call::Pairs,
     Call::Start,
 ];
 
@@ -185,6 +190,29 @@ impl Both {
         answer
     }
 
+    /// Reads the block and the list of pairs that is to come with it, and returns how many there are.
+    #[track_caller]
+    pub fn pairs(&mut self, block: &[u8], pairs: &[u8]) -> Result<u64, u32> {
+        let levels = &self.level_block;
+        let what = || format!("pairs {pairs:02x?} with {block:02x?}, levels {levels:02x?}");
+        let wanted = sim::pairs(levels, block, pairs).map(|count| count as u64);
+        let nth = self.times(Call::Pairs);
+        let mut lent_levels = self.lent_levels(nth);
+        let mut lent_block = Lent::new(nth + 3, block);
+        let mut lent_pairs = Lent::new(nth, pairs);
+        let answer = proved::pairs(lent_levels.slice(), lent_block.slice(), lent_pairs.slice());
+        assert_eq!(answer, wanted, "{}", what());
+        lent_levels.wants(levels, what);
+        lent_block.wants(block, what);
+        lent_pairs.wants(pairs, what);
+        self.count(Call::Pairs, &answer);
+        if answer.is_ok() {
+            self.note_block(Call::Pairs, block);
+            self.note_pairs(Call::Pairs, pairs);
+        }
+        answer
+    }
+
     pub fn count<T>(&mut self, call: Call, answer: &Result<T, u32>) {
         let number = answer.as_ref().err().copied().unwrap_or(ACCEPTED);
         *self.seen.entry((call, number)).or_default() += 1;
@@ -212,6 +240,12 @@ impl Both {
         }
     }
 
+    /// Counts an accepted call with such a list of pairs.
+    pub fn note_pairs(&mut self, call: Call, pairs: &[u8]) {
+        let kinds = [Kind::SomePairs, Kind::NoPair];
+        self.note(call, kinds[usize::from(pairs.is_empty())]);
+    }
+
     pub fn note(&mut self, call: Call, kind: Kind) {
         *self.kinds.entry((call, kind)).or_default() += 1;
     }
@@ -229,6 +263,15 @@ impl Both {
         for call in calls {
             self.wants_kind(*call, Kind::NoFixed, least);
             self.wants_kind(*call, Kind::Fixed, least);
+        }
+    }
+
+    /// The same for lists of pairs that are empty, and for ones that aren't.
+    #[track_caller]
+    pub fn wants_lists(&self, calls: &[Call], least: u64) {
+        for call in calls {
+            self.wants_kind(*call, Kind::NoPair, least);
+            self.wants_kind(*call, Kind::SomePairs, least);
         }
     }
 

@@ -20,7 +20,7 @@ fn clock_in(state: &[u8]) -> u64 {
 /// before the largest clock.
 fn started_late(both: &mut Both, plan: &[Task], before: u64) -> [u8; STATE_BYTES] {
     let mut state = [0; STATE_BYTES];
-    both.start(&block_of(plan), &mut state).unwrap();
+    both.start(&block_of(plan), &[], &mut state).unwrap();
     let hyperperiod = sim::judge_list(&both.level_block, plan)
         .unwrap()
         .hyperperiod;

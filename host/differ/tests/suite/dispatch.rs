@@ -10,27 +10,39 @@ use sim::state::unpack;
 pub use sim::layout::STATE_BYTES;
 
 impl Both {
-    /// Starts with the loaded levels and the block in a buffer, which then holds what both sides left
-    /// there.
+    /// Starts with the loaded levels, the block and its list of pairs in a buffer, which then holds what
+    /// both sides left there.
     #[track_caller]
-    pub fn start(&mut self, block: &[u8], state: &mut [u8]) -> Result<Order, u32> {
+    pub fn start(&mut self, block: &[u8], pairs: &[u8], state: &mut [u8]) -> Result<Order, u32> {
         let nth = self.times(Call::Start);
         let (levels, room) = (&self.level_block, state.len());
-        let what = || format!("starting {block:02x?} in {room} bytes, levels {levels:02x?}");
+        let what = || {
+            format!(
+                "starting {block:02x?} with pairs {pairs:02x?} in {room} bytes, levels {levels:02x?}"
+            )
+        };
         let mut wanted = state.to_vec();
-        let simulated = sim::start(levels, block, &mut wanted).map(as_order);
+        let simulated = sim::start(levels, block, pairs, &mut wanted).map(as_order);
         let mut lent_levels = self.lent_levels(nth);
         let mut lent_block = Lent::new(nth + 3, block);
+        let mut lent_pairs = Lent::new(nth + 7, pairs);
         let mut lent_state = Lent::new(nth, state);
-        let answer = dispatcher::start(lent_levels.slice(), lent_block.slice(), lent_state.slice());
+        let answer = dispatcher::start(
+            lent_levels.slice(),
+            lent_block.slice(),
+            lent_pairs.slice(),
+            lent_state.slice(),
+        );
         assert_eq!(answer, simulated, "{}", what());
         lent_levels.wants(levels, what);
         lent_block.wants(block, what);
+        lent_pairs.wants(pairs, what);
         lent_state.wants(&wanted, what);
         if answer.is_err() {
             assert!(wanted == state, "{}: refused, yet changed", what());
         } else {
             self.note_block(Call::Start, block);
+            self.note_pairs(Call::Start, pairs);
         }
         state.copy_from_slice(&wanted);
         self.count(Call::Start, &answer);

@@ -25,10 +25,10 @@ fn closing_bits(count: usize) -> usize {
     8 * level_block_bytes(count as u64) - COUNT_BITS - SPEED_BITS * count
 }
 
-/// Puts the loaded block ahead of every call that takes a plan, with buffers of this length. Says
-/// with which number all of them refused, if they did.
+/// Puts the loaded block ahead of every call that takes a plan, with this list of pairs and buffers of
+/// this length. Says with which number all of them refused, if they did.
 #[track_caller]
-fn put_before_all(both: &mut Both, list: &[Task], room: usize) -> [Option<u32>; 6] {
+fn put_before_all(both: &mut Both, list: &[Task], pairs: &[u8], room: usize) -> [Option<u32>; 7] {
     let (numbers, block) = (numbers_of(list), block_of(list));
     let mut state = vec![0xc3; room];
     [
@@ -37,7 +37,8 @@ fn put_before_all(both: &mut Both, list: &[Task], room: usize) -> [Option<u32>; 
         both.read(&block).err(),
         both.write(list.len(), &numbers, room).err(),
         both.copy(&block, room).err(),
-        both.start(&block, &mut state).err(),
+        both.pairs(&block, pairs).err(),
+        both.start(&block, pairs, &mut state).err(),
     ]
 }
 
@@ -233,7 +234,7 @@ fn damaged_level_blocks() {
         assert_eq!(answer.is_err(), matches!(judged, Err(18..=20)));
         let twice = damaged_level_block(&mut random, &once);
         let _ = read(&mut both, &twice);
-        let _ = both.start(&block_of(&bench), &mut [0; STATE_BYTES]);
+        let _ = both.start(&block_of(&bench), &[], &mut [0; STATE_BYTES]);
     }
     both.saw("damaged level blocks", 32_000);
     for call in [Call::Levels, Call::Judge, Call::Start] {
@@ -269,10 +270,11 @@ fn bad_blocks_ahead_of_every_call() {
         both.level_block = bad_level_block(&mut random, number);
         let list = &lists[round / 3 % lists.len()];
         let room = random.pick(&[0, 5, 15, 200, STATE_BYTES - 1, STATE_BYTES, 300]);
-        let answers = put_before_all(&mut both, list, room);
-        assert_eq!(answers, [Some(number); 6]);
+        let pairs = random.pick(&[&[][..], &[0, 1], &[1, 0], &[0], &[0xff; 2], &[0; 34]]);
+        let answers = put_before_all(&mut both, list, pairs, room);
+        assert_eq!(answers, [Some(number); 7]);
     }
-    both.saw("bad blocks ahead of every call", 9_000);
+    both.saw("bad blocks ahead of every call", 10_500);
     for call in WITH_LEVELS {
         for number in REFUSALS {
             both.wants(call, number, 500);
@@ -299,10 +301,11 @@ fn level_blocks_are_asked_about_before_plan_blocks() {
             &bench,
             &needless,
         ] {
-            for room in [0, 15, STATE_BYTES] {
+            for (room, pairs) in [(0, &[][..]), (15, &[0]), (STATE_BYTES, &[1, 0])] {
                 assert_eq!(both.read(plan), Err(number));
                 assert_eq!(both.copy(plan, room), Err(number));
-                assert_eq!(both.start(plan, &mut vec![0; room]), Err(number));
+                assert_eq!(both.pairs(plan, pairs), Err(number));
+                assert_eq!(both.start(plan, pairs, &mut vec![0; room]), Err(number));
             }
         }
     }
@@ -316,10 +319,12 @@ fn level_blocks_are_asked_about_before_plan_blocks() {
     ] {
         assert_eq!(both.read(plan), Err(number));
         assert_eq!(both.copy(plan, 74), Err(number));
-        assert_eq!(both.start(plan, &mut [0; STATE_BYTES]), Err(number));
+        assert_eq!(both.pairs(plan, &[1, 0]), Err(number));
+        let started = both.start(plan, &[1, 0], &mut [0; STATE_BYTES]);
+        assert_eq!(started, Err(number));
     }
-    both.saw("level blocks before plan blocks", 500);
-    for call in [Call::Read, Call::Copy, Call::Start] {
+    both.saw("level blocks before plan blocks", 700);
+    for call in [Call::Read, Call::Copy, Call::Pairs, Call::Start] {
         both.wants(call, 18, 15);
         both.wants(call, 19, 150);
     }
@@ -334,12 +339,12 @@ fn admitted_by_one_table_and_refused_by_another() {
     for below in [&[][..], &[7], &[1, 2, 3, 4, 5, 6, 98]] {
         for (fastest, refusal) in [(99, Some(8)), (100, None), (1_000, None)] {
             both.load(&Levels::new(&[below, &[fastest]].concat()));
-            let answers = put_before_all(&mut both, &bench, STATE_BYTES);
+            let answers = put_before_all(&mut both, &bench, &[0, 2], STATE_BYTES);
             assert_eq!(answers[0], None);
-            assert_eq!(answers[1..], [refusal; 5]);
+            assert_eq!(answers[1..], [refusal; 6]);
         }
     }
-    both.saw("admitted and refused", 54);
+    both.saw("admitted and refused", 63);
     for call in &WITH_LEVELS[1..] {
         both.wants(*call, 8, 3);
         both.wants(*call, ACCEPTED, 6);

@@ -64,6 +64,12 @@ pub fn fits_block(tasks: &[Task]) -> bool {
     tasks.len() < 32 && tasks.iter().all(fits)
 }
 
+/// Whether the block of these tasks has a task, and periods of which one can tell which are multiples.
+pub fn has_periods(tasks: &[Task]) -> bool {
+    let period_fits = |task: &Task| (1..=LARGEST_PERIOD).contains(&task.period);
+    !tasks.is_empty() && tasks.iter().all(period_fits)
+}
+
 /// Any level, any bases, and exactly so many tasks: accepted.
 pub fn plan_of_count(random: &mut Random, levels: &Levels, count: usize) -> Vec<Task> {
     loop {

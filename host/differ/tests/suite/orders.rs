@@ -32,7 +32,7 @@ const fn idle(hold: u32) -> Order {
 /// The bench plan after so many passes of the listing.
 fn led(both: &mut Both, passes: usize) -> [u8; STATE_BYTES] {
     let mut state = [0; STATE_BYTES];
-    let first = both.start(&block_of(&bench_plan()), &mut state);
+    let first = both.start(&block_of(&bench_plan()), &[], &mut state);
     assert_eq!(first, Ok(run(0, 7, 4)));
     for (d, finished, order) in &LISTING[..passes] {
         assert_eq!(both.pass(&mut state, *d, *finished), Ok(*order));
@@ -138,7 +138,7 @@ fn period_1() {
     let mut both = Both::new(&levels);
     for (work, level) in [(10, 0), (11, 1), (60, 5), (61, 6), (100, 7)] {
         let mut state = [0; STATE_BYTES];
-        let first = both.start(&block_of(&tasks(&[(1, work)])), &mut state);
+        let first = both.start(&block_of(&tasks(&[(1, work)])), &[], &mut state);
         assert_eq!(first, Ok(run(0, level, 1)));
         for _ in 0..50 {
             assert_eq!(both.pass(&mut state, 1, 0), Err(14));
@@ -148,7 +148,7 @@ fn period_1() {
     }
     let mut state = [0; STATE_BYTES];
     assert_eq!(
-        both.start(&block_of(&tasks(&[(1, 101)])), &mut state),
+        both.start(&block_of(&tasks(&[(1, 101)])), &[], &mut state),
         Err(8)
     );
 }
@@ -159,7 +159,7 @@ fn period_1() {
 fn the_table_in_the_state_byte_by_byte() {
     let mut both = Both::new(&Levels::new(&[1, 258, 1_000]));
     let mut state = [0xa5; STATE_BYTES + 3];
-    let first = both.start(&block_of(&tasks(&[(40, 300)])), &mut state);
+    let first = both.start(&block_of(&tasks(&[(40, 300)])), &[], &mut state);
     // 300 units are 2 ticks at 258, and too many at 1.
     assert_eq!(first, Ok(run(0, 1, 2)));
     let wanted = [3, 0, 1, 1, 2, 3, 232, 0, 0, 0, 0, 0, 0, 0, 0, 0, 0];
@@ -172,7 +172,7 @@ fn the_table_in_the_state_byte_by_byte() {
     // One level alone: 300 units are a tick at 1,000.
     both.load(&Levels::new(&[1_000]));
     let mut state = [0xa5; STATE_BYTES];
-    let first = both.start(&block_of(&tasks(&[(40, 300)])), &mut state);
+    let first = both.start(&block_of(&tasks(&[(40, 300)])), &[], &mut state);
     assert_eq!(first, Ok(run(0, 0, 1)));
     let wanted = [1, 3, 232, 0, 0, 0, 0, 0, 0, 0, 0, 0, 0, 0, 0, 0, 0];
     assert_eq!(state[200..], wanted);
@@ -186,7 +186,10 @@ fn a_run_at_odd_speeds() {
     let plan = tasks(&[(10, 40), (15, 56)]);
     let mut state = [0; STATE_BYTES];
     // 4 and 5 ticks at 13 are 22 of 30; 6 and 8 at 7 are 34.
-    assert_eq!(both.start(&block_of(&plan), &mut state), Ok(run(0, 1, 4)));
+    assert_eq!(
+        both.start(&block_of(&plan), &[], &mut state),
+        Ok(run(0, 1, 4))
+    );
     // 3 and 5 ticks for 56 units, which are 8 exactly at 7.
     assert_eq!(both.pass(&mut state, 1, 1), Ok(run(1, 0, 8)));
     assert_eq!(both.pass(&mut state, 3, 0), Ok(run(1, 0, 5)));
@@ -196,9 +199,12 @@ fn a_run_at_odd_speeds() {
     assert_eq!(both.show(&state, 48), Ok(queue_bytes(&[(0, 4)])));
     // The same plan with 01's speeds, and with ones too slow for it.
     both.load(&Levels::base());
-    assert_eq!(both.start(&block_of(&plan), &mut state), Ok(run(0, 0, 4)));
+    assert_eq!(
+        both.start(&block_of(&plan), &[], &mut state),
+        Ok(run(0, 0, 4))
+    );
     both.load(&Levels::new(&[1, 6]));
-    assert_eq!(both.start(&block_of(&plan), &mut state), Err(8));
+    assert_eq!(both.start(&block_of(&plan), &[], &mut state), Err(8));
 }
 
 /// Would catch fixed ticks that scale, come after the work, are lost at a preemption or stay in a job
@@ -233,7 +239,7 @@ fn a_run_with_fixed_ticks() {
 fn started_with_fixed_ticks(both: &mut Both) -> [u8; STATE_BYTES] {
     let block = block_of(&fixed_tasks(&[(10, 100, 2), (40, 500, 6)]));
     let mut state = [0xa5; STATE_BYTES];
-    assert_eq!(both.start(&block, &mut state), Ok(run(0, 3, 5)));
+    assert_eq!(both.start(&block, &[], &mut state), Ok(run(0, 3, 5)));
     state
 }
 
@@ -266,7 +272,7 @@ fn an_end_inside_the_fixed_ticks() {
 /// 01's speeds and this plan, after passes that are all accepted: the state, and the order of the last.
 fn led_through(both: &mut Both, plan: &[Task], passes: &[(u32, u8)]) -> ([u8; STATE_BYTES], Order) {
     let mut state = [0; STATE_BYTES];
-    let mut order = both.start(&block_of(plan), &mut state);
+    let mut order = both.start(&block_of(plan), &[], &mut state);
     for (d, finished) in passes {
         order = both.pass(&mut state, *d, *finished);
     }
@@ -348,7 +354,7 @@ fn a_job_in_company_has_no_gap() {
 /// Two tasks of period 3 with 2 units each, at 1 or 2 units a tick: in one tick at nominal each.
 fn two_tasks(both: &mut Both) -> [u8; STATE_BYTES] {
     let mut state = [0xa5; STATE_BYTES];
-    let first = both.start(&block_of(&tasks(&[(3, 2), (3, 2)])), &mut state);
+    let first = both.start(&block_of(&tasks(&[(3, 2), (3, 2)])), &[], &mut state);
     assert_eq!(first, Ok(run(0, 1, 1)));
     state
 }
@@ -427,7 +433,7 @@ fn the_smallest_use_of_the_exception_forged() {
 fn a_job_in_company_may_not_be_behind() {
     let mut both = Both::new(&Levels::new(&[1]));
     let mut state = [0; STATE_BYTES];
-    let first = both.start(&block_of(&tasks(&[(4, 1); 3])), &mut state);
+    let first = both.start(&block_of(&tasks(&[(4, 1); 3])), &[], &mut state);
     assert_eq!(first, Ok(run(0, 0, 1)));
     let (order, first_work, plain, third_work) = (4, 15, 29, 39);
     state[order] = 1;

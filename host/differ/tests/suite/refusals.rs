@@ -1,5 +1,5 @@
 //! Each refusal number from 1 to 9, and 21, is reached, from every call that can give it, and where
-//! several questions would say no the first decides. 18 to 20 are in `levels`.
+//! several questions would say no the first decides. 18 to 20 are in `levels`, and 22 in `pairs`.
 
 use crate::both::{Both, Call, ACCEPTED};
 use crate::made::{bench_plan, fixed_tasks, numbers_of, tasks};
@@ -8,16 +8,20 @@ use sim::levels::Levels;
 use sim::plan::Task;
 use sim::random::blocks::{block_of, block_of_no_additions};
 
-/// Reading and copying refuse the block so, however long the buffer.
+/// Reading and copying refuse the block so, however long the buffer, and so does asking about its pairs,
+/// whatever the list.
 #[track_caller]
 fn refuses_block(both: &mut Both, block: &[u8], number: u32) {
     assert_eq!(both.read(block), Err(number));
+    for pairs in [&[][..], &[0, 1], &[1, 0], &[0], &[0xff; 2], &[0; 34]] {
+        assert_eq!(both.pairs(block, pairs), Err(number));
+    }
     for room in [0, 1, block.len(), 96, 110] {
         assert_eq!(both.copy(block, room), Err(number));
     }
 }
 
-/// All four calls refuse the tasks so.
+/// All five calls refuse the tasks so.
 #[track_caller]
 fn refuses_tasks(both: &mut Both, list: &[Task], number: u32) {
     let numbers = numbers_of(list);
@@ -98,6 +102,7 @@ fn refusals_7_to_9(both: &mut Both) {
     assert_eq!(both.copy(&block, 15).as_ref(), Ok(&block));
     assert!(both.judge(3, &numbers).is_ok());
     assert!(both.read(&block).is_ok());
+    assert_eq!(both.pairs(&block, &[0, 1]), Ok(1));
 }
 
 /// 21 is put in reading alone, after 6 and before 7 and 8.
@@ -141,6 +146,7 @@ fn every_number_from_every_call_that_gives_it() {
         (Call::Read, &[1, 2, 3, 4, 5, 6, 7, 8, 21]),
         (Call::Write, &[3, 6, 7, 8, 9]),
         (Call::Copy, &[1, 2, 3, 4, 5, 6, 7, 8, 9, 21]),
+        (Call::Pairs, &[1, 2, 3, 4, 5, 6, 7, 8, 21]),
     ];
     both.wants_never(Call::Judge, 21);
     both.wants_never(Call::Write, 21);
@@ -150,7 +156,7 @@ fn every_number_from_every_call_that_gives_it() {
             both.wants(call, *number, 2);
         }
     }
-    both.saw("every number", 1_100);
+    both.saw("every number", 2_000);
 }
 
 /// Would catch a count cut to fewer bits before it is asked about, and a plan of so many tasks read

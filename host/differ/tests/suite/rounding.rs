@@ -122,8 +122,8 @@ impl Plans {
     fn played(&self, levels: &[u8]) {
         let ticks = self.ticks;
         let mut state = [0; STATE_BYTES];
-        assert_eq!(start(levels, &self.refused_block, &mut state), Err(8));
-        assert_eq!(start(levels, &self.block, &mut state), run(0, ticks));
+        assert_eq!(start(levels, &self.refused_block, &[], &mut state), Err(8));
+        assert_eq!(start(levels, &self.block, &[], &mut state), run(0, ticks));
         assert_eq!(queue(&state), [(0, ticks), (1, 1)]);
         assert_eq!(pass(&mut state, ticks, 0), Err(14));
         if ticks > 1 {

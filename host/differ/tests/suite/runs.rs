@@ -1,20 +1,23 @@
-//! Long runs of accepted plans, with fixed ticks and without. After every pass, accepted or refused,
-//! demand 3 and what else 02's No. 4 says of a run are checked on the simulator's two books, which are
-//! fed the library's replies and nothing of the state; and the queue shown must be the one of the plain
-//! schedule's book, and what the state has left of each job what the dispatcher's book has.
+//! Long runs of accepted plans, with fixed ticks and without, and with a good list of pairs. After every
+//! pass, accepted or refused, demand 3 and what else 02's No. 4 says of a run are checked on the
+//! simulator's two books, which are fed the library's replies and nothing of the state; and the queue
+//! shown must be the one of the plain schedule's book, and what the state has left of each job what the
+//! dispatcher's book has. What No. 5 promises is checked on that book before every accepted pass.
 
-use crate::both::{Both, Call, ACCEPTED};
+use crate::both::{Both, Call, Kind, ACCEPTED};
 use crate::dispatch::{as_simulated, STATE_BYTES};
 use crate::gaps::{Gaps, Stand};
 use crate::made::bench_plan;
+use crate::turns::Turns;
 use crate::view::{queue_bytes, told, View};
 use differ::dispatcher::Order;
 use sim::block::Edition;
-use sim::books::{demand3_holds, lone_finishes_hold, ActualBook, PlainBook};
+use sim::books::{demand3_holds, lone_finishes_hold, pairs_hold, ActualBook, PlainBook};
 use sim::job::Left;
 use sim::levels::{Levels, MOST_LEVELS};
 use sim::plan::{judge_list, Task};
 use sim::random::blocks::block_of;
+use sim::random::pairs::{bad_list, good_list};
 use sim::random::passes::any_pass;
 use sim::random::plans::{full_plan, plan_at_level, plan_at_level_within, SMALL_BASES};
 use sim::random::tables::{levels_of_count, some_levels};
@@ -57,6 +60,7 @@ struct Tally {
     with_fixed: u64,
     without: u64,
     gaps: Gaps,
+    turns: Turns,
 }
 
 impl Tally {
@@ -80,6 +84,8 @@ impl Tally {
 
 struct Run {
     plan: Vec<Task>,
+    /// The list that it was started with.
+    pairs: Vec<u8>,
     /// How many levels there are.
     levels: usize,
     nominal: u8,
@@ -93,8 +99,14 @@ impl Run {
     fn new(both: &mut Both, levels: &Levels, plan: Vec<Task>) -> Run {
         both.load(levels);
         let mut state = [0xa5; STATE_BYTES];
+        let block = block_of(&plan);
+        // The lists are drawn apart, so that they don't change which passes are drawn.
+        let mut random = Random::new(both.times(Call::Start));
+        let bad = bad_list(&mut random, &plan);
+        assert_eq!(both.start(&block, &bad, &mut state), Err(22));
+        let pairs = good_list(&mut random, &plan);
         let order = both
-            .start(&block_of(&plan), &mut state)
+            .start(&block, &pairs, &mut state)
             .expect("the plan is an accepted one");
         let run = Run {
             levels: levels.count(),
@@ -102,6 +114,7 @@ impl Run {
             actual: ActualBook::new(levels, &plan, as_simulated(order)),
             plain: PlainBook::new(levels, &plan),
             plan,
+            pairs,
             state,
             order,
         };
@@ -127,6 +140,9 @@ impl Run {
         let (d, finished) = self.choose(view, random, style);
         let reply = both.pass(&mut self.state, d, told(random, finished));
         assert_eq!(reply.err().unwrap_or(0), view.refusal(d, finished));
+        if reply.is_ok() {
+            self.check_pairs(tally);
+        }
         let entered = reply.map(as_simulated);
         self.actual.pass(d, finished, entered);
         self.plain.pass(d, entered);
@@ -174,6 +190,14 @@ impl Run {
             actual: &self.actual,
             plain: &self.plain,
         }
+    }
+
+    /// No. 5's promise, by the dispatcher's book before an accepted pass: the earlier task's job that
+    /// arrived with the running one is closed.
+    fn check_pairs(&self, tally: &mut Tally) {
+        let promise = pairs_hold(&self.actual, &self.pairs);
+        assert_eq!(promise, Ok(()), "{:?} in {:?}", self.pairs, self.plan);
+        tally.turns.note(&self.plan, &self.actual, &self.pairs);
     }
 
     fn check(&self, both: &mut Both) {
@@ -252,6 +276,7 @@ fn long_runs_at_every_level() {
     assert!(tally.levels.iter().all(|times| *times > 2_000), "{tally:?}");
     tally.wants_fixed(80, 500, 500, 50);
     tally.gaps.wants(30);
+    tally.turns.wants(300);
 }
 
 /// The same where the plain schedule has no tick to spare: would catch a level that is one too low,
@@ -287,6 +312,7 @@ fn long_runs_of_full_plans() {
     assert!(tally.below_nominal > 1_000, "{tally:?}");
     tally.wants_fixed(20, 100, 100, 10);
     tally.gaps.wants(10);
+    tally.turns.wants(100);
 }
 
 /// A plan at any level, a full one if told so. Half of them are at the highest, which few tables would
@@ -335,6 +361,7 @@ fn runs_with_any_table() {
     assert!(tally.levels.iter().all(|times| *times > 500), "{tally:?}");
     tally.wants_fixed(200, 1_000, 1_000, 100);
     tally.gaps.wants(40);
+    tally.turns.wants(500);
 }
 
 /// Would catch a table that is mixed up with another one: a state goes on with its own, whatever is
@@ -419,6 +446,7 @@ fn runs_inside_the_fixed_ticks() {
     both.wants_inside(3_000);
     tally.wants_fixed(0, 3_000, 3_000, 500);
     tally.gaps.wants(4);
+    tally.turns.wants(100);
 }
 
 /// A plan of one to four tasks, whose jobs are soon alone. Where there is a lower level than the nominal
@@ -469,6 +497,54 @@ fn runs_with_lone_jobs() {
     tally.wants_fixed(400, 500, 500, 30);
     tally.gaps.wants(200);
     tally.gaps.wants_of_levels(70);
+    tally.turns.wants(1_000);
+}
+
+/// A plan of two to six tasks with few periods, each a multiple of the shortest and in any order, so
+/// that most of its tasks are in good pairs. Together they fill much of the plain schedule.
+fn plan_of_multiples(random: &mut Random, levels: &Levels) -> Vec<Task> {
+    let with_fixed = random.one_in(2);
+    loop {
+        let count = random.between(2, 6);
+        let shortest = random.between(count, 30);
+        let most_fixed = if with_fixed { shortest / 2 } else { 0 };
+        let task = |_| {
+            let period = shortest * random.pick(&[1, 1, 2, 2, 3, 4, 6]);
+            let most = levels.speed(levels.top()) * period / count;
+            Task {
+                period,
+                worst: random.between((most / 2).max(1), most.max(1)),
+                fixed: random.between(0, most_fixed),
+            }
+        };
+        let plan: Vec<Task> = (0..count).map(task).collect();
+        if judge_list(levels, &plan).is_ok() {
+            return plan;
+        }
+    }
+}
+
+/// The same where most tasks are in pairs (02, No. 5): would catch a job that runs ahead of one that
+/// arrived with it and has the shorter period, or the same one and the lower number; and a promise that
+/// is about another job of the earlier task.
+#[test]
+fn runs_with_pairs() {
+    let mut both = Both::new(&Levels::base());
+    let mut random = Random::new(409);
+    let mut tally = Tally::new();
+    for round in 0..1_600 {
+        let levels = levels_of_count(&mut random, 1 + round % MOST_LEVELS as usize);
+        let plan = plan_of_multiples(&mut random, &levels);
+        let board = (&levels, &plan[..]);
+        let style = STYLES[round / 8 % STYLES.len()];
+        run(&mut both, &mut random, board, style, 80, &mut tally);
+    }
+    println!("{tally:?}");
+    both.saw("runs with pairs", 250_000);
+    both.wants_kind(Call::Start, Kind::SomePairs, 1_300);
+    tally.wants_fixed(300, 600, 600, 50);
+    tally.gaps.wants(60);
+    tally.turns.wants(2_500);
 }
 
 /// Two to five tasks with much in fixed ticks and little work, periods short and long.

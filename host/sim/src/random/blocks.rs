@@ -153,7 +153,7 @@ pub fn bench_input(random: &mut Random, levels: &Levels, tasks: &[Task], passes:
     let block = block_of(tasks);
     let mut input = [write_levels(levels), block.clone()].concat();
     let mut state = [0; STATE_BYTES];
-    if let Ok(first) = start(levels, &block, &mut state) {
+    if let Ok(first) = start(levels, &block, &[], &mut state) {
         let mut order = first;
         for _ in 0..passes {
             let (d, finished) = any_pass(random, order);

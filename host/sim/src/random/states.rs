@@ -25,7 +25,7 @@ pub fn reached_state(
     passes: usize,
 ) -> ([u8; STATE_BYTES], Order) {
     let mut state = [0; STATE_BYTES];
-    let started = start(levels, &block_of(tasks), &mut state);
+    let started = start(levels, &block_of(tasks), &[], &mut state);
     let mut order = started.expect("the plan is an accepted one");
     for _ in 0..passes {
         let (d, finished) = likely_pass(random, order);

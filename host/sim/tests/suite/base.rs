@@ -36,8 +36,9 @@ pub fn write_plan(count: u64, tasks: &[Task], buffer: &mut [u8]) -> Result<usize
     sim::write_plan(&BASE_LEVELS, count, tasks, buffer)
 }
 
+/// Without pairs; what is said of these is in `pairs`.
 pub fn start(block: &[u8], state: &mut [u8]) -> Result<Order, u32> {
-    sim::start(&BASE_LEVELS, block, state)
+    sim::start(&BASE_LEVELS, block, &[], state)
 }
 
 /// The listing of a plan and passes, with 01's speeds in front.

@@ -39,7 +39,7 @@ fn refuses_buffers(levels: &[u8], list: &[Task], number: u32) {
         assert_eq!(written, Err(number));
         let block = block_of(list);
         assert_eq!(sim::copy_plan(levels, &block, &mut buffer), Err(number));
-        assert_eq!(sim::start(levels, &block, &mut buffer), Err(number));
+        assert_eq!(sim::start(levels, &block, &[], &mut buffer), Err(number));
         assert_eq!(buffer, vec![0xa5; length]);
     }
 }
@@ -210,7 +210,7 @@ fn a_plan_that_one_table_admits_and_another_refuses() {
     assert_eq!(sim::copy_plan(&fast, &BENCH_BLOCK, &mut buffer), Ok(15));
     assert_eq!(buffer, BENCH_BLOCK);
     assert_eq!(
-        sim::start(&fast, &BENCH_BLOCK, &mut state),
+        sim::start(&fast, &BENCH_BLOCK, &[], &mut state),
         Ok(run(0, 2, 4))
     );
     // Refused, and nothing changed.
@@ -223,7 +223,7 @@ fn a_plan_that_one_table_admits_and_another_refuses() {
         Err(8)
     );
     assert_eq!(sim::copy_plan(&slow, &BENCH_BLOCK, &mut buffer), Err(8));
-    assert_eq!(sim::start(&slow, &BENCH_BLOCK, &mut state), Err(8));
+    assert_eq!(sim::start(&slow, &BENCH_BLOCK, &[], &mut state), Err(8));
     assert_eq!((buffer, state), (BENCH_BLOCK, before));
 }
 
@@ -252,7 +252,7 @@ fn the_state_has_the_table_that_was_loaded() {
     let started = |speeds: &[u64]| {
         let mut state = [0xa5; STATE_BYTES];
         let levels = pack_levels(speeds.len() as u64, speeds);
-        sim::start(&levels, &block_of(&tasks(&[(40, 300)])), &mut state).unwrap();
+        sim::start(&levels, &block_of(&tasks(&[(40, 300)])), &[], &mut state).unwrap();
         state
     };
     let one = started(&[300]);

@@ -16,7 +16,7 @@ use sim::Levels;
 /// A state started with these speeds and this plan, and led through passes that are all accepted.
 fn led(speeds: &[u64], plan: &[Task], passes: &[(u32, bool)]) -> ([u8; STATE_BYTES], Order) {
     let mut state = [0; STATE_BYTES];
-    let mut order = start(&Levels::new(speeds), &block_of(plan), &mut state).unwrap();
+    let mut order = start(&Levels::new(speeds), &block_of(plan), &[], &mut state).unwrap();
     for (d, finished) in passes {
         order = pass(&mut state, *d, *finished).unwrap();
     }

@@ -12,6 +12,7 @@ mod fixed_ticks;
 mod generators;
 mod level_blocks;
 mod lone;
+mod pairs;
 mod passes;
 mod refusals;
 mod runs;

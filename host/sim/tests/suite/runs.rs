@@ -109,7 +109,7 @@ struct Run {
 impl Run {
     fn new(levels: &Levels, plan: Vec<Task>) -> Run {
         let mut state = [0; STATE_BYTES];
-        let order = start(levels, &block_of(&plan), &mut state).unwrap();
+        let order = start(levels, &block_of(&plan), &[], &mut state).unwrap();
         let run = Run {
             actual: ActualBook::new(levels, &plan, order),
             plain: PlainBook::new(levels, &plan),

@@ -23,7 +23,7 @@ fn odd_plan() -> Vec<Task> {
 /// A state started with the plan and led through passes, with the order that stands at the end.
 fn led(levels: &Levels, plan: &[Task], passes: &[(u32, bool)]) -> ([u8; STATE_BYTES], Order) {
     let mut state = [0; STATE_BYTES];
-    let mut order = start(levels, &block_of(plan), &mut state).unwrap();
+    let mut order = start(levels, &block_of(plan), &[], &mut state).unwrap();
     for (d, finished) in passes {
         order = pass(&mut state, *d, *finished).unwrap();
     }
@@ -94,7 +94,7 @@ fn the_block_is_the_same_and_the_verdict_is_the_tables() {
     let slow = Levels::new(&[1, 6]);
     assert_eq!(read_plan(&slow, &block), Err(8));
     assert_eq!(write_plan(&slow, 2, &odd_plan(), &mut [0; 11]), Err(8));
-    assert_eq!(start(&slow, &block, &mut [0; STATE_BYTES]), Err(8));
+    assert_eq!(start(&slow, &block, &[], &mut [0; STATE_BYTES]), Err(8));
 }
 
 #[test]

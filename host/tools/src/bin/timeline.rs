@@ -7,12 +7,13 @@ use std::process::ExitCode;
 use tools::command::{end, read_input, write_output, Stop};
 use tools::{picture, refusal, run};
 
-const USAGE: &str = "usage: timeline [--from T] [--to T] [FILE] > OUT.svg | timeline --help";
+const USAGE: &str =
+    "usage: timeline [--from T] [--to T] [--pairs LIST] [FILE] > OUT.svg | timeline --help";
 
 const HELP: &str = "\
 timeline: a bench input as an SVG picture of its run
 
-  timeline [--from T] [--to T] [FILE] > OUT.svg
+  timeline [--from T] [--to T] [--pairs LIST] [FILE] > OUT.svg
 
 Without FILE, or with -, standard input is read. The picture goes from tick 0
 to the end of the last order's hold; --from and --to cut out another part, up
@@ -22,6 +23,10 @@ Each task has a row: its jobs as bars where they ran, as high as the level is
 fast among the loaded speeds, and beneath them the canonical (\"plain\")
 schedule. Fixed ticks are hatched in both. Refused passes are marked at their
 tick with their number. The legend tells the rest.
+
+--pairs takes the file of a list of pairs, as pack to-pairs writes it. An arrow
+then goes from the finish of each earlier task's job to the first bar of the
+later task's job that arrived at the same tick.
 ";
 
 #[derive(Default)]
@@ -29,6 +34,7 @@ struct Options {
     file: Option<OsString>,
     from: Option<u64>,
     to: Option<u64>,
+    pairs: Option<OsString>,
     help: bool,
 }
 
@@ -42,13 +48,28 @@ fn run(arguments: impl Iterator<Item = OsString>) -> Result<(), Stop> {
         return write_output(HELP.as_bytes());
     }
     let file = options.file.as_deref();
+    let pairs = read_pairs(&options)?;
     let input = read_input(file)?;
-    let run = run::follow(&input).map_err(|number| {
+    let run = run::follow_with_pairs(&input, &pairs).map_err(|number| {
         let meaning = refusal::meaning(number);
         Stop::Failure(format!("the input is refused with {number}: {meaning}"))
     })?;
     let window = picture::window(&run, options.from, options.to).map_err(Stop::Failure)?;
     write_output(picture::draw(&run, window, name_of(file).as_deref()).as_bytes())
+}
+
+/// The list of pairs, which is empty if none is given.
+fn read_pairs(options: &Options) -> Result<Vec<u8>, Stop> {
+    let list = match options.pairs.as_deref() {
+        Some(list) => list,
+        None => return Ok(Vec::new()),
+    };
+    let input = options.file.as_deref().unwrap_or(OsStr::new("-"));
+    if list == "-" && input == "-" {
+        let message = "standard input is the pairs or the input, not both";
+        return Err(Stop::Usage(message.to_string()));
+    }
+    read_input(Some(list))
 }
 
 /// The file's own name, for the heading.
@@ -64,6 +85,7 @@ fn read_options(mut arguments: impl Iterator<Item = OsString>) -> Result<Options
             Some("--help" | "-h") => options.help = true,
             Some("--from") => options.from = Some(tick("--from", arguments.next())?),
             Some("--to") => options.to = Some(tick("--to", arguments.next())?),
+            Some("--pairs") => options.pairs = Some(list(arguments.next())?),
             Some(other) if other.starts_with('-') && other != "-" => {
                 return Err(Stop::Usage(format!("unknown option {other:?}")));
             }
@@ -74,6 +96,10 @@ fn read_options(mut arguments: impl Iterator<Item = OsString>) -> Result<Options
         }
     }
     Ok(options)
+}
+
+fn list(word: Option<OsString>) -> Result<OsString, Stop> {
+    word.ok_or_else(|| Stop::Usage("--pairs wants a file after it".to_string()))
 }
 
 fn tick(option: &str, word: Option<OsString>) -> Result<u64, Stop> {

@@ -1,5 +1,6 @@
 //! The lines above the picture: the plan and its nominal level, then figures of the run.
 
+use super::pairs::left_out;
 use super::style::{soft_words, text_width, ticks, words};
 use super::view::View;
 use crate::run::Run;
@@ -75,6 +76,7 @@ fn figures(view: &View, name: Option<&str>) -> Vec<String> {
     if !view.scale.has_room_for_finishes() {
         parts.push("(scaled down: no marks for finished jobs)".to_string());
     }
+    parts.extend(left_out(view));
     parts
 }
 

@@ -2,9 +2,10 @@
 
 use super::style::{
     arrival_mark, bar, canonical_bar, colour, deadline_mark, finish_mark, fixed_part, idle_bar,
-    level_height, nominal_line, ordered_box, past_part, rectangle, refused_mark, soft_words,
-    text_width, unused_box, words, INK,
+    level_height, nominal_line, ordered_box, pair_arrow, past_part, rectangle, refused_mark,
+    soft_words, text_width, unused_box, words, INK,
 };
+use crate::run::Run;
 use crate::svg::Element;
 use sim::levels::Levels;
 
@@ -44,6 +45,12 @@ const ITEMS: [Item; 11] = [
     ),
 ];
 
+/// Told only if there are pairs.
+const PAIR: Item = (
+    |x, y| pair_arrow(x + 1.0, y - 5.0, x + 22.0, y + 5.0),
+    "pair: the earlier job finished, the later one began",
+);
+
 /// Fixed ticks, on a bar of some level.
 fn hatched(x: f64, y: f64) -> Element {
     on_a_bar(x, y, |y, wide, high| fixed_part("fixed", x, y, wide, high))
@@ -66,11 +73,12 @@ fn on_a_bar(x: f64, y: f64, over: impl Fn(f64, f64, f64) -> Element) -> Element 
 }
 
 /// The legend and its height.
-pub fn draw(levels: &Levels, left: f64, top: f64, right: f64) -> (Element, f64) {
+pub fn draw(run: &Run, left: f64, top: f64, right: f64) -> (Element, f64) {
     let mut group = Element::new("g").set("class", "legend");
-    add_levels(levels, left, top, &mut group);
+    add_levels(&run.levels, left, top, &mut group);
     let (mut x, mut y) = (left, top + SCALE + 2.0 * LINE + 4.0);
-    for (sign, meaning) in ITEMS {
+    let pair = (!run.pairs.is_empty()).then_some(PAIR);
+    for (sign, meaning) in ITEMS.into_iter().chain(pair) {
         let width = SIGN + 4.0 + text_width(meaning, SIZE);
         if x + width > right && x > left {
             x = left;

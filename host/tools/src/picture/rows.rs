@@ -37,9 +37,19 @@ pub fn height(view: &View) -> f64 {
     view.run.tasks.len() as f64 * ROW + IDLE_ROW
 }
 
+/// The line that the bars of a task stand on, under rows with this top.
+pub fn base(rows_top: f64, task: usize) -> f64 {
+    rows_top + task as f64 * ROW + HEAD + BAR
+}
+
+/// The top of a task's bars of this level.
+pub fn bar_top(view: &View, rows_top: f64, task: usize, level: usize) -> f64 {
+    base(rows_top, task) - level_height(&view.run.levels, level, BAR)
+}
+
 pub fn draw(view: &View, top: f64, body: &mut Element) {
     for task in 0..view.run.tasks.len() {
-        body.add(Row::new(view, task, top + task as f64 * ROW).draw());
+        body.add(Row::new(view, task, top).draw());
     }
     body.add(idle_row(view, top + view.run.tasks.len() as f64 * ROW));
 }
@@ -53,12 +63,12 @@ struct Row<'a> {
 }
 
 impl Row<'_> {
-    fn new<'a>(view: &'a View<'a>, task: usize, top: f64) -> Row<'a> {
-        let base = top + HEAD + BAR;
+    fn new<'a>(view: &'a View<'a>, task: usize, rows_top: f64) -> Row<'a> {
+        let base = base(rows_top, task);
         Row {
             view,
             task,
-            top,
+            top: base - BAR - HEAD,
             base,
             strip: base + STRIP_GAP,
         }

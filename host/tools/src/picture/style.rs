@@ -12,6 +12,7 @@ pub const GRID: &str = "#e3e7ec";
 pub const SHADE: &str = "#f2f4f7";
 pub const CANONICAL: &str = "#bcc5d1";
 pub const REFUSED: &str = "#c21f2c";
+pub const PAIR: &str = "#9b2fae";
 
 /// One colour a level, from pale and slow to dark and fast. Darker also in print without colours.
 const COLOURS: [&str; 8] = [
@@ -104,6 +105,30 @@ pub fn refused_mark(x: f64, y: f64) -> Element {
         )
         .set("stroke", REFUSED)
         .set("stroke-width", 2)
+}
+
+/// How long the two strokes of an arrow's head are, and how far they stand off its line.
+const HEAD_LONG: f64 = 7.0;
+const HEAD_WIDE: f64 = 3.5;
+
+/// An arrow from one point to another: its line, then the two strokes of its head.
+pub fn pair_arrow(x1: f64, y1: f64, x2: f64, y2: f64) -> Element {
+    let length = (x2 - x1).hypot(y2 - y1);
+    let (right, down) = ((x2 - x1) / length, (y2 - y1) / length);
+    let (x, y) = (x2 - HEAD_LONG * right, y2 - HEAD_LONG * down);
+    let stroke = |side: f64| format!("L{} {}", px(x - side * down), px(y + side * right));
+    let (from, to) = (
+        format!("M{} {}", px(x1), px(y1)),
+        format!("{} {}", px(x2), px(y2)),
+    );
+    let (one, other) = (stroke(HEAD_WIDE), stroke(-HEAD_WIDE));
+    Element::new("path")
+        .set("class", "pair")
+        .set("d", format!("{from}L{to}{one}M{to}{other}"))
+        .set("fill", "none")
+        .set("stroke", PAIR)
+        .set("stroke-width", 1.3)
+        .set("stroke-opacity", 0.8)
 }
 
 /// The time that a job left unused by ending early.

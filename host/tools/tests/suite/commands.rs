@@ -2,8 +2,11 @@
 
 use crate::common::{with_levels, EXAMPLE, EXAMPLE_TEXT, LEVELS_END, PLAN_END};
 use crate::pictures::picture;
+use std::fs;
 use std::io::Write;
 use std::process::{Command, Stdio};
+use tools::picture::{draw, window};
+use tools::run::follow_with_pairs;
 
 struct Ended {
     status: Option<i32>,
@@ -138,6 +141,125 @@ fn pack_there_and_back_with_fixed_ticks() {
     stops(pack(&["to-text"], &spare), 1, byte);
 }
 
+/// The example with these lines in front of its passes.
+fn example_with(lines: &str) -> String {
+    EXAMPLE_TEXT.replacen("\n\n", &format!("\n{lines}\n\n"), 1)
+}
+
+const NO_PAIRS: &str = "pack: warning: the bench program takes no pairs; they are left out\n";
+const BAD_PAIRS: &str =
+    "pack: warning: starting refuses this with 22: there are more than 16 pairs, \
+                         or an odd byte, or a pair is not good\n";
+
+/// A command that did its work, and said this.
+#[track_caller]
+fn warns(ended: Ended, expected: &[u8], said: &str) {
+    assert_eq!((ended.status, ended.said.as_str()), (Some(0), said));
+    assert_eq!(ended.out, expected);
+}
+
+/// Would catch pairs that are left out in silence, a missing second warning, or one too many.
+#[test]
+fn pack_warns_that_the_bench_program_takes_no_pairs() {
+    let packed = |lines: &str| pack(&["to-bytes"], example_with(lines).as_bytes());
+    warns(packed("before 0 1\nbefore 1 2"), &EXAMPLE, NO_PAIRS);
+    let both = [NO_PAIRS, BAD_PAIRS].concat();
+    warns(packed("before 1 0"), &EXAMPLE, &both);
+    warns(packed("before 0 3"), &EXAMPLE, &both);
+    warns(packed(&"before 0 1\n".repeat(16)), &EXAMPLE, NO_PAIRS);
+    warns(packed(&"before 0 1\n".repeat(17)), &EXAMPLE, &both);
+    // Of a plan that is refused starting asks nothing about the pairs.
+    let ended = pack(&["to-bytes"], b"task 0 300\nbefore 1 0\n");
+    let plan = "pack: warning: the bench program refuses this with 6: a period or a worst case is \
+                out of range\n";
+    assert_eq!(ended.said, [plan, NO_PAIRS].concat());
+}
+
+/// Would catch a list with anything but its pairs in it, or one that is refused without a warning.
+#[test]
+fn pack_writes_the_pairs_alone() {
+    let packed = |lines: &str| pack(&["to-pairs"], example_with(lines).as_bytes());
+    gives(packed("before 0 1\nbefore 1 2"), &[0, 1, 1, 2]);
+    gives(packed("# none"), b"");
+    gives(pack(&["to-pairs"], EXAMPLE_TEXT.as_bytes()), b"");
+    warns(
+        packed("before 1 0\nbefore 255 7"),
+        &[1, 0, 255, 7],
+        BAD_PAIRS,
+    );
+    let many = "before 0 2\n".repeat(17);
+    warns(packed(&many), &[0, 2].repeat(17), BAD_PAIRS);
+    // The plan's own refusal comes first.
+    let plan = "pack: warning: starting refuses this with 6: a period or a worst case is out of \
+                range\n";
+    warns(
+        pack(&["to-pairs"], b"before 3 4\ntask 0 300"),
+        &[3, 4],
+        plan,
+    );
+    let line = "pack: standard input: line 2: the later task is missing";
+    stops(pack(&["to-pairs"], b"\nbefore 1"), 1, line);
+}
+
+/// Would catch a text that comes back with pairs that no bench input has.
+#[test]
+fn pack_to_text_knows_no_pairs() {
+    let text = example_with("before 0 1");
+    let bytes = pack(&["to-bytes"], text.as_bytes()).out;
+    gives(pack(&["to-text"], &bytes), EXAMPLE_TEXT.as_bytes());
+}
+
+/// A file for a test, with these bytes in it.
+fn file_with(name: &str, bytes: &[u8]) -> String {
+    let path = format!("{}/{name}", env!("CARGO_TARGET_TMPDIR"));
+    fs::write(&path, bytes).unwrap();
+    path
+}
+
+/// Would catch a list that isn't read, from a file or from standard input, or that changes a picture
+/// when it is empty.
+#[test]
+fn timeline_draws_the_pairs() {
+    let list = [0, 1, 0, 2];
+    let run = follow_with_pairs(&EXAMPLE, &list).unwrap();
+    let expected = draw(&run, window(&run, None, Some(30)).unwrap(), None);
+    assert!(expected.contains("class=\"pairs\""));
+    let path = file_with("timeline_draws_the_pairs.list", &list);
+    let drawn = timeline(&["--pairs", &path, "--to", "30"], &EXAMPLE);
+    gives(drawn, expected.as_bytes());
+    // The input is a file with a name for the heading.
+    let input = file_with("timeline_draws_the_pairs.in", &EXAMPLE);
+    let window = window(&run, None, None).unwrap();
+    let named = draw(&run, window, Some("timeline_draws_the_pairs.in"));
+    let drawn = timeline(&[&input, "--pairs", "-"], &list);
+    gives(drawn, named.as_bytes());
+    let empty = file_with("timeline_draws_the_pairs.none", b"");
+    let without = picture(&EXAMPLE, None, None);
+    gives(timeline(&["--pairs", &empty], &EXAMPLE), without.as_bytes());
+}
+
+/// Would catch a bad list that is drawn, or named before the input's own refusal.
+#[test]
+fn timeline_stops_where_starting_does() {
+    let refused =
+        "timeline: the input is refused with 22: there are more than 16 pairs, or an odd \
+                   byte, or a pair is not good";
+    for (place, list) in [&[1, 0][..], &[0, 1, 0], &[0, 3], &[0; 34]]
+        .iter()
+        .enumerate()
+    {
+        let path = file_with(&format!("timeline_stops_where_starting_does.{place}"), list);
+        stops(timeline(&["--pairs", &path], &EXAMPLE), 1, refused);
+        let plan = "timeline: the input is refused with 4: the plan block's length is not the \
+                    edition's and the count's";
+        stops(
+            timeline(&["--pairs", &path], &EXAMPLE[..PLAN_END - 1]),
+            1,
+            plan,
+        );
+    }
+}
+
 #[test]
 fn timeline_draws_the_picture() {
     let expected = picture(&EXAMPLE, None, None);
@@ -178,6 +300,9 @@ fn wrong_command_lines() {
         &["--to", "x"],
         &["--form", "1"],
         &["a", "b"],
+        &["--pairs"],
+        &["--pairs", "-"],
+        &["--pairs", "-", "-"],
     ] {
         let ended = timeline(arguments, b"");
         assert_eq!(ended.status, Some(2));
@@ -191,6 +316,8 @@ fn files_that_are_not_there() {
     for ended in [
         pack(&["to-text", "no/such"], b""),
         timeline(&["no/such"], b""),
+        timeline(&["--pairs", "no/such"], &EXAMPLE),
+        pack(&["to-pairs", "no/such"], b""),
     ] {
         assert_eq!((ended.status, ended.out), (Some(1), Vec::new()));
         assert!(ended.said.contains("no/such: "), "{}", ended.said);
@@ -204,7 +331,9 @@ fn help_says_the_text_form_and_the_options() {
         "to-bytes",
         "to-text",
         "speeds S1 S2 ..",
+        "to-pairs",
         "task PERIOD WORST [FIXED]",
+        "before EARLIER LATER",
         "pass D",
         "finish D",
         "# ...",
@@ -212,7 +341,7 @@ fn help_says_the_text_form_and_the_options() {
         assert!(help.contains(part), "{part}");
     }
     let help = String::from_utf8(timeline(&["--help"], b"").out).unwrap();
-    for part in ["--from T", "--to T", "FILE"] {
+    for part in ["--from T", "--to T", "--pairs LIST", "FILE"] {
         assert!(help.contains(part), "{part}");
     }
 }

@@ -1,5 +1,6 @@
 //! The two bench tools held to document 01's example, to the simulator, and to each other.
 
+mod arrows;
 mod canonical;
 mod commands;
 mod common;

@@ -3,7 +3,8 @@
 
 use crate::common::{tasks, tasks_with_fixed, with_levels, EXAMPLE, LEVELS_END, PLAN_END};
 use sim::listing;
-use tools::bench::{from_bytes, refusal, to_bytes, BytesError, Why};
+use sim::pairs::Pair;
+use tools::bench::{from_bytes, refusal, start_refusal, to_bytes, to_pairs, BytesError, Why};
 use tools::script::{Pass, Script};
 
 #[track_caller]
@@ -189,7 +190,7 @@ fn level_blocks_of_every_count() {
         let script = Script {
             speeds: vec![1_023; count],
             tasks: tasks(&[(7, 9)]),
-            passes: Vec::new(),
+            ..Script::default()
         };
         let bytes = to_bytes(&script);
         assert_eq!(bytes.len(), (4 + 10 * count + 7) / 8 + 6);
@@ -298,7 +299,7 @@ fn refused_speeds_that_can_be_packed() {
         let script = Script {
             speeds: speeds.to_vec(),
             tasks: tasks(&[(40, 300)]),
-            passes: Vec::new(),
+            ..Script::default()
         };
         is_refused_so(&script, number);
     }
@@ -318,7 +319,7 @@ fn accepted_inputs_have_no_refusal() {
     let mut script = Script {
         speeds: vec![8],
         tasks: tasks(&[(40, 300)]),
-        passes: Vec::new(),
+        ..Script::default()
     };
     let pass = Pass {
         d: 0,
@@ -327,4 +328,46 @@ fn accepted_inputs_have_no_refusal() {
     script.passes.resize(32_764, pass);
     assert_eq!(to_bytes(&script).len(), 65_536);
     assert_eq!(refusal(&script), None);
+}
+
+/// The example with pairs.
+fn with_pairs(list: &[(usize, usize)]) -> Script {
+    let mut script = from_bytes(&EXAMPLE).unwrap();
+    for (earlier, later) in list {
+        let (earlier, later) = (*earlier, *later);
+        script.pairs.push(Pair { earlier, later });
+    }
+    script
+}
+
+/// Would catch pairs that get into the bench input, or a list with the later number first.
+#[test]
+fn pairs_are_a_list_of_their_own() {
+    let script = with_pairs(&[(0, 1), (255, 7), (2, 2)]);
+    assert_eq!(to_bytes(&script), EXAMPLE);
+    assert_eq!(to_pairs(&script), [0, 1, 255, 7, 2, 2]);
+    assert_eq!(to_pairs(&with_pairs(&[])), []);
+    assert_eq!(from_bytes(&EXAMPLE).unwrap().pairs, []);
+    // What the bench program refuses has nothing to do with them.
+    assert_eq!(refusal(&script), None);
+}
+
+/// Would catch a warning of another number than starting's, or of 22 where starting isn't at it yet.
+#[test]
+fn the_refusal_of_a_start_with_pairs() {
+    assert_eq!(start_refusal(&with_pairs(&[])), None);
+    assert_eq!(start_refusal(&with_pairs(&[(0, 1), (0, 2), (1, 2)])), None);
+    assert_eq!(start_refusal(&with_pairs(&[(0, 1); 16])), None);
+    assert_eq!(start_refusal(&with_pairs(&[(0, 1); 17])), Some(22));
+    for pair in [(1, 0), (0, 0), (2, 0), (0, 3), (3, 0), (255, 255)] {
+        assert_eq!(start_refusal(&with_pairs(&[pair])), Some(22));
+        assert_eq!(start_refusal(&with_pairs(&[(0, 1), pair])), Some(22));
+        let mut script = with_pairs(&[pair]);
+        script.tasks[2].worst = 601;
+        assert_eq!(start_refusal(&script), Some(8));
+        script.tasks.clear();
+        assert_eq!(start_refusal(&script), Some(3));
+        script.speeds.clear();
+        assert_eq!(start_refusal(&script), Some(18));
+    }
 }

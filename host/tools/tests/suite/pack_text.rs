@@ -1,6 +1,7 @@
 //! The text form: what it says, and each mistake with its line.
 
 use crate::common::{tasks, tasks_with_fixed, with_levels, EXAMPLE, EXAMPLE_TEXT};
+use sim::pairs::Pair;
 use tools::bench::{from_bytes, to_bytes};
 use tools::script::{Pass, Script};
 use tools::text::{parse, write};
@@ -65,7 +66,7 @@ fn comments_blank_lines_and_spaces_say_nothing() {
 
 #[test]
 fn unknown_words() {
-    let rest = "a line begins with speeds, task, pass or finish";
+    let rest = "a line begins with speeds, task, before, pass or finish";
     fails("tsk 1 2", &format!("line 1: unknown word \"tsk\"; {rest}"));
     fails(
         "task 1 2\n\n# x\nTask 1 2",
@@ -225,4 +226,80 @@ fn mistakes_in_the_speeds() {
     fails("pass 1\n\nspeeds 1", &format!("line 3: {late}"));
     fails("speeds 1\nspeeds 2", &format!("line 2: {late}"));
     fails("speeds\n# x\nspeeds", &format!("line 3: {late}"));
+}
+
+fn pairs(list: &[(usize, usize)]) -> Vec<Pair> {
+    let pair = |(earlier, later): &(usize, usize)| Pair {
+        earlier: *earlier,
+        later: *later,
+    };
+    list.iter().map(pair).collect()
+}
+
+/// Would catch a pair turned round, lost, or taken only after its tasks.
+#[test]
+fn pairs_of_a_plan() {
+    let text =
+        "before 0 2 # first\ntask 10 400\nbefore 0 1\ntask 10 400\n\nbefore 255 000\npass 1\n";
+    let script = parse(text).unwrap();
+    assert_eq!(script.pairs, pairs(&[(0, 2), (0, 1), (255, 0)]));
+    assert_eq!(script.tasks, tasks(&[(10, 400), (10, 400)]));
+    assert_eq!(parse("task 10 400").unwrap().pairs, []);
+    // Written behind the tasks, in the order of the text.
+    let written = "task 10 400\ntask 10 400\nbefore 0 2\nbefore 0 1\nbefore 255 0\n\npass 1\n";
+    assert_eq!(write(&script), written);
+    assert_eq!(parse(written), Ok(script));
+    assert_eq!(
+        write(&parse("before 1 2\npass 3").unwrap()),
+        "before 1 2\n\npass 3\n"
+    );
+}
+
+/// Would catch a limit that keeps a technician from seeing the refusal of 17 pairs, and a pair said
+/// twice that is taken once.
+#[test]
+fn any_number_of_pairs() {
+    for count in [1, 16, 17, 127, 300] {
+        let text = "before 3 4\n".repeat(count);
+        assert_eq!(parse(&text).unwrap().pairs, pairs(&vec![(3, 4); count]));
+    }
+}
+
+/// Would catch a mistake in a pair that isn't seen, or is named otherwise than the rest.
+#[test]
+fn mistakes_in_pairs() {
+    fails("before", "line 1: the earlier task is missing");
+    fails("\nbefore 1 # 2", "line 2: the later task is missing");
+    fails(
+        "before a 1",
+        "line 1: the earlier task \"a\" is not a decimal number",
+    );
+    fails(
+        "before 1 -1",
+        "line 1: the later task \"-1\" is not a decimal number",
+    );
+    let range = "is out of range: its 8 bits hold 0 to 255";
+    fails(
+        "before 256 1",
+        &format!("line 1: the earlier task 256 {range}"),
+    );
+    fails(
+        "before 1 256",
+        &format!("line 1: the later task 256 {range}"),
+    );
+    fails("before 1 2 3", "line 1: \"3\" is one word too many");
+    fails(
+        "Before 1 2",
+        "line 1: unknown word \"Before\"; a line begins with speeds, task, before, pass or finish",
+    );
+    let late = "a pair after a pass; all pairs come first";
+    fails("pass 1\nbefore 0 1", &format!("line 2: {late}"));
+    fails(
+        "task 1 1\nfinish 1\n\nbefore 0 1",
+        &format!("line 4: {late}"),
+    );
+    fails(
+        "before 0 1\nspeeds 1",
+        "line 2: the speeds come once, and before all else",
+    );
 }

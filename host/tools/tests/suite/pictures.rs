@@ -14,7 +14,7 @@ use tools::run::{follow, Run, Span};
 pub struct Seen {
     pub nodes: Vec<Node>,
     first: (f64, f64),
-    per_tick: f64,
+    pub per_tick: f64,
 }
 
 impl Seen {

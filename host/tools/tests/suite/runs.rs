@@ -170,6 +170,9 @@ fn whole_inputs_refused() {
 fn without_passes_there_is_the_first_order() {
     let run = follow(&EXAMPLE[..PLAN_END]).unwrap();
     let (levels, plan) = EXAMPLE[..PLAN_END].split_at(LEVELS_END);
-    assert_eq!(Ok(run.order), start(levels, plan, &mut [0; STATE_BYTES]));
+    assert_eq!(
+        Ok(run.order),
+        start(levels, plan, &[], &mut [0; STATE_BYTES])
+    );
     assert_eq!((run.clock, run.end_of_order()), (0, 4));
 }

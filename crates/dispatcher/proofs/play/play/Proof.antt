@@ -17,7 +17,7 @@ use Rattle.dispatcher.proofs.play.play.Tie as tie
 
 -- the places that others are reached from
 abbrev start : tie.After-start → tie.Start
-start c = c .before .before .before .before .before .before .before
+start c = c .before .before .before .before .before .before .before .before
 
 abbrev started : tie.After-is-order → tie.After-start
 started c = c .before .before .before
@@ -27,7 +27,7 @@ accepted c = c .before .before .before
 
 -- the state that the start leaves, the passes that are played and the replies that were found
 abbrev left : tie.After-start → List ℕ
-left c = c .start .last .1 .1 .0
+left c = c .start .last .1 .1 .1 .0
 
 abbrev passes : tie.After-start → List Pass
 passes c = playedPasses (start c .args .passes .now) (length (start c .args .replies .now))
@@ -41,12 +41,12 @@ levels c = start c .args .levels .now
 
 begun :
     (c : tie.After-is-order) →
-    Begun (levels (started c)) (start (started c) .args .block .now) (start (started c) .args .state .now) (started c .start .result) (c .is-order .result) (left (started c))
+    Begun (levels (started c)) (start (started c) .args .block .now) (start (started c) .args .pairs .now) (start (started c) .args .state .now) (started c .start .result) (c .is-order .result) (left (started c))
 begun c = record {
   replied = started c .start .ensures .0;
   tested = c .is-order .ensures;
   left = started c .start .ensures .1;
-  kept = started c .start .kept .1 .1 .0;
+  kept = started c .start .kept .1 .1 .1 .0;
 }
 
 room : (c : tie.Else1) → stateLength ≤ length (left (started (c .before)))
@@ -61,7 +61,7 @@ is-order-requires c κs = search needs
 reply-number-requires : tie.Need-reply-number-requires
 reply-number-requires c κs =
     let s : tie.After-start = started (c .before) in
-    start-most (levels s) (start s .args .block .now) (length (start s .args .state .now)) (s .start .result) (s .start .ensures .0)
+    start-most (levels s) (start s .args .block .now) (start s .args .pairs .now) (length (start s .args .state .now)) (s .start .result) (s .start .ensures .0)
 
 same-length : tie.Need-same-length
 same-length c = search needs
@@ -83,7 +83,7 @@ play-all-requires c κs = search needs
 reply-number-requires-2 : tie.Need-reply-number-requires-2
 reply-number-requires-2 c κs =
     let s : tie.After-start = started (accepted (c .before .before .before .before) .before) in
-    start-most (levels s) (start s .args .block .now) (length (start s .args .state .now)) (s .start .result) (s .start .ensures .0)
+    start-most (levels s) (start s .args .block .now) (start s .args .pairs .now) (length (start s .args .state .now)) (s .start .result) (s .start .ensures .0)
 
 same-length-2 : tie.Need-same-length-2
 same-length-2 c = search needs

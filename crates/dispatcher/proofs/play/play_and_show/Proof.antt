@@ -15,25 +15,25 @@ use Rattle.dispatcher.proofs.play.play_and_show.Tie as tie
 
 -- the start, from where the list was played
 abbrev start : tie.After-play → tie.Start
-start c = c .before .before .before .before .before .before .before .before .before
+start c = c .before .before .before .before .before .before .before .before .before .before
 
 -- the state and the replies that playing left
 abbrev state : tie.After-play → List ℕ
-state c = c .play .last .1 .1 .0
+state c = c .play .last .1 .1 .1 .0
 
 abbrev lent : tie.After-play → List ℕ
 lent c = start c .args .buffer .now
 
 ran :
     (c : tie.After-play) →
-    Ran (start c .args .levels .now) (start c .args .block .now) (start c .args .state .now)
+    Ran (start c .args .levels .now) (start c .args .block .now) (start c .args .pairs .now) (start c .args .state .now)
     (playedPasses (start c .args .passes .now) (length (start c .args .replies .now)))
-    (start c .args .replies .now) (c .play .result) (state c) (c .play .last .1 .1 .1 .1 .0)
+    (start c .args .replies .now) (c .play .result) (state c) (c .play .last .1 .1 .1 .1 .1 .0)
 ran c = record {
   numbered = c .play .ensures .0;
   state-is = c .play .ensures .1 .0;
   replies-are = c .play .ensures .1 .1 .0;
-  kept = c .play .kept .1 .1 .0;
+  kept = c .play .kept .1 .1 .1 .0;
 }
 
 play-requires : tie.Need-play-requires
