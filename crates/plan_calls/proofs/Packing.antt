@@ -1,12 +1,10 @@
--- The calls on plans as C sees them: a plan filled from numbers, and answers that fit one number.
+-- The calls on plans as C sees them: answers that fit one number.
 -- Assumes nothing.
 use Prim.Native.Nat.{ℕ, zero, suc, _+_, _*_, _^_, _<_, _≤_}
-use mathlib.Core.Path.{_≡_, refl, sym, subst, ap, _∙_}
+use mathlib.Core.Path.{_≡_, refl, sym, subst}
 use mathlib.Core.List.{List, [], _∷_, _++_}
 use native.Mathlib.Omega.{arith}
-use lib.ListN.{length, set, length-take}
-use Rattle.arith.specs.Arrays.{padded}
-use Rattle.arith.specs.Ranges.{listTo}
+use lib.ListN.{length, length-take}
 use Rattle.plan.specs.declared.Task.{Task}
 use Rattle.plan.specs.declared.Plan.{Plan}
 use Rattle.plan.specs.declared.Judged.{Judged}
@@ -15,36 +13,18 @@ use Rattle.plan.specs.declared.Board.{Board}
 use Rattle.plan.specs.declared.Paired.{Paired}
 use Rattle.plan.specs.Levels.{hyperperiod, nominal}
 use Rattle.plan.specs.LevelBlocks.{speedsIn, loading, boardBy, readLevels}
-use Rattle.plan.specs.Blocks.{noTask, tasksOf, tasksIn, editionIn, countIn, editionOf, planBlock}
+use Rattle.plan.specs.Blocks.{tasksOf, tasksIn, editionIn, countIn, editionOf, planBlock}
 use Rattle.plan.specs.Questions.{judging, reading, writing, roomQuestion}
 use Rattle.arith.specs.Asking.{Question, firstNo}
 use Rattle.plan.specs.Answers.{answered, judgedBy, judgedPlan, readBlock, writeNumber, writtenBy, writePlan, copyNumber}
 use Rattle.plan.specs.Pairs.{pairsIn, pairsQuestion, pairNumber, askPairs}
-use Rattle.plan.specs.Numbers.{taskAt, planFrom, loadNumber, verdictNumber, writtenNumber, pairedNumber}
+use Rattle.plan.specs.Numbers.{loadNumber, verdictNumber, writtenNumber, pairedNumber}
 use Rattle.plan.proofs.LevelBlockLaws.{loaded-table}
 use Rattle.plan.proofs.NumberLaws.{written-most, paired-most}
 use Rattle.plan.proofs.Facts.{FineTasks, FineList, FineBlock, fine-list, fine-block}
 use Rattle.plan.proofs.PairLaws.{pairs-few}
 use Rattle.plan.proofs.BlockBits.{length-planBlock, blockLength-most}
-use Rattle.arith.proofs.ArrayLaws.{values-more}
 use Rattle.arith.proofs.QuestionLaws.{firstNo-most, yes-of, yes-after, all-yes}
-
--- the loop that fills a plan with the tasks of a list of numbers
-pub record Put (numbers : List ℕ) (count : ℕ) (q : Plan) (i : ℕ) : Type 0 where
-  pub within : i ≤ 16
-  pub counted : q .count ≡ count
-  pub tasks : q .tasks ≡ padded 16 noTask (listTo i (taskAt numbers))
-
-module _ {numbers : List ℕ} {count : ℕ} {q : Plan} {i : ℕ} (at : Put numbers count q i) where
-  pub put-more : {t : Task} → i < 16 → t ≡ taskAt numbers i → Put numbers count (record { count = q .count; tasks = set (q .tasks) i t }) (i + 1)
-  put-more h e =
-      record { within = omega arith; counted = at .counted; tasks = values-more 16 noTask (taskAt numbers) (q .tasks) i _ h (at .tasks) e }
-
-  pub put-all : 16 ≤ i → q ≡ planFrom count numbers
-  put-all h =
-      let e : i ≡ 16 = omega arith in
-      let tasks : q .tasks ≡ listTo 16 (taskAt numbers) = at .tasks ∙ ap (λ (k : ℕ). padded 16 noTask (listTo k (taskAt numbers))) e in
-      λ j. record { count = at .counted j; tasks = tasks j }
 
 -- what reading a level block answers fits: a refusal's number is small, and so is a count of levels
 board-most : (n : ℕ) (speeds : List ℕ) → n ≤ 255 → (n ≡ 0 → length speeds ≤ 8) → loadNumber (boardBy n speeds .answer) < 2 ^ 36

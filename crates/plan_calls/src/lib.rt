@@ -5,53 +5,19 @@ use answers::load_number;
 use answers::paired_number;
 use answers::verdict_number;
 use answers::written_number;
-use judging::empty_plan;
 use judging::judge;
 use levels::read_levels;
 use paired_reading::ask_pairs;
-use plan::Plan;
-use plan::Task;
+use plan_numbers::plan_from;
 use plan_reading::read;
 use plan_writing::copy;
 use plan_writing::write;
 ghost use mathlib.Core.Path.{_≡_};
-ghost use lib.ListN.{length, getD};
+ghost use lib.ListN.{length};
 ghost use Rattle.plan.specs.LevelBlocks.{readLevels};
 ghost use Rattle.plan.specs.Pairs.{askPairs};
 ghost use Rattle.plan.specs.Answers.{judgedPlan, readBlock, writePlan, writeBuffer, writtenBy, storedBy, copyNumber};
 ghost use Rattle.plan.specs.Numbers.{planFrom, loadNumber, verdictNumber, writtenNumber, pairedNumber};
-
-// The number at a place of a list, 0 past its end.
-fn number_at(numbers: &[u32], k: usize) -> u32
-    ensures { λ r. ⌜ r ≡ getD (now (numbers .entry)) k 0 ⌝ }
-{
-    if k < numbers.len() {
-        return numbers[k];
-    }
-    0
-}
-
-// A plan from plain numbers: for each task its period, then its worst case, then its fixed ticks; numbers that are not there are 0.
-fn plan_from(count: usize, numbers: &[u32]) -> Plan
-    ensures { λ r. ⌜ r ≡ planFrom count (now (numbers .entry)) ⌝ }
-{
-    let mut p = empty_plan();
-    p.count = count;
-    let mut i: usize = 0;
-    while i < 16 {
-        let period = number_at(numbers, 3 * i);
-        let worst = number_at(numbers, 3 * i + 1);
-        let fixed = number_at(numbers, 3 * i + 2);
-        let t = Task {
-            period,
-            worst,
-            fixed,
-        };
-        p.tasks[i] = t;
-        i += 1;
-    }
-    p
-}
 
 // Reads a level block: 18 to 20 is a refusal's number; else the count of levels stands from bit 8 on.
 #[no_mangle]

@@ -40,8 +40,9 @@ use Rattle.orders.specs.Code.{choiceOf, Runnable}
 use Rattle.lone.specs.Code.{otherIn}
 use Rattle.lone.proofs.LoneLaws.{lone-is}
 use Rattle.orders.proofs.OrderLaws.{Timed, choose-next, choose-when}
-use Rattle.sound_parts.specs.declared.Entries.{Entries}
-use Rattle.sound_parts.specs.Code.{entriesTested, orderIn}
+use Rattle.sound_entries.specs.declared.Entries.{Entries}
+use Rattle.sound_entries.specs.Code.{entriesTested}
+use Rattle.sound_order.specs.Code.{orderIn}
 use Rattle.soundness.specs.Code.{Good, timedSound, testedBy}
 use Rattle.levels.specs.Code.{loaded, Table}
 use Rattle.levels.proofs.Tables.{levels-are, speed-is, speed-positive, speed-most}

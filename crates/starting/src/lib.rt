@@ -1,78 +1,29 @@
 // Starting: a state in which every task of a plan has a new job, with an order chosen in it.
 use choosing::choose;
+use fresh_state::fresh;
 use levels::read_levels;
 use paired_reading::read_paired;
 use plan::Load;
 use plan::Plan;
 use plan::Verdict;
-use reclaiming::Entry;
 use reclaiming::Reply;
-use state::COUNT_AT;
 use state::STATE_LENGTH;
-use state::TASK_AT;
-use storing::put_entry;
 use storing::store;
-use tables::put_table;
 use urgency::keys_of;
 ghost use mathlib.Core.Path.{_≡_};
-ghost use Prim.Native.Nat.{_<_, _≤_};
-ghost use mathlib.Core.Bool.{true};
-ghost use lib.ListN.{length, replicate};
+ghost use Prim.Native.Nat.{_<_};
+ghost use lib.ListN.{length};
 ghost use Rattle.plan.specs.Levels.{nominal};
 ghost use Rattle.plan.specs.Blocks.{tasksOf, tasksIn};
-ghost use Rattle.plan.specs.Questions.{inRange, judging};
-ghost use lib.Seq.{sets};
+ghost use Rattle.plan.specs.Questions.{judging};
 ghost use Rattle.arith.specs.Arrays.{padded};
-ghost use Rattle.arith.specs.Choice.{every};
 ghost use Rattle.arith.specs.Asking.{firstNo};
 ghost use Rattle.plan.specs.Answers.{roomNumber, storedBy};
-ghost use Rattle.reclaiming.specs.StateBlock.{places, taskField, countField, tailAt, stateLength, encode};
+ghost use Rattle.reclaiming.specs.StateBlock.{stateLength, encode};
 ghost use Rattle.reclaiming.specs.Passes.{startState};
 ghost use Rattle.reclaiming.specs.Calls.{repliedBy, startOrder, startReply, startBuffer};
 ghost use Rattle.levels.specs.Code.{loaded, Table};
-ghost use Rattle.state.specs.Code.{headStored};
-ghost use Rattle.tables.specs.Code.{tableBytes};
-ghost use Rattle.starting.specs.Code.{newState, startNo};
-
-// The image of a state at clock 0, with a table of speeds and no entries yet.
-fn blank(speeds: &[u32; 8], levels: usize, count: usize) -> [u8; STATE_LENGTH]
-    requires { ⌜ (count ≤ places) × (levels ≤ 8) × (now speeds ≡ padded 8 0 (loaded (now speeds) levels)) ⌝ }
-    ensures { λ r. ⌜ r ≡ sets (headStored (headStored (replicate stateLength 0) taskField 255) countField count) tailAt
-        (tableBytes (loaded (now (speeds .entry)) levels)) ⌝ }
-{
-    let mut image = [0u8; STATE_LENGTH];
-    image[TASK_AT] = 255;
-    image[COUNT_AT] = count as u8;
-    put_table(&mut image, speeds, levels);
-    image
-}
-
-// A fresh image, filled at its offsets: every task of a plan has a new job at a speed, and no order is chosen.
-fn fresh(speeds: &[u32; 8], levels: usize, p: Plan, speed: u32) -> [u8; STATE_LENGTH]
-    requires { ⌜ (levels ≤ 8) × (now speeds ≡ padded 8 0 (loaded (now speeds) levels)) ⌝ }
-    requires { ⌜ (p .count ≤ places) × (every inRange (tasksOf p) ≡ true) × (0 < speed) × (speed ≤ 1000) ⌝ }
-    ensures { λ r. ⌜ r ≡ encode (newState (loaded (now (speeds .entry)) levels) speed (tasksOf p)) ⌝ }
-{
-    let count = p.count;
-    let mut image = blank(speeds, levels, count);
-    let mut i: usize = 0;
-    while i < count {
-        let t = p.tasks[i];
-        let rest = times::whole_of(t);
-        let remaining = times::task_time(speed, t);
-        let e = Entry {
-            period: t.period,
-            worst: t.worst,
-            work: rest.work,
-            remaining,
-            fixed: t.fixed,
-            unspent: rest.fixed,
-        };
-        put_entry(&mut image, i, e);
-        i += 1;
-    }
-    image
-}
+ghost use Rattle.starting.specs.Code.{startNo};
 
 // Starting a plan that was accepted over a table of speeds, of which the nominal level is known: 9 for the 217 bytes.
 fn started(speeds: &[u32; 8], levels: usize, p: Plan, highest: usize, state: &mut [u8]) -> Reply

@@ -28,27 +28,27 @@ use Rattle.reclaiming.specs.Calls.{startReply}
 use Rattle.reclaiming.specs.Run.{Pass, Answered, DispatcherBook, openedBook, bookedAll, ranAll}
 use Rattle.reclaiming.specs.Promises.{OpenPlain, OpenActual, Started, timeLeft, replies, actualBook, plainBook}
 use Rattle.worked_cases.specs.Cases.{pass}
-use Rattle.worked_cases.specs.LoneCases.{twoLevels, pairPlan, pairPasses, NeverBehind, BelowTheGap}
+use Rattle.worked_cases.specs.LoneCases.{twoLevels, lonePlan, lonePasses, NeverBehind, BelowTheGap}
 
 abbrev buffer : List ℕ
 buffer = replicate stateLength 0
 
 abbrev passes : List Pass
-passes = take 2 pairPasses
+passes = take 2 lonePasses
 
 abbrev τ : Timing
-τ = timing (speedsIn twoLevels) (tasksIn pairPlan)
+τ = timing (speedsIn twoLevels) (tasksIn lonePlan)
 
 abbrev speeds : List ℕ
 speeds = speedsIn twoLevels
 
 abbrev ts : List Task
-ts = tasksIn pairPlan
+ts = tasksIn lonePlan
 
 abbrev second : Job
 second = record { task = 1; arrival = 0 }
 
-started : Started twoLevels pairPlan [] buffer
+started : Started twoLevels lonePlan [] buffer
 unfolding need timeOf worn lcm gcd moreUrgent
 started = refl
 
@@ -62,11 +62,11 @@ answered =
     ∷ record { pass = pass false 1; reply = reply.Run 1 0 1 }
     ∷ []
 
-first-is : startReply twoLevels pairPlan [] (length buffer) ≡ first
+first-is : startReply twoLevels lonePlan [] (length buffer) ≡ first
 unfolding need timeOf worn lcm gcd moreUrgent
 first-is = refl
 
-answered-is : replies twoLevels pairPlan [] buffer passes ≡ answered
+answered-is : replies twoLevels lonePlan [] buffer passes ≡ answered
 unfolding need timeOf worn lcm gcd moreUrgent
 answered-is = refl
 
@@ -76,10 +76,10 @@ actual = bookedAll speeds ts (openedBook ts first) answered
 abbrev plain : Book
 plain = ranAll τ (opened τ) answered
 
-actual-is : actualBook twoLevels pairPlan [] buffer passes ≡ actual
+actual-is : actualBook twoLevels lonePlan [] buffer passes ≡ actual
 actual-is = ap₂ (λ (r : Reply) (l : List Answered). bookedAll speeds ts (openedBook ts r) l) first-is answered-is
 
-plain-is : plainBook twoLevels pairPlan [] buffer passes ≡ plain
+plain-is : plainBook twoLevels lonePlan [] buffer passes ≡ plain
 plain-is = ap (ranAll τ (opened τ)) answered-is
 
 -- what the two books have, each as a test that is computed
@@ -129,7 +129,7 @@ pub exception-needed : NeverBehind → ⊥
 exception-needed claim =
     plain-closed
     (subst₂ (λ (a : DispatcherBook) (b : Book). OpenActual τ a second → OpenPlain b second) actual-is plain-is
-    (claim twoLevels pairPlan [] buffer passes started second) still-open)
+    (claim twoLevels lonePlan [] buffer passes started second) still-open)
 
 -- its time left is no less than the gap
 not-less : (t n : ℕ) → eqb t 1 ≡ true → eqb n 1 ≡ true → t < n → ⊥
@@ -139,4 +139,4 @@ pub at-most-needed : BelowTheGap → ⊥
 at-most-needed claim =
     ⊎-elim plain-closed (not-less (timeLeft speeds actual) (nextArrival τ (actual .clock)) time-is gap-is)
     (subst₂ (λ (a : DispatcherBook) (b : Book). OpenActual τ a second → OpenPlain b second ⊎ (timeLeft speeds a < nextArrival τ (a .clock))) actual-is plain-is
-    (claim twoLevels pairPlan [] buffer passes started second) still-open)
+    (claim twoLevels lonePlan [] buffer passes started second) still-open)

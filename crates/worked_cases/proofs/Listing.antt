@@ -13,7 +13,7 @@ use Rattle.reclaiming.specs.StateBlock.{stateLength}
 use Rattle.reclaiming.specs.Calls.{isOrder, startReply}
 use Rattle.worked_cases.specs.Cases.{baseLevels, benchBlock, benchJudged, benchLines, listedLines}
 use Rattle.worked_cases.specs.FixedCases.{anglePlan, angleLines, wantedLines}
-use Rattle.worked_cases.specs.LoneCases.{twoLevels, pairPlan, pairLines, gapLines}
+use Rattle.worked_cases.specs.LoneCases.{twoLevels, lonePlan, loneLines, gapLines}
 
 pub bench-plan : readBlock baseLevels benchBlock ≡ benchJudged
 unfolding need timeOf worn lcm gcd moreUrgent
@@ -36,10 +36,10 @@ pub angle-started : isOrder (startReply baseLevels anglePlan [] stateLength) ≡
 unfolding need timeOf worn lcm gcd moreUrgent
 angle-started = refl
 
-pub pair-listing : pairLines ≡ gapLines
+pub lone-listing : loneLines ≡ gapLines
 unfolding need timeOf worn lcm gcd moreUrgent
-pair-listing = refl
+lone-listing = refl
 
-pub pair-started : isOrder (startReply twoLevels pairPlan [] stateLength) ≡ true
+pub lone-started : isOrder (startReply twoLevels lonePlan [] stateLength) ≡ true
 unfolding need timeOf worn lcm gcd moreUrgent
-pair-started = refl
+lone-started = refl

@@ -25,20 +25,20 @@ use Rattle.worked_cases.specs.Cases.{Case, task, pass, case, benchAfter,
 abbrev pub twoLevels : List ℕ
 twoLevels = levelBlock (1 ∷ 2 ∷ [])
 
-abbrev pub pairPlan : List ℕ
-pairPlan = planBlock (task 3 2 ∷ task 3 2 ∷ [])
+abbrev pub lonePlan : List ℕ
+lonePlan = planBlock (task 3 2 ∷ task 3 2 ∷ [])
 
-abbrev pub pairPasses : List Pass
-pairPasses = pass true 1 ∷ pass false 1 ∷ pass false 1 ∷ pass true 1 ∷ []
+abbrev pub lonePasses : List Pass
+lonePasses = pass true 1 ∷ pass false 1 ∷ pass false 1 ∷ pass true 1 ∷ []
 
 -- the state's bytes after the first n of these passes
-abbrev pairAfter : ℕ → List ℕ
-pairAfter n = bytesAfter (startedBytes twoLevels pairPlan [] (replicate stateLength 0)) (take n pairPasses)
+abbrev loneAfter : ℕ → List ℕ
+loneAfter n = bytesAfter (startedBytes twoLevels lonePlan [] (replicate stateLength 0)) (take n lonePasses)
 
 -- the run, line for line; the line that begins with `unfolding`, here and below, only lets it be computed
-abbrev pub pairLines : List Line
+abbrev pub loneLines : List Line
 unfolding need timeOf worn lcm gcd moreUrgent
-pairLines = runLines twoLevels pairPlan [] (replicate stateLength 0) pairPasses
+loneLines = runLines twoLevels lonePlan [] (replicate stateLength 0) lonePasses
 
 -- at 1 the gap is 2 ticks and 01's allowance 1; at 2 the plain job is closed, and an unfinished tick would reach the arrival
 abbrev pub gapLines : List Line
@@ -77,7 +77,7 @@ gaps =
     -- "01's case of a finish while idle moves there, with 1 tick": 13
     ∷ case (passValues (benchAfter 5) 1 true) (13 ∷ [])
     -- not alone at tick 0: 01's allowance of 1, though the gap is 3
-    ∷ case (startValues twoLevels pairPlan stateLength) (0 ∷ 0 ∷ 1 ∷ 1 ∷ [])
+    ∷ case (startValues twoLevels lonePlan stateLength) (0 ∷ 0 ∷ 1 ∷ 1 ∷ [])
     -- alone from tick 0 on: 01's allowance is 1 and the gap 2
     ∷ case (startValues twoLevels (planBlock (task 2 2 ∷ [])) stateLength) (0 ∷ 0 ∷ 0 ∷ 2 ∷ [])
     -- "the larger of 01's and the ticks to the next arrival": at tick 1 of (2, 1), (6, 4) they are 2 and 1
@@ -85,9 +85,9 @@ gaps =
     (passValues (startedBytes twoLevels (planBlock (task 2 1 ∷ task 6 4 ∷ [])) [] (replicate stateLength 0)) 1 true)
     (0 ∷ 1 ∷ 1 ∷ 1 ∷ [])
     -- at 2 the queue of the plain schedule is empty, and the job that goes on is accepted; with all its time, unfinished, it is not
-    ∷ case (shownValues (pairAfter 2) (replicate 3 255)) (0 ∷ 0 ∷ replicate 3 255)
-    ∷ case (passValues (pairAfter 2) 1 false) (14 ∷ [])
-    ∷ case (passValues (pairAfter 2) 1 true) (0 ∷ 0 ∷ 1 ∷ 1 ∷ [])
+    ∷ case (shownValues (loneAfter 2) (replicate 3 255)) (0 ∷ 0 ∷ replicate 3 255)
+    ∷ case (passValues (loneAfter 2) 1 false) (14 ∷ [])
+    ∷ case (passValues (loneAfter 2) 1 true) (0 ∷ 0 ∷ 1 ∷ 1 ∷ [])
     -- soundness "lets a lone job's time at nominal exceed its plain ticks left": 2 ticks in a gap of 2
     ∷ case (passValues (encode (behindAt 2 1 0)) 1 false) (0 ∷ 1 ∷ 0 ∷ 1 ∷ [])
     ∷ case (passValues (encode (behindAt 2 1 0)) 2 true) (0 ∷ 0 ∷ 0 ∷ 3 ∷ [])

@@ -26,7 +26,8 @@ use Rattle.orders.specs.Code.{Runnable}
 use Rattle.soundness.proofs.SoundLaws.{tested-good, tested-next}
 use Rattle.pass_questions.specs.Code.{timeQuestions}
 use Rattle.pass_questions.proofs.QuestionSteps.{asked-is}
-use Rattle.passing.proofs.PassLaws.{Passing, Passes, Answers, number-10, number-is, refused, accepts, over-own}
+use Rattle.accepted_pass.proofs.StepLaws.{Passing}
+use Rattle.passing.proofs.PassLaws.{Passes, Answers, number-10, number-is, refused, accepts, over-own}
 use Rattle.passing.proofs.pass_over.Statement.{statement}
 use Rattle.passing.proofs.pass_over.Tie as tie
 

@@ -11,7 +11,8 @@ use Rattle.plan.specs.Blocks.{tasksOf}
 use Rattle.levels.specs.Code.{loaded}
 use Rattle.tables.proofs.TableLaws.{table-stored}
 use Rattle.levels.proofs.Tables.{levels-are, speed-is, speed-positive, speed-most}
-use Rattle.starting.proofs.StartLaws.{count-is, left-short, Planned, planned, level-below, Newly, newly, new-size, new-periods, new-ready, new-left}
+use Rattle.fresh_state.proofs.MakingLaws.{count-is}
+use Rattle.starting.proofs.StartLaws.{left-short, Planned, planned, level-below, Newly, newly, new-size, new-periods, new-ready, new-left}
 use Rattle.starting.proofs.started.Statement.{statement}
 use Rattle.starting.proofs.started.Tie as tie
 
