@@ -14,7 +14,7 @@ use Rattle.schedule.specs.PlainSchedule.{moreUrgent}
 use Rattle.reclaiming.specs.StateBlock.{timing, stateLength}
 use Rattle.reclaiming.specs.Calls.{replyAnswer, startReply, startBuffer}
 use Rattle.reclaiming.specs.Run.{Pass}
-use Rattle.reclaiming.specs.Promises.{Started, arrivedWith, EarlierClosed, actualBook}
+use Rattle.reclaiming.specs.Promises.{Started, EarlierClosed, actualBook}
 use Rattle.worked_cases.specs.Cases.{Case, task, case, told, baseLevels}
 use Rattle.worked_cases.specs.FixedCases.{inEdition2}
 
