@@ -25,6 +25,7 @@ pairsIn [] = []
 pairsIn (x ∷ []) = []
 pairsIn (x ∷ y ∷ bytes) = record { earlier = x; later = y } ∷ pairsIn bytes
 
+-- the period of the task of a number
 abbrev pub periodOf : List Task → ℕ → ℕ
 periodOf ts i = getD ts i noTask .period
 
