@@ -1,2 +1,2 @@
-pub mod ArriveLaws
+pub mod KeyRenewal
 pub mod TickSteps

@@ -25,10 +25,11 @@ use Rattle.reclaiming.specs.Questions.{stateSound}
 use Rattle.state.specs.Code.{timingIn, withJobs, withClock, headStored, FitTask, FitRest}
 use Rattle.urgency.specs.Code.{noKey, Keyed, dueAt, drainedBy}
 use Rattle.orders.specs.Code.{choiceOf, Runnable}
-use Rattle.ticks.specs.Code.{Stepping, arrivedState}
+use Rattle.arriving.specs.Code.{arrivedState}
+use Rattle.ticks.specs.Code.{Stepping}
 use Rattle.draining.proofs.DrainLaws.{Drains}
 use Rattle.draining.proofs.WorkLaws.{Works}
-use Rattle.ticks.proofs.ArriveLaws.{Arrives}
+use Rattle.arriving.proofs.ArriveLaws.{Arrives}
 use Rattle.reclaiming.proofs.Fine.{nominalSpeed}
 use Rattle.reclaiming.proofs.Soundness.{planIn-at, length-planIn, sound-state}
 use Rattle.arith.proofs.RangeLaws.{listTo-same}

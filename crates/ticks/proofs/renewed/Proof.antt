@@ -5,7 +5,7 @@ use mathlib.Core.Path.{refl}
 use mathlib.Core.Logic.{⊎-elim}
 use native.Mathlib.Omega.{arith}
 use borrow.Author.Needs.{needs}
-use Rattle.ticks.proofs.ArriveLaws.{Renewing, renewed-old, renewed-new, renewed-all}
+use Rattle.ticks.proofs.KeyRenewal.{Renewing, renewed-old, renewed-new, renewed-all}
 use Rattle.ticks.proofs.renewed.Statement.{statement}
 use Rattle.ticks.proofs.renewed.Tie as tie
 

@@ -1,4 +1,4 @@
--- The new jobs of the tasks whose deadline is the clock, in a state's bytes and among its keys.
+-- The new jobs of the tasks whose deadline is the clock, in a state's bytes.
 -- Assumes nothing.
 use Prim.Native.Nat.{ℕ, _+_, _<_, _≤_}
 use mathlib.Core.Path.{_≡_, sym, ap, ap₂, subst, _∙_}
@@ -8,19 +8,17 @@ use native.Mathlib.Decide.{decLe, ℕ-discrete}
 use native.Mathlib.Omega.{arith}
 use borrow.Author.Tests.{lt-ltb, le-ltb, eq-eqb, ne-eqb}
 use lib.Dec.{ltb}
-use lib.ListN.{length, getD, set}
-use lib.Seq.{set-set}
+use lib.ListN.{length, getD}
 use Rattle.arith.specs.Choice.{pick}
 use Rattle.plan.specs.declared.Task.{Task}
 use Rattle.plan.specs.declared.Rest.{Rest}
 use Rattle.plan.specs.Times.{whole, taskTime}
 use Rattle.reclaiming.specs.StateBlock.{State, noEntry, remainingOf, restOf, taskOf, encode, remainingField, stateLength, places}
 use Rattle.state.specs.Code.{entryIn, changed, withJobs, entryStored, restStored, FitTask}
-use Rattle.urgency.specs.Code.{keyOf, deadlineIn, dueAt}
-use Rattle.ticks.specs.Code.{renewedBytes, arrivedState, renewedKeys}
+use Rattle.urgency.specs.Code.{deadlineIn, dueAt}
+use Rattle.arriving.specs.Code.{renewedBytes, arrivedState}
 use Rattle.state.proofs.BlockLaws.{changed-there, changed-else, encode-task, jobs-count, jobs-task, jobs-same, jobs-eq, store-rest, store-remaining}
 use Rattle.state.proofs.BlockLaws.{length-entryStored, length-restStored}
-use Rattle.arith.proofs.ArrayLaws.{values-more}
 
 -- what is read and stored of a new job: what is left of it, then the plain ticks
 pub record Renewed (b o m : List ℕ) (i speed : ℕ) (t : Task) (rest : Rest) (time : ℕ) : Type 0 where
@@ -198,53 +196,3 @@ arrives-not keys count clock speed none b s e n r =
     ∙ jobs-eq s (restOf s) (newRest keys clock s) (remainingOf s) (newLeft keys clock speed s)
     (λ i h. ap (λ (t : Bool). pick t (whole (taskOf (getD (s .entries) i noEntry))) (restOf s i)) (sym (none i (omega arith))))
     (λ i h. ap (λ (t : Bool). pick t (taskTime speed (taskOf (getD (s .entries) i noEntry))) (remainingOf s i)) (sym (none i (omega arith)))))
-
--- the keys of the tasks below n are made
-pub record Renewing (b keys : List ℕ) (count clock : ℕ) (r : List ℕ) (n : ℕ) : Type 0 where
-  pub few : count ≤ places
-  pub below : n ≤ count
-  pub so-far : r ≡ renewedKeys b keys n clock
-
-module _ {b keys : List ℕ} {count clock : ℕ} {r : List ℕ} {n : ℕ} (now : Renewing b keys count clock r n) where
-  -- the key of a task that has a new job, and that of any task after its turn
-  abbrev newKey : ℕ → ℕ
-  newKey i = keyOf (clock + entryIn b i .period) (entryIn b i .period) i
-
-  abbrev keyAfter : ℕ → ℕ
-  keyAfter i = pick (dueAt keys clock i) (newKey i) (getD keys i 0)
-
-  pub renewed-all : count ≤ n → r ≡ renewedKeys b keys count clock
-  renewed-all h =
-      let e : n ≡ count = omega arith in
-      now .so-far ∙ ap (λ (k : ℕ). renewedKeys b keys k clock) e
-
-  module _ (h : n < count) where
-    renewed-more : {o : List ℕ} (key : ℕ) → o ≡ set r n key → key ≡ keyAfter n → Renewing b keys count clock o (n + 1)
-    renewed-more key g e = record {
-      few = now .few;
-      below = omega arith;
-      so-far = g ∙ values-more places 0 keyAfter r n key (omega arith) (now .so-far) e;
-    }
-
-    -- task n's job stays
-    pub renewed-old :
-        (deadlineIn (getD keys n 0) ≡ clock → ⊥) → {o : List ℕ} → o ≡ set r n (getD keys n 0) → Renewing b keys count clock o (n + 1)
-    renewed-old q g =
-        renewed-more (getD keys n 0) g
-        (ap (λ (t : Bool). pick t (newKey n) (getD keys n 0)) (sym (ne-eqb (deadlineIn (getD keys n 0)) clock q)))
-
-    -- task n has a new job
-    pub renewed-new :
-        deadlineIn (getD keys n 0) ≡ clock →
-        {period key : ℕ} →
-        period ≡ entryIn b n .period →
-        key ≡ keyOf (clock + period) period n →
-        (x : ℕ) →
-        {o : List ℕ} →
-        o ≡ set (set r n x) n key →
-        Renewing b keys count clock o (n + 1)
-    renewed-new q {key = key} p e x g =
-        renewed-more key (g ∙ set-set r n x key)
-        (e
-        ∙ ap (λ (y : ℕ). keyOf (clock + y) y n) p
-        ∙ ap (λ (t : Bool). pick t (newKey n) (getD keys n 0)) (sym (eq-eqb (deadlineIn (getD keys n 0)) clock q)))

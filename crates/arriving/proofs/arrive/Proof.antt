@@ -5,9 +5,9 @@ use mathlib.Core.Path.{_∙_}
 use mathlib.Core.Logic.{⊎-elim}
 use native.Mathlib.Omega.{arith}
 use borrow.Author.Needs.{needs}
-use Rattle.ticks.proofs.ArriveLaws.{Arriving, arrive-none, arrive-old, arrive-new, arrive-all}
-use Rattle.ticks.proofs.arrive.Statement.{statement}
-use Rattle.ticks.proofs.arrive.Tie as tie
+use Rattle.arriving.proofs.ArriveLaws.{Arriving, arrive-none, arrive-old, arrive-new, arrive-all}
+use Rattle.arriving.proofs.arrive.Statement.{statement}
+use Rattle.arriving.proofs.arrive.Tie as tie
 
 abbrev Inv-loop : tie.InvT-loop
 Inv-loop block₀ keys count clock speed i₀ block i = Arriving keys count clock speed block₀ block i

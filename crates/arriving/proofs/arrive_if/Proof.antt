@@ -1,9 +1,9 @@
 -- `arrive_if` meets its contract.
 -- Assumes nothing.
 use borrow.Author.Needs.{needs}
-use Rattle.ticks.proofs.ArriveLaws.{arrives-not}
-use Rattle.ticks.proofs.arrive_if.Statement.{statement}
-use Rattle.ticks.proofs.arrive_if.Tie as tie
+use Rattle.arriving.proofs.ArriveLaws.{arrives-not}
+use Rattle.arriving.proofs.arrive_if.Statement.{statement}
+use Rattle.arriving.proofs.arrive_if.Tie as tie
 
 arrive-requires : tie.Need-arrive-requires
 arrive-requires c κs = search needs

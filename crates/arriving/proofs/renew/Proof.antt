@@ -1,10 +1,10 @@
 -- `renew` meets its contract.
 -- Assumes nothing.
 use native.Mathlib.Omega.{arith}
-use Rattle.ticks.proofs.ArriveLaws.{Renewed, renew-stored}
+use Rattle.arriving.proofs.ArriveLaws.{Renewed, renew-stored}
 use borrow.Author.Needs.{needs}
-use Rattle.ticks.proofs.renew.Statement.{statement}
-use Rattle.ticks.proofs.renew.Tie as tie
+use Rattle.arriving.proofs.renew.Statement.{statement}
+use Rattle.arriving.proofs.renew.Tie as tie
 
 -- the places that others are reached from
 abbrev read : tie.After-put-rest → tie.After-task-at
