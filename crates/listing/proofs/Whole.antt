@@ -25,7 +25,7 @@ use Rattle.reclaiming.specs.StateBlock.{stateLength}
 use Rattle.reclaiming.specs.Calls.{startReply, startBuffer}
 use Rattle.reclaiming.specs.Run.{trace, startedBytes, openedBook, linesFrom}
 use Rattle.transcript.specs.Listing.{planLine, replyLine, refusedLine, levelCut, planCut, passesIn, oddLine, linesText, startedLines, judgedLines, readLines, planListing, listing}
-use Rattle.lines.specs.Stores.{Put}
+use Rattle.text.specs.Stores.{Put}
 use Rattle.pass_lines.specs.Code.{passesText}
 
 -- a text at the front of a buffer: its length, every byte, and that it lies within

@@ -1,11 +1,11 @@
 // The bench program's library: the listing of an input.
 use cutting::level_cut;
 use cutting::plan_cut;
-use lines::plan_line;
-use lines::refused_line;
-use lines::reply_line;
 use pass_lines::pass_lines;
 use plan::Verdict;
+use plan_lines::plan_line;
+use plan_lines::refused_line;
+use reply_lines::reply_line;
 use starting::start;
 use state::STATE_LENGTH;
 ghost use mathlib.Core.Path.{_≡_};
@@ -15,7 +15,7 @@ ghost use lib.ListN.{length, take, drop};
 ghost use Rattle.arith.specs.Asking.{numberOf};
 ghost use Rattle.plan.specs.Answers.{verdictAnswer};
 ghost use Rattle.transcript.specs.Listing.{startedLines, planListing, listing};
-ghost use Rattle.lines.specs.Stores.{Put};
+ghost use Rattle.text.specs.Stores.{Put};
 
 // The number of a refusal, 0 where there is none.
 fn refusal_of(v: Verdict) -> u32

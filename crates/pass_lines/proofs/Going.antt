@@ -16,10 +16,10 @@ use Rattle.reclaiming.specs.declared.Reply.the-variants as reply
 use Rattle.reclaiming.specs.Calls.{passReply, passBytes}
 use Rattle.reclaiming.specs.Run.{Pass, Answered, DispatcherBook, Line, line, booked, trace, bytesAfter, linesFrom}
 use Rattle.transcript.specs.Listing.{replyLine, refusedLine, passOf, passesIn, oddLine, linesText}
-use Rattle.lines.specs.Stores.{Put}
+use Rattle.text.specs.Stores.{Put}
 use Rattle.pass_lines.specs.Code.{passesText}
 use Rattle.arith.proofs.Stores.{sets-append}
-use Rattle.lines.proofs.Puts.{as-text}
+use Rattle.text.proofs.Puts.{as-text}
 
 -- the lines tell of a book its clock alone
 module _ (speeds vs : List ℕ) (ts us : List Task) where

@@ -1,8 +1,8 @@
 // The passes of an input, two bytes each: each is put to the dispatcher, and its line stored.
-use lines::refused_line;
-use lines::reply_line;
 use passing::pass;
+use plan_lines::refused_line;
 use reclaiming::Reply;
+use reply_lines::reply_line;
 ghost use mathlib.Core.Path.{_≡_};
 ghost use mathlib.Core.List.{List};
 ghost use Prim.Native.Nat.{ℕ, _+_, _^_, _<_, _≤_};
@@ -10,7 +10,7 @@ ghost use lib.ListN.{length};
 ghost use Rattle.plan.specs.declared.Task.{Task};
 ghost use Rattle.reclaiming.specs.Run.{Pass, DispatcherBook, booked, bytesAfter};
 ghost use Rattle.transcript.specs.Listing.{passesIn};
-ghost use Rattle.lines.specs.Stores.{Put};
+ghost use Rattle.text.specs.Stores.{Put};
 ghost use Rattle.pass_lines.specs.Code.{passesText};
 
 // The clock of the dispatcher's book after a reply: it rises by d where the pass was accepted.

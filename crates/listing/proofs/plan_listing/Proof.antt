@@ -5,7 +5,7 @@ use mathlib.Core.Path.{sym}
 use mathlib.Core.List.{List}
 use native.Mathlib.Omega.{arith}
 use lib.Seq.{length-take-le}
-use Rattle.lines.proofs.Puts.{_then_, as-text}
+use Rattle.text.proofs.Puts.{_then_, as-text}
 use Rattle.listing.proofs.Whole.{Read, refused-is, admitted-is}
 use borrow.Author.Needs.{needs}
 use Rattle.listing.proofs.plan_listing.Statement.{statement}

@@ -8,7 +8,7 @@ use Rattle.plan.specs.LevelBlocks.{speedsIn}
 use Rattle.plan.specs.Blocks.{tasksIn}
 use Rattle.reclaiming.specs.declared.Reply.{Reply}
 use Rattle.reclaiming.specs.Run.{openedBook}
-use Rattle.lines.proofs.Puts.{_then_, as-text}
+use Rattle.text.proofs.Puts.{_then_, as-text}
 use Rattle.listing.proofs.Whole.{opened-clock, started-is}
 use borrow.Author.Needs.{needs}
 use Rattle.listing.proofs.started_lines.Statement.{statement}

@@ -1,8 +1,8 @@
 -- `reply_line` meets its contract.
 -- Assumes nothing.
 use borrow.Author.Needs.{needs}
-use Rattle.lines.proofs.reply_line.Statement.{statement}
-use Rattle.lines.proofs.reply_line.Tie as tie
+use Rattle.reply_lines.proofs.reply_line.Statement.{statement}
+use Rattle.reply_lines.proofs.reply_line.Tie as tie
 
 enum-known-r : tie.Need-enum-known-r
 enum-known-r c = search needs

@@ -12,7 +12,7 @@ use lib.ListN.{length, getD, drop, set, length-set, length-append}
 use lib.Seq.{sets, drop-cons, drop-length}
 use Rattle.arith.specs.Choice.{pick}
 use Rattle.transcript.specs.Text.{decimalWithin}
-use Rattle.lines.specs.Stores.{Put}
+use Rattle.text.specs.Stores.{Put}
 use Rattle.arith.proofs.Stores.{sets-append}
 
 -- a text, then another

@@ -1,10 +1,10 @@
 -- `idle_line` meets its contract.
 -- Assumes nothing.
 use native.Mathlib.Omega.{arith}
-use Rattle.lines.proofs.Puts.{_then_, wider}
+use Rattle.text.proofs.Puts.{_then_, wider}
 use borrow.Author.Needs.{needs}
-use Rattle.lines.proofs.idle_line.Statement.{statement}
-use Rattle.lines.proofs.idle_line.Tie as tie
+use Rattle.reply_lines.proofs.idle_line.Statement.{statement}
+use Rattle.reply_lines.proofs.idle_line.Tie as tie
 
 put-decimal-requires : tie.Need-put-decimal-requires
 put-decimal-requires c κs = search needs

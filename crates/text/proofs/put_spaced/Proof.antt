@@ -1,9 +1,9 @@
 -- `put_spaced` meets its contract.
 -- Assumes nothing.
-use Rattle.lines.proofs.Puts.{_then_}
+use Rattle.text.proofs.Puts.{_then_}
 use borrow.Author.Needs.{needs}
-use Rattle.lines.proofs.put_spaced.Statement.{statement}
-use Rattle.lines.proofs.put_spaced.Tie as tie
+use Rattle.text.proofs.put_spaced.Statement.{statement}
+use Rattle.text.proofs.put_spaced.Tie as tie
 
 put-byte-requires : tie.Need-put-byte-requires
 put-byte-requires c κs = search needs

@@ -1,10 +1,10 @@
 -- `refused_line` meets its contract.
 -- Assumes nothing.
 use native.Mathlib.Omega.{arith}
-use Rattle.lines.proofs.Puts.{_then_, wider}
+use Rattle.text.proofs.Puts.{_then_, wider}
 use borrow.Author.Needs.{needs}
-use Rattle.lines.proofs.refused_line.Statement.{statement}
-use Rattle.lines.proofs.refused_line.Tie as tie
+use Rattle.plan_lines.proofs.refused_line.Statement.{statement}
+use Rattle.plan_lines.proofs.refused_line.Tie as tie
 
 slice-aggregate-put-word : tie.Need-slice-aggregate-put-word
 slice-aggregate-put-word c = search needs
