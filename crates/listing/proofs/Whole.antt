@@ -2,31 +2,22 @@
 -- Assumes nothing.
 use Prim.Native.Nat.{ℕ, _-_, _<_, _≤_}
 use mathlib.Core.Bool.{Bool}
-use mathlib.Core.Path.{_≡_, refl, sym, subst, ap, ap₂, _∙_}
-use mathlib.Core.List.{List, [], _++_, append-assoc}
+use mathlib.Core.Path.{_≡_, sym, subst, ap, _∙_}
+use mathlib.Core.List.{List, _++_}
 use native.Mathlib.Nat.{zero-add}
 use native.Mathlib.Omega.{arith}
 use borrow.Author.Tests.{le-leb, lt-leb}
 use borrow.Rule.Slice.PartAt.{part-to-end}
-use lib.ListN.{length, take, drop, replicate}
-use lib.Seq.{sets-eq, length-sets, length-take-le, take-all}
+use lib.ListN.{length, take, drop}
+use lib.Seq.{sets-eq, length-sets, length-take-le}
 use Rattle.arith.specs.Choice.{pick}
 use Rattle.arith.specs.Asking.{numberOf}
 use Rattle.plan.specs.declared.Judged.{Judged}
-use Rattle.plan.specs.declared.Task.{Task}
 use Rattle.plan.specs.declared.Verdict.{Verdict}
 use Rattle.plan.specs.declared.Verdict.the-variants as verdict
-use Rattle.plan.specs.LevelBlocks.{speedsIn}
-use Rattle.plan.specs.Blocks.{tasksIn}
 use Rattle.plan.specs.Answers.{verdictAnswer, readBlock}
-use Rattle.reclaiming.specs.declared.Reply.{Reply}
-use Rattle.reclaiming.specs.declared.Reply.the-variants as reply
-use Rattle.reclaiming.specs.StateBlock.{stateLength}
-use Rattle.reclaiming.specs.Calls.{startReply, startBuffer}
-use Rattle.reclaiming.specs.Run.{trace, startedBytes, openedBook, linesFrom}
-use Rattle.transcript.specs.Listing.{planLine, replyLine, refusedLine, levelCut, planCut, passesIn, oddLine, linesText, startedLines, judgedLines, readLines, planListing, listing}
+use Rattle.transcript.specs.Listing.{planLine, refusedLine, levelCut, planCut, startedLines, judgedLines, readLines, planListing, listing}
 use Rattle.text.specs.Stores.{Put}
-use Rattle.pass_lines.specs.Code.{passesText}
 
 -- a text at the front of a buffer: its length, every byte, and that it lies within
 abbrev pub Front : List ℕ → List ℕ → ℕ → List ℕ → Type 0
@@ -48,26 +39,6 @@ front {m} {r} {text} {whole} {before} {after} p room e =
     ∙ sets-eq text before 0 (omega (arith, p .near))
     ∙ ap (λ (k : ℕ). text ++ drop k before) (zero-add (length text)) in
     subst (λ (t : List ℕ). Front t before r after) e (size, (bytes, (inside, sym (length-take-le r after inside))))
-
--- a book is opened at clock 0, whatever the start replied
-pub opened-clock : (ts : List Task) (r : Reply) → openedBook ts r .clock ≡ 0
-opened-clock ts (reply.Run task level hold) = refl
-opened-clock ts (reply.Idle hold) = refl
-opened-clock ts (reply.Refused n) = refl
-
--- the lines from the start on
-pub started-is :
-    (levels block passes : List ℕ) {r : Reply} {s : List ℕ} →
-    r ≡ startReply levels block [] stateLength →
-    s ≡ startBuffer levels block [] (replicate stateLength 0) →
-    length s ≡ stateLength →
-    replyLine 0 r ++ passesText (speedsIn levels) (tasksIn block) (openedBook (tasksIn block) r) s passes ≡ startedLines levels block passes
-started-is levels block passes {r} {s} a b size =
-    let begun : s ≡ startedBytes levels block [] (replicate stateLength 0) = sym (take-all stateLength s (omega arith)) ∙ ap (take stateLength) b in
-    let ts : List Task = tasksIn block in
-    let lines : Reply → List ℕ → List ℕ = λ x y. linesText (linesFrom (speedsIn levels) ts (openedBook ts x) (trace y (passesIn passes))) in
-    sym (append-assoc (replyLine 0 r) (lines r s) (oddLine passes))
-    ∙ ap₂ (λ (x : Reply) (y : List ℕ). replyLine 0 x ++ lines x y ++ oddLine passes) a begun
 
 -- an input that is too long
 pub over-is : (input : List ℕ) → 65536 < length input → refusedLine 17 ≡ listing input

@@ -1,20 +1,17 @@
 // The bench program's library: the listing of an input.
 use cutting::level_cut;
 use cutting::plan_cut;
-use pass_lines::pass_lines;
 use plan::Verdict;
 use plan_lines::plan_line;
 use plan_lines::refused_line;
-use reply_lines::reply_line;
-use starting::start;
-use state::STATE_LENGTH;
+use started_lines::started_lines;
 ghost use mathlib.Core.Path.{_≡_};
 ghost use mathlib.Core.List.{_++_};
-ghost use Prim.Native.Nat.{_+_, _≤_};
+ghost use Prim.Native.Nat.{_≤_};
 ghost use lib.ListN.{length, take, drop};
 ghost use Rattle.arith.specs.Asking.{numberOf};
 ghost use Rattle.plan.specs.Answers.{verdictAnswer};
-ghost use Rattle.transcript.specs.Listing.{startedLines, planListing, listing};
+ghost use Rattle.transcript.specs.Listing.{planListing, listing};
 ghost use Rattle.text.specs.Stores.{Put};
 
 // The number of a refusal, 0 where there is none.
@@ -25,17 +22,6 @@ fn refusal_of(v: Verdict) -> u32
         Verdict::Refused(n) => n,
         Verdict::Admitted { .. } => 0,
     }
-}
-
-// Stores the lines from the start on, over a fresh state.
-fn started_lines(levels: &[u8], block: &[u8], passes: &[u8], out: &mut [u8], from: usize) -> usize
-    requires { ⌜ (length (now passes) ≤ 65536) × (from + 1900000 ≤ length (now out)) ⌝ }
-    ensures { λ r. ⌜ Put 1900000 (now (out .entry)) from (startedLines (now (levels .entry)) (now (block .entry)) (now (passes .entry))) r (now (out .exit)) ⌝ }
-{
-    let mut state = [0u8; STATE_LENGTH];
-    let reply = start(levels, block, &[], &mut state);
-    let at = reply_line(out, from, 0, reply);
-    pass_lines(passes, &mut state, out, at)
 }
 
 // Stores the listing of a plan block and passes, over a level block: a refusal of either ends it.

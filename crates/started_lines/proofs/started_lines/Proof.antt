@@ -9,10 +9,10 @@ use Rattle.plan.specs.Blocks.{tasksIn}
 use Rattle.reclaiming.specs.declared.Reply.{Reply}
 use Rattle.reclaiming.specs.Run.{openedBook}
 use Rattle.text.proofs.Puts.{_then_, as-text}
-use Rattle.listing.proofs.Whole.{opened-clock, started-is}
+use Rattle.started_lines.proofs.Beginning.{opened-clock, started-is}
 use borrow.Author.Needs.{needs}
-use Rattle.listing.proofs.started_lines.Statement.{statement}
-use Rattle.listing.proofs.started_lines.Tie as tie
+use Rattle.started_lines.proofs.started_lines.Statement.{statement}
+use Rattle.started_lines.proofs.started_lines.Tie as tie
 
 slice-aggregate-start : tie.Need-slice-aggregate-start
 slice-aggregate-start c = search needs
