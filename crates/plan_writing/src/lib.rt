@@ -1,8 +1,6 @@
-// Writing a plan block, bit by bit; the round trips.
+// Writing a plan block, bit by bit.
 use admission::verdict_of;
-use judging::refused;
 use levels::read_levels;
-use plan::Judged;
 use plan::Load;
 use plan::Plan;
 use plan::Verdict;
@@ -10,16 +8,14 @@ use plan::Written;
 use plan_bits::put_block;
 use plan_fields::block_length;
 use plan_fields::edition_of;
-use plan_reading::read;
 ghost use mathlib.Core.Path.{_≡_};
 ghost use Prim.Native.Nat.{_/_, _<_};
 ghost use lib.ListN.{length};
 ghost use Rattle.arith.specs.Asking.{firstNo};
-ghost use Rattle.plan.specs.LevelBlocks.{speedsIn};
 ghost use Rattle.plan.specs.Blocks.{tasksOf, planBlock};
 ghost use Rattle.plan.specs.Questions.{writing};
 ghost use Rattle.levels.specs.Code.{loaded, Table};
-ghost use Rattle.plan.specs.Answers.{writePlan, writeBuffer, writtenBy, storedBy, writeNumber, judgedBy, copyNumber};
+ghost use Rattle.plan.specs.Answers.{writePlan, writeBuffer, writtenBy, storedBy};
 
 // A plan written over a table of speeds: the questions 3, 6, 7, 8, then 9.
 pub fn write_over(speeds: &[u32; 8], levels: usize, p: Plan, buffer: &mut [u8]) -> Written
@@ -62,37 +58,5 @@ pub fn write(levels: &[u8], p: Plan, buffer: &mut [u8]) -> Written
     match answer {
         Load::Refused(n) => Written::Refused(n),
         Load::Levels(count) => write_over(&speeds, count, p, buffer),
-    }
-}
-
-// A block read and written again: the very same bytes, where the reading accepts it and there is room.
-pub fn copy(levels: &[u8], block: &[u8], buffer: &mut [u8]) -> Written
-    ensures { λ r. ⌜ r ≡ writtenBy
-        (copyNumber (now (levels .entry)) (now (block .entry)) (length (now (buffer .entry))))
-        (now (block .entry)) ⌝ }
-    ensures { λ _. ⌜ now (buffer .exit) ≡ storedBy
-        (copyNumber (now (levels .entry)) (now (block .entry)) (length (now (buffer .entry))))
-        (now (block .entry)) (now (buffer .entry)) ⌝ }
-{
-    let j = read(levels, block);
-    let v = j.verdict;
-    if let Verdict::Refused(n) = v {
-        return Written::Refused(n);
-    }
-    let q = j.plan;
-    write(levels, q, buffer)
-}
-
-// A plan written and read back: judged as the plan itself is, where there is room for its block.
-pub fn reread(levels: &[u8], p: Plan, buffer: &mut [u8]) -> Judged
-    ensures { λ r. ⌜ r ≡ judgedBy
-        (writeNumber (now (levels .entry)) p (length (now (buffer .entry))))
-        (speedsIn (now (levels .entry))) (tasksOf p) ⌝ }
-    ensures { λ _. ⌜ now (buffer .exit) ≡ writeBuffer (now (levels .entry)) p (now (buffer .entry)) ⌝ }
-{
-    let w = write(levels, p, buffer);
-    match w {
-        Written::Refused(n) => refused(n),
-        Written::Bytes(n) => read(levels, &buffer[..n]),
     }
 }

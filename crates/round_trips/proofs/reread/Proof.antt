@@ -11,9 +11,9 @@ use Rattle.plan.specs.Answers.{writeNumber}
 use Rattle.arith.proofs.Loops.{length-mapped}
 use Rattle.plan.proofs.AnswerLaws.{Refusal, told-unwritten}
 use Rattle.judging.proofs.Judgements.{refused-as}
-use Rattle.plan_writing.proofs.WriteLaws.{Rewritten, rewritten, front-length, front-fits, reads-back}
-use Rattle.plan_writing.proofs.reread.Statement.{statement}
-use Rattle.plan_writing.proofs.reread.Tie as tie
+use Rattle.round_trips.proofs.RoundTrips.{Rewritten, rewritten, front-length, front-fits, reads-back}
+use Rattle.round_trips.proofs.reread.Statement.{statement}
+use Rattle.round_trips.proofs.reread.Tie as tie
 
 size : (c : tie.Start) → length (c .args .p .tasks) ≡ 16
 size c = search (length-mapped, needs)

@@ -3,9 +3,9 @@
 use native.Mathlib.Omega.{arith}
 use borrow.Author.Needs.{needs}
 use Rattle.plan.specs.Laws.{Bytes}
-use Rattle.plan_writing.proofs.WriteLaws.{leaves-unread, leaves-read}
-use Rattle.plan_writing.proofs.copy.Statement.{statement}
-use Rattle.plan_writing.proofs.copy.Tie as tie
+use Rattle.round_trips.proofs.RoundTrips.{leaves-unread, leaves-read}
+use Rattle.round_trips.proofs.copy.Statement.{statement}
+use Rattle.round_trips.proofs.copy.Tie as tie
 
 abbrev start : tie.After-read → tie.Start
 start c = c .before .before .before .before
