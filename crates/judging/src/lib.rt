@@ -1,6 +1,6 @@
 // Judging a plan: a verdict, and the plan that stands beside it.
 use admission::verdict_of;
-use levels::read_levels;
+use level_reading::read_levels;
 use plan::Judged;
 use plan::Load;
 use plan::Plan;

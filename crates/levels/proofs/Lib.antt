@@ -1,2 +1,2 @@
-pub mod Loading
+pub mod LevelLaws
 pub mod Tables

@@ -18,7 +18,7 @@ use Rattle.plan.specs.LevelBlocks.{speedsIn, risesFrom, loading, boardBy, readL
 use Rattle.plan.proofs.AnswerLaws.{Refusal}
 use Rattle.plan.proofs.LevelBlockLaws.{FineTable, rising, speeds-most, loaded-table}
 use Rattle.levels.specs.Code.{loaded, Table}
-use Rattle.levels.proofs.Loading.{loaded-padded}
+use Rattle.levels.proofs.LevelLaws.{loaded-padded}
 
 module _ {held : List ℕ} {levels : ℕ} (t : Table held levels) where
   pub levels-are : length (loaded held levels) ≡ levels

@@ -2,11 +2,8 @@
 -- Assumes nothing.
 use Prim.Native.Nat.{ℕ, _<_, _≤_}
 use mathlib.Core.Path.{_≡_}
-use mathlib.Core.List.{List, []}
+use mathlib.Core.List.{List}
 use lib.ListN.{length, getD, take}
-use Rattle.arith.specs.Arrays.{padded}
-use Rattle.plan.specs.declared.Load.the-variants as load
-use Rattle.plan.specs.declared.Board.{Board}
 use Rattle.plan.specs.Levels.{Rising}
 
 -- the speeds of the levels: the first so many numbers
@@ -19,7 +16,3 @@ pub record Table (held : List ℕ) (levels : ℕ) : Type 0 where
   pub few : levels ≤ 8
   pub rising : Rising (loaded held levels)
   pub most : (level : ℕ) → level < levels → getD held level 0 ≤ 1000
-
--- a level block refused: its number "is all that is returned"
-abbrev pub unloadedWith : ℕ → Board
-unloadedWith n = record { answer = load.Refused n; speeds = padded 8 0 [] }

@@ -1,13 +1,12 @@
-// Level blocks, and tables of speeds as the code holds them: eight numbers, of which the first so many are the levels' speeds.
-use plan::Board;
-use plan::Load;
+// Tables of speeds as the code holds them, eight numbers, of which the first so many are the levels' speeds; the length of a level block, and the
+// speeds in it.
 ghost use mathlib.Core.Path.{_≡_};
 ghost use Prim.Native.Nat.{_*_, _≤_};
 ghost use lib.ListN.{length};
 ghost use Rattle.arith.specs.Arrays.{padded};
 ghost use Rattle.arith.specs.Ranges.{listTo};
-ghost use Rattle.plan.specs.LevelBlocks.{levelBitCount, levelLength, levelCountIn, speedAt, risesFrom, readLevels};
-ghost use Rattle.levels.specs.Code.{loaded, unloadedWith};
+ghost use Rattle.plan.specs.LevelBlocks.{levelBitCount, levelLength, speedAt, risesFrom};
+ghost use Rattle.levels.specs.Code.{loaded};
 
 // Whether the first so many numbers rise from above 0 and are at most 1,000: where they rise, the last one tells. A proof learns nothing of
 // a lent array's length, so it is asked.
@@ -37,7 +36,7 @@ pub fn level_length(count: usize) -> usize
 }
 
 // The speeds of a block of so many levels, zeros past them.
-fn speeds_in(block: &[u8], count: usize) -> [u32; 8]
+pub fn speeds_in(block: &[u8], count: usize) -> [u32; 8]
     requires { ⌜ (count ≤ 8) × (levelBitCount count ≤ 8 * length (now block)) ⌝ }
     ensures { λ r. ⌜ r ≡ padded 8 0 (listTo count (speedAt (now (block .entry)))) ⌝ }
 {
@@ -49,55 +48,4 @@ fn speeds_in(block: &[u8], count: usize) -> [u32; 8]
         i += 1;
     }
     speeds
-}
-
-// A refusal, with a table that is zero throughout.
-fn unloaded(n: u32) -> Board
-    ensures { λ r. ⌜ r ≡ unloadedWith n ⌝ }
-{
-    Board {
-        answer: Load::Refused(n),
-        speeds: [0u32; 8],
-    }
-}
-
-// Questions 19 and 20, of a block of which 18 is answered yes.
-fn read_counted(block: &[u8], count: usize) -> Board
-    requires { ⌜ (count ≡ levelCountIn (now block)) × (1 ≤ count) × (count ≤ 8) ⌝ }
-    requires { ⌜ 1 ≤ length (now block) ⌝ }
-    ensures { λ r. ⌜ r ≡ readLevels (now (block .entry)) ⌝ }
-{
-    if block.len() != level_length(count) {
-        return unloaded(19);
-    }
-    let used = 4 + 10 * count;
-    let closing = numeric::bits_at(block, used, 8 * block.len() - used);
-    if closing != 0 {
-        return unloaded(19);
-    }
-    let speeds = speeds_in(block, count);
-    if !rises(&speeds, count) {
-        return unloaded(20);
-    }
-    Board {
-        answer: Load::Levels(count),
-        speeds,
-    }
-}
-
-// A level block read: the questions 18, 19, 20.
-pub fn read_levels(block: &[u8]) -> Board
-    ensures { λ r. ⌜ r ≡ readLevels (now (block .entry)) ⌝ }
-{
-    if block.len() < 1 {
-        return unloaded(18);
-    }
-    let count = numeric::bits_at(block, 0, 4) as usize;
-    if count < 1 {
-        return unloaded(18);
-    }
-    if count > 8 {
-        return unloaded(18);
-    }
-    read_counted(block, count)
 }

@@ -1,6 +1,6 @@
 // A plan read with its list of pairs, and what is answered about such a list.
 use judging::refused;
-use levels::read_levels;
+use level_reading::read_levels;
 use pairs::pairs_good;
 use plan::Judged;
 use plan::Load;

@@ -6,7 +6,7 @@ use answers::paired_number;
 use answers::verdict_number;
 use answers::written_number;
 use judging::judge;
-use levels::read_levels;
+use level_reading::read_levels;
 use paired_reading::ask_pairs;
 use plan_numbers::plan_from;
 use plan_reading::read;

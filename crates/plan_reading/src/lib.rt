@@ -1,7 +1,7 @@
 // Reading a plan block.
 use judging::judged_with;
 use judging::refused;
-use levels::read_levels;
+use level_reading::read_levels;
 use plan::Judged;
 use plan::Load;
 use plan::Plan;

@@ -1,6 +1,6 @@
 // Writing a plan block, bit by bit.
 use admission::verdict_of;
-use levels::read_levels;
+use level_reading::read_levels;
 use plan::Load;
 use plan::Plan;
 use plan::Verdict;

@@ -1,7 +1,7 @@
 // Starting: a state in which every task of a plan has a new job, with an order chosen in it.
 use choosing::choose;
 use fresh_state::fresh;
-use levels::read_levels;
+use level_reading::read_levels;
 use paired_reading::read_paired;
 use plan::Load;
 use plan::Plan;

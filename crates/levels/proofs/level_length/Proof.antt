@@ -2,7 +2,7 @@
 -- Assumes nothing.
 use mathlib.Core.Path.{sym}
 use borrow.Author.Needs.{needs}
-use Rattle.levels.proofs.Loading.{levelLength-is}
+use Rattle.levels.proofs.LevelLaws.{levelLength-is}
 use Rattle.levels.proofs.level_length.Statement.{statement}
 use Rattle.levels.proofs.level_length.Tie as tie
 

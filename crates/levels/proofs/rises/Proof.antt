@@ -6,7 +6,7 @@ use native.Mathlib.Omega.{arith}
 use lib.ListN.{length, drop}
 use Rattle.plan.specs.LevelBlocks.{risesFrom}
 use Rattle.levels.specs.Code.{loaded}
-use Rattle.levels.proofs.Loading.{climbsFrom, climbs-is, rises-not, rises-more, rises-end}
+use Rattle.levels.proofs.LevelLaws.{climbsFrom, climbs-is, rises-not, rises-more, rises-end}
 use Rattle.levels.proofs.rises.Statement.{statement}
 use Rattle.levels.proofs.rises.Tie as tie
 

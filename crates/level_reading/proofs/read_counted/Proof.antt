@@ -6,9 +6,10 @@ use borrow.Author.Needs.{needs}
 use borrow.Author.Tests.{not-true, not-false}
 use lib.ListN.{length}
 use Rattle.plan.specs.LevelBlocks.{levelLength}
-use Rattle.levels.proofs.Loading.{levelLength-covers, levelLength-tight, Counted, Closing, load-size, load-closing, load-falls, load-rises}
-use Rattle.levels.proofs.read_counted.Statement.{statement}
-use Rattle.levels.proofs.read_counted.Tie as tie
+use Rattle.levels.proofs.LevelLaws.{levelLength-covers, levelLength-tight}
+use Rattle.level_reading.proofs.Loading.{Counted, Closing, load-size, load-closing, load-falls, load-rises}
+use Rattle.level_reading.proofs.read_counted.Statement.{statement}
+use Rattle.level_reading.proofs.read_counted.Tie as tie
 
 abbrev start : tie.After-level-length → tie.Start
 start c = c .before .before

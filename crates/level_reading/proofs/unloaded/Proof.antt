@@ -1,8 +1,8 @@
 -- `unloaded` meets its contract.
 -- Assumes nothing.
 use mathlib.Core.Path.{refl}
-use Rattle.levels.proofs.unloaded.Statement.{statement}
-use Rattle.levels.proofs.unloaded.Tie as tie
+use Rattle.level_reading.proofs.unloaded.Statement.{statement}
+use Rattle.level_reading.proofs.unloaded.Tie as tie
 
 returns : tie.Need-returns
 returns c = refl

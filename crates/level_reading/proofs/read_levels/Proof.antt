@@ -2,9 +2,9 @@
 -- Assumes nothing.
 use native.Mathlib.Omega.{arith}
 use borrow.Author.Needs.{needs}
-use Rattle.levels.proofs.Loading.{load-empty, load-low, load-high}
-use Rattle.levels.proofs.read_levels.Statement.{statement}
-use Rattle.levels.proofs.read_levels.Tie as tie
+use Rattle.level_reading.proofs.Loading.{load-empty, load-low, load-high}
+use Rattle.level_reading.proofs.read_levels.Statement.{statement}
+use Rattle.level_reading.proofs.read_levels.Tie as tie
 
 unloaded-requires : tie.Need-unloaded-requires
 unloaded-requires c κs = search needs
