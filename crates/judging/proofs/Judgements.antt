@@ -16,7 +16,7 @@ use Rattle.plan.specs.declared.Verdict.{Verdict}
 use Rattle.plan.specs.declared.Verdict.the-variants as verdict
 use Rattle.plan.specs.LevelBlocks.{loading, speedsIn}
 use Rattle.plan.specs.Answers.{judgedBy, refusedWith, answered}
-use Rattle.plan.specs.Blocks.{noTask, planOf, tasksOf}
+use Rattle.plan.specs.Blocks.{noTask, planOf}
 use Rattle.plan.specs.Questions.{taskQuestions, judging}
 use Rattle.arith.proofs.ArrayLaws.{taken-more}
 use Rattle.arith.proofs.Tests.{both-false}
@@ -86,28 +86,6 @@ module _ (speeds : List ℕ) (ts : List Task) where
 
   pub count-good : (count : ℕ) → 1 ≤ count → count ≤ 16 → firstNo (judging speeds count ts) ≡ firstNo (taskQuestions speeds ts)
   count-good count a b = simp (le-leb 1 count a, le-leb count 16 b)
-
--- what judges a plan, where the first no is known
-abbrev Judges : List ℕ → Plan → Judged → Type 0
-Judges speeds p r = r ≡ judgedBy (firstNo (judging speeds (p .count) (tasksOf p))) speeds (tasksOf p)
-
-module _ (speeds : List ℕ) (p : Plan) {r : Judged} where
-  judged-by : (n : ℕ) → r ≡ judgedBy n speeds (tasksOf p) → firstNo (judging speeds (p .count) (tasksOf p)) ≡ n → Judges speeds p r
-  judged-by n a e = a ∙ sym (ap (λ (k : ℕ). judgedBy k speeds (tasksOf p)) e)
-
-  pub judged-low : r ≡ refusedWith 3 → p .count < 1 → Judges speeds p r
-  judged-low a h = judged-by 3 a (count-low speeds (tasksOf p) (p .count) h)
-
-  pub judged-high : r ≡ refusedWith 3 → 16 < p .count → Judges speeds p r
-  judged-high a h = judged-by 3 a (count-high speeds (tasksOf p) (p .count) h)
-
-  pub judged-good :
-      r ≡ judgedBy (firstNo (taskQuestions speeds (tasksOf p))) speeds (tasksOf p) →
-      1 ≤ p .count →
-      p .count ≤ 16 →
-      Judges speeds p r
-  judged-good a l h =
-      judged-by (firstNo (taskQuestions speeds (tasksOf p))) a (count-good speeds (tasksOf p) (p .count) l h)
 
 -- a refusal's number is all that is told, whatever the tasks are
 pub refused-as :

@@ -1,18 +1,16 @@
-// Judging a plan: a verdict, and the plan that stands beside it.
+// A verdict on a plan whose count is in range, with the plan that stands beside it; a refusal; the empty plan.
 use admission::verdict_of;
-use level_reading::read_levels;
 use plan::Judged;
-use plan::Load;
 use plan::Plan;
 use plan::Task;
 use plan::Verdict;
 ghost use mathlib.Core.Path.{_≡_};
 ghost use mathlib.Core.List.{[]};
 ghost use Prim.Native.Nat.{_≤_};
-ghost use Rattle.plan.specs.Questions.{taskQuestions, judging};
+ghost use Rattle.plan.specs.Questions.{taskQuestions};
 ghost use Rattle.arith.specs.Asking.{firstNo};
 ghost use Rattle.plan.specs.Blocks.{tasksOf, planOf};
-ghost use Rattle.plan.specs.Answers.{judgedBy, judgedPlan, refusedWith};
+ghost use Rattle.plan.specs.Answers.{judgedBy, refusedWith};
 ghost use Rattle.levels.specs.Code.{loaded, Table};
 
 pub fn empty_plan() -> Plan
@@ -75,35 +73,5 @@ pub fn judged_with(speeds: &[u32; 8], levels: usize, p: Plan) -> Judged
             verdict: v,
             plan: cleared(p),
         },
-    }
-}
-
-// A plan judged over a table of speeds: the questions 3, 6, 7, 8.
-pub fn judge_over(speeds: &[u32; 8], levels: usize, p: Plan) -> Judged
-    requires { ⌜ Table (now speeds) levels ⌝ }
-    ensures { λ r. ⌜ r ≡ judgedBy
-        (firstNo (judging (loaded (now (speeds .entry)) levels) (p .count) (tasksOf p)))
-        (loaded (now (speeds .entry)) levels) (tasksOf p) ⌝ }
-{
-    let count = p.count;
-    if count < 1 {
-        return refused(3);
-    }
-    if count > 16 {
-        return refused(3);
-    }
-    judged_with(speeds, levels, p)
-}
-
-// A plan judged over a level block: the questions put to that, then 3, 6, 7, 8.
-pub fn judge(levels: &[u8], p: Plan) -> Judged
-    ensures { λ r. ⌜ r ≡ judgedPlan (now (levels .entry)) p ⌝ }
-{
-    let board = read_levels(levels);
-    let answer = board.answer;
-    let speeds = board.speeds;
-    match answer {
-        Load::Refused(n) => refused(n),
-        Load::Levels(count) => judge_over(&speeds, count, p),
     }
 }

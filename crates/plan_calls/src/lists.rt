@@ -1,8 +1,8 @@
 // A list of tasks that C lends, judged.
 use answers::verdict_number;
-use judging::judge;
 use plan::Plan;
 use plan::Task;
+use plan_judging::judge;
 use task_list::gathered;
 ghost use mathlib.Core.Path.{_≡_};
 ghost use lib.ListN.{length};

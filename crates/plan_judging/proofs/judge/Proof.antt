@@ -7,9 +7,9 @@ use Rattle.arith.specs.Asking.{Question}
 use Rattle.plan.specs.Blocks.{tasksOf}
 use Rattle.plan.specs.Questions.{judging}
 use Rattle.levels.proofs.Tables.{Loads, told-loaded, told-unloaded}
 use Rattle.judging.proofs.Judgements.{entered-refused, entered-loaded}
-use Rattle.judging.proofs.judge.Statement.{statement}
-use Rattle.judging.proofs.judge.Tie as tie
+use Rattle.plan_judging.proofs.judge.Statement.{statement}
+use Rattle.plan_judging.proofs.judge.Tie as tie
 
 abbrev start : tie.After-read-levels → tie.Start
 start c = c .before .before

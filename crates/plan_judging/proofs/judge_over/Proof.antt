@@ -5,9 +5,9 @@ use mathlib.Core.List.{List}
 use native.Mathlib.Omega.{arith}
 use borrow.Author.Needs.{needs}
 use Rattle.levels.specs.Code.{loaded}
-use Rattle.judging.proofs.Judgements.{judged-low, judged-high, judged-good}
-use Rattle.judging.proofs.judge_over.Statement.{statement}
-use Rattle.judging.proofs.judge_over.Tie as tie
+use Rattle.plan_judging.proofs.Counting.{judged-low, judged-high, judged-good}
+use Rattle.plan_judging.proofs.judge_over.Statement.{statement}
+use Rattle.plan_judging.proofs.judge_over.Tie as tie
 
 -- the levels' speeds
 abbrev speeds : tie.Start → List ℕ
