@@ -1,29 +1,28 @@
 -- The calls on plans as C sees them: answers that fit one number.
 -- Assumes nothing.
-use Prim.Native.Nat.{ℕ, zero, suc, _+_, _*_, _^_, _<_, _≤_}
+use Prim.Native.Nat.{ℕ, zero, suc, _+_, _^_, _<_, _≤_}
 use mathlib.Core.Path.{_≡_, refl, sym, subst}
 use mathlib.Core.List.{List, [], _∷_, _++_}
 use native.Mathlib.Omega.{arith}
 use lib.ListN.{length, length-take}
-use Rattle.plan.specs.declared.Task.{Task}
 use Rattle.plan.specs.declared.Plan.{Plan}
 use Rattle.plan.specs.declared.Judged.{Judged}
 use Rattle.plan.specs.declared.Written.{Written}
 use Rattle.plan.specs.declared.Board.{Board}
 use Rattle.plan.specs.declared.Paired.{Paired}
-use Rattle.plan.specs.Levels.{hyperperiod, nominal}
 use Rattle.plan.specs.LevelBlocks.{speedsIn, loading, boardBy, readLevels}
 use Rattle.plan.specs.Blocks.{tasksOf, tasksIn, editionIn, countIn, editionOf, planBlock}
 use Rattle.plan.specs.Questions.{judging, reading, writing, roomQuestion}
 use Rattle.arith.specs.Asking.{Question, firstNo}
-use Rattle.plan.specs.Answers.{answered, judgedBy, judgedPlan, readBlock, writeNumber, writtenBy, writePlan, copyNumber}
+use Rattle.plan.specs.Answers.{readBlock, writeNumber, writtenBy, writePlan, copyNumber}
 use Rattle.plan.specs.Pairs.{pairsIn, pairsQuestion, pairNumber, askPairs}
 use Rattle.plan.specs.Numbers.{loadNumber, verdictNumber, writtenNumber, pairedNumber}
 use Rattle.plan.proofs.LevelBlockLaws.{loaded-table}
 use Rattle.plan.proofs.NumberLaws.{written-most, paired-most}
-use Rattle.plan.proofs.Facts.{FineTasks, FineList, FineBlock, fine-list, fine-block}
+use Rattle.plan.proofs.Facts.{FineList, FineBlock, fine-list, fine-block}
 use Rattle.plan.proofs.PairLaws.{pairs-few}
 use Rattle.plan.proofs.BlockBits.{length-planBlock, blockLength-most}
+use Rattle.judged_numbers.proofs.Verdicts.{entered-most}
 use Rattle.arith.proofs.QuestionLaws.{firstNo-most, yes-of, yes-after, all-yes}
 
 -- what reading a level block answers fits: a refusal's number is small, and so is a count of levels
@@ -36,45 +35,12 @@ load-most levels e =
     subst (λ (x : Board). loadNumber (x .answer) < 2 ^ 36) (sym e)
     (board-most (firstNo (loading levels)) (speedsIn levels) (firstNo-most 255 (loading levels) refl) (λ z. loaded-table levels z .few))
 
--- and so does a verdict, over accepted levels: there are at most eight
-packed-most : (level span : ℕ) → level < 8 → span ≤ 1000000 → 256 * level + 65536 * span < 2 ^ 36
-packed-most level span a b = omega arith
-
-verdict-most :
-    (speeds : List ℕ) (n : ℕ) (ts : List Task) →
-    n ≤ 255 →
-    (n ≡ 0 → length speeds ≤ 8) →
-    (n ≡ 0 → FineTasks speeds ts) →
-    verdictNumber (answered n speeds ts) < 2 ^ 36
-verdict-most speeds zero ts h few f =
-    packed-most (nominal speeds ts) (hyperperiod ts) (omega (arith, f refl .admitted, few refl)) (f refl .span-most)
-verdict-most speeds (suc n) ts h few f = omega arith
-
--- where some questions come after those put to a level block, and leave fine tasks
+-- and so does a verdict on a block that is read
 module _ (levels : List ℕ) where
-  entered-most :
-      (rest : List Question) (ts : List Task) →
-      firstNo (loading levels ++ rest) ≤ 255 →
-      (firstNo rest ≡ 0 → FineTasks (speedsIn levels) ts) →
-      {j : Judged} →
-      j ≡ judgedBy (firstNo (loading levels ++ rest)) (speedsIn levels) ts →
-      verdictNumber (j .verdict) < 2 ^ 36
-  entered-most rest ts h f e =
-      subst (λ (x : Judged). verdictNumber (x .verdict) < 2 ^ 36) (sym e)
-      (verdict-most (speedsIn levels) (firstNo (loading levels ++ rest)) ts h
-      (λ z. loaded-table levels (yes-of (loading levels) rest z) .few)
-      (λ z. f (yes-after (loading levels) rest refl z)))
-
-  pub judged-most : (p : Plan) {j : Judged} → j ≡ judgedPlan levels p → verdictNumber (j .verdict) < 2 ^ 36
-  judged-most p =
-      let asked : List Question = judging (speedsIn levels) (p .count) (tasksOf p) in
-      entered-most asked (tasksOf p) (firstNo-most 255 (loading levels ++ asked) refl)
-      (λ z. fine-list (speedsIn levels) (p .count) (tasksOf p) z .tasks)
-
   pub read-most : (block : List ℕ) {j : Judged} → j ≡ readBlock levels block → verdictNumber (j .verdict) < 2 ^ 36
   read-most block =
       let asked : List Question = reading (speedsIn levels) block in
-      entered-most asked (tasksIn block) (firstNo-most 255 (loading levels ++ asked) refl)
+      entered-most levels asked (tasksIn block) (firstNo-most 255 (loading levels ++ asked) refl)
       (λ z. fine-block (speedsIn levels) block z .tasks)
 
   -- and what is answered about pairs, of which a good list has at most 16

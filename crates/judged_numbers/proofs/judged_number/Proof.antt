@@ -4,9 +4,9 @@ use mathlib.Core.Path.{ap, _∙_}
 use borrow.Author.Needs.{needs}
 use Rattle.plan.specs.declared.Judged.{Judged}
 use Rattle.plan.specs.Numbers.{verdictNumber}
-use Rattle.plan_calls.proofs.Packing.{judged-most}
-use Rattle.plan_calls.proofs.lists.judged_number.Statement.{statement}
-use Rattle.plan_calls.proofs.lists.judged_number.Tie as tie
+use Rattle.judged_numbers.proofs.Verdicts.{judged-most}
+use Rattle.judged_numbers.proofs.judged_number.Statement.{statement}
+use Rattle.judged_numbers.proofs.judged_number.Tie as tie
 
 -- first, so that a wrong answer is refused here
 returns : tie.Need-returns
