@@ -30,6 +30,9 @@
  * later task runs, the earlier one's job that arrived at the same tick has finished. So what it wrote
  * is there to be read. No order depends on the list, and the state does not keep it.
  *
+ * The queue has the ticks that the plain schedule has left for each job. How many these are in all, the
+ * state keeps at its end, and kilmstra_queued says it at once, as a radio may ask before every burst.
+ *
  * What holds for every call:
  * - It answers with one number, a reply. The functions at the end of this file take it apart.
  * - A reply is a refusal, with a number of enum kilmstra_refusal, or else what the call says below.
@@ -60,7 +63,7 @@ enum {
     KILMSTRA_TASKS = 16,             /* a plan has at most so many */
     KILMSTRA_LEVELS = 8,             /* a level block has at most so many */
     KILMSTRA_PAIRS = 16,             /* a list of pairs has at most so many */
-    KILMSTRA_STATE_BYTES = 217,      /* a state has exactly so many */
+    KILMSTRA_STATE_BYTES = 221,      /* a state has exactly so many */
     KILMSTRA_LEVEL_BLOCK_BYTES = 11, /* enough for every level block */
     KILMSTRA_BLOCK_BYTES = 96,       /* enough for every plan block */
     KILMSTRA_PAIRS_BYTES = 32,       /* enough for every list of pairs */
@@ -95,7 +98,7 @@ enum kilmstra_refusal {
     KILMSTRA_OVERLOAD = 8,            /* the plan is too much for the highest level */
     KILMSTRA_WRONG_PAIRS = 22,        /* more than 16 pairs, an odd byte, or a pair that is not good */
     KILMSTRA_SHORT_BUFFER = 9,        /* what is to be written does not fit the lent buffer */
-    KILMSTRA_UNSOUND_STATE = 10,      /* not exactly 217 bytes, or they do not agree with each other */
+    KILMSTRA_UNSOUND_STATE = 10,      /* not exactly 221 bytes, or they do not agree with each other */
     KILMSTRA_NO_TICK = 11,            /* d is 0 */
     KILMSTRA_PAST_ARRIVAL = 12,       /* d goes past the next arrival */
     KILMSTRA_NOTHING_RUNS = 13,       /* finished, though the order is to stay idle */
@@ -115,9 +118,9 @@ struct kilmstra_task {
 
 /* Starts a plan, with its list of pairs, over the speeds of a level block at tick 0, where a job of
  * every task arrives, and answers with the first order.
- * Writes the first 217 bytes of state; bytes past them stay as they were.
+ * Writes the first 221 bytes of state; bytes past them stay as they were.
  * Refuses with 18 to 20, then with 1 to 6, 21, 7, 8, as reading the two blocks does, then with 22 if
- * the list is not good, then with 9 if state has fewer than 217 bytes. */
+ * the list is not good, then with 9 if state has fewer than 221 bytes. */
 uint64_t kilmstra_start(const uint8_t *levels, size_t levels_len,
                         const uint8_t *block, size_t block_len,
                         const uint8_t *pairs, size_t pairs_len, uint8_t *state, size_t state_len);
@@ -125,7 +128,7 @@ uint64_t kilmstra_start(const uint8_t *levels, size_t levels_len,
 /* Says that d ticks went by, and whether the running job finished at their end (0 for no, anything
  * else for yes). Brings the state up to date and answers with the order that stands from then on: a
  * new one if a job finished or arrived, else the old one with what is left of its hold.
- * Writes within the 217 bytes of state.
+ * Writes within the 221 bytes of state.
  * Refuses with 10 if the state is not sound, then with 11 to 15. */
 uint64_t kilmstra_pass(uint8_t *state, size_t state_len, uint32_t d, uint8_t finished);
 
@@ -135,6 +138,15 @@ uint64_t kilmstra_pass(uint8_t *state, size_t state_len, uint32_t d, uint8_t fin
  * Leaves the state, and the bytes of buffer past those written, as they were.
  * Refuses with 10 if the state is not sound, then with 9 if the queue does not fit. */
 uint64_t kilmstra_show(const uint8_t *state, size_t state_len, uint8_t *buffer, size_t buffer_len);
+
+/* Answers with the total of the plain ticks queued, which stands in the reply from bit 8 on. After the
+ * start and every accepted pass it is the sum over the queue that kilmstra_show shows; ticks that no
+ * pass has told yet are still in it. It is read from the last four bytes of state and goes through no
+ * entry: it costs as little with 16 tasks as with one, and can be asked before every radio burst.
+ * Leaves the state as it was.
+ * Refuses with 10 if state has not exactly 221 bytes, and asks nothing else. Of 221 bytes that passing
+ * and showing refuse as not sound, the answer is what stands there, any number of 32 bits. */
+uint64_t kilmstra_queued(const uint8_t *state, size_t state_len);
 
 /* Reads a level block and answers with the count of its levels. Writes nothing.
  * Refuses with 18 to 20. */
@@ -160,7 +172,7 @@ uint64_t kilmstra_plan_read(const uint8_t *levels, size_t levels_len,
                             const uint8_t *block, size_t block_len);
 
 /* Says, before a plan is started, whether a list of pairs is good for it, and answers with the count
- * of the pairs. What is accepted here, starting accepts for every state of 217 bytes or more; what is
+ * of the pairs. What is accepted here, starting accepts for every state of 221 bytes or more; what is
  * refused here, starting refuses with the same number. Writes nothing.
  * Refuses with 18 to 20, then with 1 to 6, 21, 7, 8, as reading the two blocks does, then with 22 if
  * the list is not good. */
@@ -234,6 +246,13 @@ static inline uint32_t kilmstra_order_hold(uint64_t reply)
 static inline size_t kilmstra_byte_count(uint64_t reply)
 {
     return (size_t)(reply >> 8);
+}
+
+/* A reply of asking for the total that is no refusal. */
+
+static inline uint32_t kilmstra_total(uint64_t reply)
+{
+    return (uint32_t)(reply >> 8);
 }
 
 /* A reply of reading a level block that is no refusal. */

@@ -2,7 +2,7 @@
 # Builds the C programs of this folder over the proved library, as C99 and as C++, plain and with the
 # compiler's checks at run time, then over an installed copy. What a program prints must be what its
 # file .out has. readme.c has in it the very lines of C in the README at the top. Looks at the code of the
-# rounding-up division, and tries './run' too.
+# rounding-up division and of asking for the total, and tries './run' too.
 # The very last line is 'N passed, M failed'.
 set -u -o pipefail
 cd "$(dirname "${BASH_SOURCE[0]}")" || exit 2
@@ -96,6 +96,15 @@ wants_no_more_than_memory_functions() {
     ! awk 'NF > 1 { print $1 }' <<<"$wanted" | grep -vxE 'memcpy|memmove|memset|memcmp'
 }
 
+# The header and the archive have the same calls.
+has_the_calls_of_the_header() {
+    local there
+    there=$(nm --defined-only --extern-only --format=posix "$work/installed/lib/libkilmstra.a") || return
+    sed -nE 's/^uint64_t (kilmstra_[a-z_]+)\(.*/\1/p' kilmstra.h | sort >"$work/declared"
+    awk '$2 == "T" && /^kilmstra_/ { print $1 }' <<<"$there" | sort >"$work/defined"
+    grep -qx kilmstra_queued "$work/declared" && diff "$work/declared" "$work/defined"
+}
+
 # How many instructions of a function have such a name.
 instructions() { # PATTERN FUNCTION ARCHIVE
     objdump -d --no-show-raw-insn "$top/target/staticlib/lib$3.a" |
@@ -114,6 +123,18 @@ rounds_up_without_a_branch() {
     [ "$(instructions div time_needed time_needed)" = 1 ] &&
         [ "$(instructions "$jumps" time_needed time_needed)" = 0 ] &&
         [ "$(instructions "$jumps" kilmstra_pass dispatcher_calls)" -gt 0 ]
+}
+
+# 02, No. 6: asking for the total goes through no entry. It has no call, and its only jump is that of a
+# wrong length, so none of its instructions is done twice; and they are fewer than two for each entry,
+# which to load and to add it would take.
+asks_without_going_through_the_entries() {
+    local all
+    objdump -d --no-show-raw-insn "$top/target/staticlib/libdispatcher_calls.a" | grep -A 20 '<kilmstra_queued>:'
+    all=$(instructions '.' kilmstra_queued dispatcher_calls)
+    [ "$all" -gt 0 ] && [ "$all" -lt 32 ] &&
+        [ "$(instructions 'loop|call' kilmstra_queued dispatcher_calls)" = 0 ] &&
+        [ "$(instructions j kilmstra_queued dispatcher_calls)" -le 1 ]
 }
 
 runs_the_bench_program() {
@@ -135,8 +156,10 @@ try 'make install' installs
 for source in *.c; do
     try "${source%.c}, over the installed copy" over_the_installed_copy "${source%.c}"
 done
+try 'the installed archive has the calls of the header' has_the_calls_of_the_header
 try 'the installed archive wants no more than memory functions' wants_no_more_than_memory_functions
 try 'the rounding-up division has no branch' rounds_up_without_a_branch
+try 'asking for the total goes through no entry' asks_without_going_through_the_entries
 try './run' runs_the_bench_program
 
 echo "$passed passed, $failed failed"

@@ -33,7 +33,7 @@ use Rattle.soundness.specs.Code.{Good}
 use Rattle.ticks.specs.Code.{Stepping, renewedKeys}
 use Rattle.reclaiming.proofs.Fine.{FineEntries, Accepted}
 use Rattle.reclaiming.proofs.StateCodec.{Storable, StorableTable, decode-encode, length-encode}
-use Rattle.reclaiming.proofs.Soundness.{planIn-at, length-planIn, pass-accepted, entries-storable, fine-small, sound-state}
+use Rattle.reclaiming.proofs.Soundness.{planIn-at, length-planIn, pass-accepted, entries-storable, total-storable, fine-small, sound-state}
 use Rattle.reclaiming.proofs.NextArrival.{next-arrives, before-next, next-on}
 use Rattle.reclaiming.proofs.PassedStates.{passed-entries}
 use Rattle.reclaiming.proofs.PassSound.{moved-fine, anew-ahead}
@@ -122,6 +122,7 @@ module _ {speeds : List ℕ} {s : State} {d : ℕ} {finished : Bool} (k : Lettin
         count = omega (arith, moved-count, entries-few speeds (k .rising) s (k .ok));
         entries = entries-storable speeds (planIn s) moved plan (k .rising) moved-facts;
         table = k .stored;
+        total = total-storable speeds (planIn s) moved plan (k .rising) moved-facts;
       }
 
   -- where an order is chosen anew, every job can be done in its ticks at the nominal level

@@ -3,11 +3,12 @@ use plan::Load;
 use plan::Paired;
 use plan::Verdict;
 use plan::Written;
+use reclaiming::Queued;
 use reclaiming::Reply;
 ghost use mathlib.Core.Path.{_≡_};
 ghost use Prim.Native.Nat.{_<_, _^_};
 ghost use Rattle.plan.specs.Numbers.{loadNumber, verdictNumber, writtenNumber, pairedNumber};
-ghost use Rattle.reclaiming.specs.Numbers.{replyNumber};
+ghost use Rattle.reclaiming.specs.Numbers.{replyNumber, queuedNumber};
 
 // What reading a level block answers as one number.
 pub fn load_number(l: Load) -> u64
@@ -53,6 +54,16 @@ pub fn paired_number(p: Paired) -> u64
     match p {
         Paired::Refused(n) => n as u64,
         Paired::Pairs(n) => 256 * (n as u64),
+    }
+}
+
+// What asking for the total answers as one number.
+pub fn queued_number(q: Queued) -> u64
+    ensures { λ r. ⌜ r ≡ queuedNumber q ⌝ }
+{
+    match q {
+        Queued::Refused(n) => n as u64,
+        Queued::Ticks(n) => 256 * (n as u64),
     }
 }
 

@@ -55,6 +55,26 @@ sumOf-taken f l d (suc n) h =
 pub sumOf-places {ℓ} : {A : Type ℓ} (f : A → ℕ) (l : List A) (d : A) → sumOf f l ≡ sumTo (length l) (λ i. f (getD l i d))
 sumOf-places f l d = ap (λ x. sumOf f x) (sym (take-length l)) ∙ sym (sumOf-taken f l d (length l) (omega arith))
 
+-- numbers that are each at most k
+pub sumTo-most : (n : ℕ) (f : ℕ → ℕ) (k : ℕ) → ((i : ℕ) → i < n → f i ≤ k) → sumTo n f ≤ k * n
+sumTo-most zero f k h = omega arith
+sumTo-most (suc n) f k h = omega (arith, sumTo-most n f k (λ i l. h i (omega arith)), h n (omega arith))
+
+pub sumOf-most {ℓ} : {A : Type ℓ} (f : A → ℕ) (l : List A) (k : ℕ) (d : A) → ((i : ℕ) → i < length l → f (getD l i d) ≤ k) → sumOf f l ≤ k * length l
+sumOf-most f l k d h = omega (arith, sumOf-places f l d, sumTo-most (length l) (λ i. f (getD l i d)) k h)
+
+-- numbers of which all but one are the same
+pub sumTo-but :
+    (n : ℕ) (f g : ℕ → ℕ) (i : ℕ) → i < n → ((j : ℕ) → j < n → (j ≡ i → ⊥) → g j ≡ f j) → sumTo n g + f i ≡ sumTo n f + g i
+sumTo-but zero f g i h same = absurd (not-suc-le-zero h)
+sumTo-but (suc n) f g i h same =
+    elim (testEq n i) as (λ b _. sumTo n g + g n + f i ≡ sumTo n f + f n + g i) [
+      | eq-yes e ↦
+          subst (λ (k : ℕ). sumTo n g + g n + f k ≡ sumTo n f + f n + g k) e
+          (omega (arith, sumTo-eq n g f (λ j l. same j (omega arith) (λ z. omega (arith, e, z)))))
+      | eq-not e ↦ omega (arith, sumTo-but n f g i (omega arith) (λ j l z. same j (omega arith) z), same n (omega arith) e)
+    ]
+
 -- a term is at most the sum
 pub sumTo-term : (n : ℕ) (f : ℕ → ℕ) (i : ℕ) → i < n → f i ≤ sumTo n f
 sumTo-term zero f i h = absurd (not-suc-le-zero h)

@@ -1,1 +1,3 @@
 pub mod ArriveLaws
+pub mod EntryStores
+pub mod TotalLaws

@@ -1,6 +1,6 @@
 -- What arrivals make of a block and of a state.
 -- Assumes nothing.
-use Prim.Native.Nat.{ℕ}
+use Prim.Native.Nat.{ℕ, _<_, _≤_}
 use mathlib.Core.List.{List}
 use lib.ListN.{getD}
 use Rattle.arith.specs.Choice.{pick}
@@ -9,6 +9,10 @@ use Rattle.plan.specs.Times.{whole, taskTime}
 use Rattle.reclaiming.specs.StateBlock.{State, noEntry, remainingOf, restOf, taskOf, remainingField}
 use Rattle.state.specs.Code.{entryIn, entryStored, restStored, withJobs}
 use Rattle.urgency.specs.Code.{dueAt}
+
+-- each of so many tasks' allotment at a speed fits the two bytes that the remaining ticks have
+abbrev pub Allots : List ℕ → ℕ → ℕ → Type 0
+Allots bytes count speed = (i : ℕ) → i < count → taskTime speed (taskOf (entryIn bytes i)) ≤ 65535
 
 -- the block in which task i has a new job at a speed
 abbrev pub renewedBytes : List ℕ → ℕ → ℕ → List ℕ

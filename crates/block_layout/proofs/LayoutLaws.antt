@@ -4,7 +4,7 @@
 use Prim.Native.Nat.{ℕ, zero, suc, _+_, _-_, _*_, _<_, _≤_}
 use mathlib.Core.Path.{_≡_, refl, sym, ap, ap₂, _∙_}
 use mathlib.Core.Bool.{Bool, true, false}
-use mathlib.Core.List.{List, [], _∷_, _++_, append-nil, append-assoc}
+use mathlib.Core.List.{List, [], _∷_, _++_, append-assoc}
 use native.Mathlib.Nat.{one-le-pow}
 use native.Mathlib.Numerals.{add-one}
 use native.Mathlib.Omega.{arith}
@@ -19,8 +19,8 @@ use Rattle.arith.specs.Digits.{number, digits}
 use Rattle.arith.proofs.Tests.{same-test}
 use Rattle.arith.proofs.DigitLaws.{length-digits, number-digits, digits-number}
 use Rattle.reclaiming.specs.Fields.{Field, field, zeros, fieldsBytes, fieldsLength, offsetOf, readField}
-use Rattle.reclaiming.specs.StateBlock.{State, headFields, zeroField, entryFields, tailFields, places, headLength, entryLength, tailAt, stateLength}
-use Rattle.reclaiming.specs.StateBlock.{levelPlaces, speedField, speedIn, entryBytes, entriesBytes, encode, entryFrom, entriesFrom, stateCount, decode, sameBytes, laidOut}
+use Rattle.reclaiming.specs.StateBlock.{State, headFields, zeroField, entryFields, tailFields, endFields, places, headLength, entryLength, tailAt, stateLength}
+use Rattle.reclaiming.specs.StateBlock.{levelPlaces, speedField, speedIn, entryBytes, entriesBytes, tailBytes, encode, entryFrom, entriesFrom, stateCount, decode, sameBytes, laidOut}
 use Rattle.state.specs.Code.{entryAt, unusedZero}
 use Rattle.reclaiming.proofs.StateCodec.{pastHead, speed-back, length-entriesFrom, same-bytes, bytes-same}
 use Rattle.state.proofs.TailLaws.{levels-in, speed-small, speeds-same, same-unused}
@@ -225,14 +225,23 @@ module _ {block : List ℕ} (known : BlockBytes block) where
   tail-bytes : (k : ℕ) → getD tail k 0 < 256
   tail-bytes = bytes-past tailAt block (known .bytes)
 
+  tail-length : length tail ≡ stateLength - tailAt
+  tail-length = length-drop tailAt block ∙ ap (λ (n : ℕ). n - tailAt) (known .size)
+
+  -- the total is what it is written as, whatever it is
+  total-written : sameBytes (fieldsBytes endFields s) (drop (fieldsLength tailFields) tail) ≡ true
+  total-written =
+      let at : ℕ = fieldsLength tailFields in
+      let end : at + fieldsLength endFields ≡ length tail = omega (arith, tail-length) in
+      same-fields s tail [] tail-bytes endFields at (omega (arith, tail-length))
+      (λ i. number 256 4 (sym (drop-drop at tailAt block) i) ∷ [])
+      ∙ ap (λ (l : List ℕ). sameBytes [] l) (ap (λ (k : ℕ). drop k tail) end ∙ drop-length tail)
+
   -- where each place has the state's speed, the tail is what it is written as
-  tail-written : unusedZero block ≡ true → sameBytes (fieldsBytes tailFields s) tail ≡ true
+  tail-written : unusedZero block ≡ true → sameBytes (tailBytes s) tail ≡ true
   tail-written z =
-      let size : length tail ≡ fieldsLength tailFields = omega (arith, length-drop tailAt block, known .size) in
-      let end : 0 + fieldsLength tailFields ≡ length tail = omega arith in
       let speed : (k : ℕ) → k < levelPlaces → getD (s .speeds) k 0 ≡ speedIn block k = speeds-same block z in
-      ap (λ (l : List ℕ). sameBytes l tail) (sym (append-nil (fieldsBytes tailFields s)))
-      ∙ same-fields s tail [] tail-bytes tailFields 0 (omega arith)
+      same-fields s tail (fieldsBytes endFields s) tail-bytes tailFields 0 (omega (arith, tail-length))
       (λ i. levels-in block i
       ∷ speed 0 (omega arith) i
       ∷ speed 1 (omega arith) i
@@ -243,25 +252,25 @@ module _ {block : List ℕ} (known : BlockBytes block) where
       ∷ speed 6 (omega arith) i
       ∷ speed 7 (omega arith) i
       ∷ [])
-      ∙ ap (λ (l : List ℕ). sameBytes [] l) (ap (λ (k : ℕ). drop k tail) end ∙ drop-length tail)
+      ∙ total-written
 
   -- and the other way round: each place is read as what was written there
-  tail-read : sameBytes (fieldsBytes tailFields s) tail ≡ true → unusedZero block ≡ true
+  tail-read : sameBytes (tailBytes s) tail ≡ true → unusedZero block ≡ true
   tail-read z =
       same-unused block
       (λ k h.
       let small : getD (s .speeds) k 0 < 65536 = speed-small block (known .bytes) k h in
-      sym (speed-back s k h small) ∙ ap (λ (l : List ℕ). readField tailFields (speedField k) l) (same-bytes (fieldsBytes tailFields s) tail z))
+      sym (speed-back s k h small) ∙ ap (λ (l : List ℕ). readField tailFields (speedField k) l) (same-bytes (tailBytes s) tail z))
 
-  tail-same : sameBytes (fieldsBytes tailFields s) tail ≡ unusedZero block
-  tail-same = same-test (sameBytes (fieldsBytes tailFields s) tail) (unusedZero block) tail-read tail-written
+  tail-same : sameBytes (tailBytes s) tail ≡ unusedZero block
+  tail-same = same-test (sameBytes (tailBytes s) tail) (unusedZero block) tail-read tail-written
 
   entries-same : sameBytes (pastHead s) (drop headLength block) ≡ both (zerosPast block) (unusedZero block)
   entries-same =
       let n : ℕ = stateCount block in
       let m : ℕ = entryLength * (places - n) in
       let l : List ℕ = drop headLength block in
-      let last : List ℕ = fieldsBytes tailFields s in
+      let last : List ℕ = tailBytes s in
       let p : headLength + (entryLength * n + m) ≡ tailAt = omega (arith, known .few) in
       let q : entryAt n + m ≡ tailAt = omega (arith, known .few) in
       ap (λ (k : ℕ). sameBytes (entriesBytes (entriesFrom n l) ++ (replicate (entryLength * (places - k)) 0 ++ last)) l) (count-in block)

@@ -9,7 +9,7 @@ use Rattle.reclaiming.specs.StateBlock.{State, encode, decode, taskField, level
 use Rattle.reclaiming.specs.Orders.{nextArrival, withOrder}
 use Rattle.state.specs.Code.{headStored, timingIn}
 use Rattle.orders.specs.Code.{choiceOf, chosenIn, chosenReply, holdBy, orderOf}
-use Rattle.reclaiming.proofs.PassedStates.{choose-clock, choose-entries, choose-speeds}
+use Rattle.reclaiming.proofs.PassedStates.{choose-clock, choose-entries, choose-speeds, choose-total}
 use Rattle.state.proofs.BlockLaws.{store-order}
 use Rattle.orders.proofs.OrderLaws.{hold-is}
 
@@ -24,7 +24,7 @@ module _ {speeds b : List ℕ} {next : ℕ} {c : Choice} (k : Chosen speeds b ne
   abbrev N : State
   N = chosenIn speeds b
 
-  -- choosing leaves the clock, the entries and the speeds
+  -- choosing leaves the clock, the entries, the speeds and the total
   order-only : withOrder (decode b) (N .task) (N .level) ≡ N
   order-only = λ i. record {
     clock = sym (choose-clock speeds (timingIn speeds b) (decode b)) i;
@@ -32,6 +32,7 @@ module _ {speeds b : List ℕ} {next : ℕ} {c : Choice} (k : Chosen speeds b ne
     level = N .level;
     entries = sym (choose-entries speeds (timingIn speeds b) (decode b)) i;
     speeds = sym (choose-speeds speeds (timingIn speeds b) (decode b)) i;
+    total = sym (choose-total speeds (timingIn speeds b) (decode b)) i;
   }
 
   pub choose-stored : {m : List ℕ} → m ≡ headStored (headStored b taskField (c .task)) levelField (c .level) → m ≡ encode N

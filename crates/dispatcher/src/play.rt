@@ -10,7 +10,7 @@ ghost use mathlib.Core.Path.{_≡_};
 ghost use lib.ListN.{length};
 ghost use Rattle.reclaiming.specs.Calls.{isOrder, startReply};
 ghost use Rattle.reclaiming.specs.Numbers.{replyNumber};
-ghost use Rattle.reclaiming.specs.Play.{playedPasses, playedState, playedReplies, PlayedOnTime, PlayedInTime, PlayedMostUrgent, PlayedPairsKept};
+ghost use Rattle.reclaiming.specs.Play.{playedPasses, playedState, playedReplies, PlayedOnTime, PlayedInTime, PlayedMostUrgent, PlayedPairsKept, PlayedTotalTold};
 ghost use Rattle.reclaiming.specs.Play.{playedShown, playedQueue, PlayedQueueShown};
 
 // Whether a reply is an order, and no refusal.
@@ -44,6 +44,7 @@ pub fn play(
     ensures { λ r. ⌜ PlayedInTime (now (levels .entry)) (now (block .entry)) r (playedPasses (now (passes .entry)) (length (now (replies .entry)))) (now (replies .exit)) ⌝ }
     ensures { λ r. ⌜ PlayedMostUrgent (now (levels .entry)) (now (block .entry)) r (playedPasses (now (passes .entry)) (length (now (replies .entry)))) (now (replies .exit)) ⌝ }
     ensures { λ r. ⌜ PlayedPairsKept (now (levels .entry)) (now (block .entry)) r (playedPasses (now (passes .entry)) (length (now (replies .entry)))) (now (replies .exit)) (now (pairs .entry)) ⌝ }
+    ensures { λ r. ⌜ PlayedTotalTold (now (levels .entry)) (now (block .entry)) r (playedPasses (now (passes .entry)) (length (now (replies .entry)))) (now (replies .exit)) (now (state .exit)) ⌝ }
 {
     let first = start(levels, block, pairs, state);
     if !is_order(first) {

@@ -1,16 +1,18 @@
 // The dispatcher's calls, for C and for tests: on numbers and lent slices, an answer packed into one number.
+use answers::queued_number;
 use answers::reply_number;
 use answers::written_number;
 use passing::pass;
 use showing::show;
 use starting::start;
+use totals::queued;
 ghost use mathlib.Core.Path.{_≡_};
 ghost use lib.ListN.{length};
 ghost use Rattle.plan.specs.Numbers.{writtenNumber};
-ghost use Rattle.reclaiming.specs.Calls.{startReply, startBuffer, passReply, passBytes, showReply, showBuffer};
-ghost use Rattle.reclaiming.specs.Numbers.{replyNumber, isYes};
+ghost use Rattle.reclaiming.specs.Calls.{startReply, startBuffer, passReply, passBytes, showReply, showBuffer, queuedReply};
+ghost use Rattle.reclaiming.specs.Numbers.{replyNumber, queuedNumber, isYes};
 
-// Starts a plan's block with its list of pairs over a level block into a state of 217 bytes: 18 to 20, 1 to 9, 21 or 22 is a refusal's
+// Starts a plan's block with its list of pairs over a level block into a state of 221 bytes: 18 to 20, 1 to 9, 21 or 22 is a refusal's
 // number; else the order.
 #[no_mangle]
 pub extern "C" fn kilmstra_start(levels: &[u8], block: &[u8], pairs: &[u8], state: &mut [u8]) -> u64
@@ -39,4 +41,14 @@ pub extern "C" fn kilmstra_show(state: &[u8], buffer: &mut [u8]) -> u64
 {
     let w = show(state, buffer);
     written_number(w)
+}
+
+// Tells how many plain ticks are queued in all, without going through the entries of the state: 10 is a refusal's number; else the total
+// stands from bit 8 on.
+#[no_mangle]
+pub extern "C" fn kilmstra_queued(state: &[u8]) -> u64
+    ensures { λ r. ⌜ r ≡ queuedNumber (queuedReply (now (state .entry))) ⌝ }
+{
+    let q = queued(state);
+    queued_number(q)
 }

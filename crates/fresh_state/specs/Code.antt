@@ -6,14 +6,8 @@ use lib.ListN.{length}
 use Rattle.arith.specs.Ranges.{listTo}
 use Rattle.plan.specs.declared.Task.{Task}
 use Rattle.reclaiming.specs.StateBlock.{State, timingAt}
-use Rattle.reclaiming.specs.Passes.{newEntry}
+use Rattle.reclaiming.specs.Passes.{newEntry, stateWith}
 
 -- the state in which every task of a plan has a new job at a speed, with a table of speeds, before an order is chosen
 abbrev pub newState : List ℕ → ℕ → List Task → State
-newState speeds speed ts = record {
-  clock = 0;
-  task = 255;
-  level = 0;
-  entries = listTo (length ts) (newEntry (timingAt speed ts) ts);
-  speeds = speeds;
-}
+newState speeds speed ts = stateWith 0 255 0 (listTo (length ts) (newEntry (timingAt speed ts) ts)) speeds

@@ -5,6 +5,7 @@ use state::COUNT_AT;
 use state::STATE_LENGTH;
 use state::TASK_AT;
 use storing::put_entry;
+use storing::put_total;
 use tables::put_table;
 ghost use mathlib.Core.Path.{_≡_};
 ghost use Prim.Native.Nat.{_<_, _≤_};
@@ -42,6 +43,7 @@ pub fn fresh(speeds: &[u32; 8], levels: usize, p: Plan, speed: u32) -> [u8; STAT
 {
     let count = p.count;
     let mut image = blank(speeds, levels, count);
+    let mut total: u32 = 0;
     let mut i: usize = 0;
     while i < count {
         let t = p.tasks[i];
@@ -56,7 +58,9 @@ pub fn fresh(speeds: &[u32; 8], levels: usize, p: Plan, speed: u32) -> [u8; STAT
             unspent: rest.fixed,
         };
         put_entry(&mut image, i, e);
+        total += remaining;
         i += 1;
     }
+    put_total(&mut image, total);
     image
 }

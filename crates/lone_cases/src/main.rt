@@ -56,6 +56,7 @@ fn behind(clock: u8) -> [u8; STATE_LENGTH] {
     state[27] = 2;
     state[200] = 1;
     state[202] = 1;
+    state[220] = 3;
     state
 }
 

@@ -13,9 +13,11 @@ use lib.ListN.{length, getD, take, drop}
 use lib.Seq.{take-at, drop-at}
 use Rattle.arith.specs.Choice.{pick, both, every}
 use Rattle.arith.specs.Asking.{firstNo}
+use Rattle.arith.specs.Sum.{sumTo}
 use Rattle.arith.specs.Ranges.{listTo}
 use Rattle.arith.proofs.Tests.{passed, failed, tested}
 use Rattle.arith.proofs.QuestionLaws.{ask-yes}
+use Rattle.arith.proofs.Sums.{sumOf-places}
 use Rattle.arith.proofs.RangeLaws.{getD-listTo}
 use Rattle.plan.specs.declared.Task.{Task}
 use Rattle.plan.specs.Times.{timeOf}
@@ -37,20 +39,22 @@ use Rattle.schedule.proofs.Invariant.{canonical-good}
 use Rattle.schedule.proofs.Invariant as invariant
 use Rattle.schedule.proofs.Feasible.{never-late}
 use Rattle.schedule.proofs.QueueLaws.{queueOf-cong}
+use Rattle.schedule.proofs.Totals.{queue-total}
 use Rattle.schedule.proofs.Closing.{entered-before}
 use Rattle.schedule.proofs.Span.{canonical-start}
 use Rattle.reclaiming.specs.declared.Reply.{Reply}
 use Rattle.reclaiming.specs.declared.Reply.the-variants as reply
+use Rattle.reclaiming.specs.declared.Queued.the-variants as queued
 use Rattle.reclaiming.specs.declared.Entry.{Entry}
-use Rattle.reclaiming.specs.StateBlock.{State, encode, decode, planIn, timing, workOf, remainingOf, restIn, restOf, noEntry, stateLength}
+use Rattle.reclaiming.specs.StateBlock.{State, encode, decode, planIn, timing, workOf, remainingOf, restIn, restOf, noEntry, totalIn, stateLength}
 use Rattle.reclaiming.specs.Orders.{nextArrival, runningTime, holdOf, orderWith}
-use Rattle.reclaiming.specs.Passes.{startState, newEntry, passedState, passedHold}
+use Rattle.reclaiming.specs.Passes.{newEntry, stateWith, startState, passedState, passedHold}
 use Rattle.reclaiming.specs.Questions.{largestClock, running, passQuestions}
 use Rattle.reclaiming.specs.Calls.{repliedBy, isOrder, startReply, startBuffer, startNumber, startOrder, queueBytes, readyQueue, shownBytes, passReply}
-use Rattle.reclaiming.specs.Calls.{showNumber, showReply, showBuffer}
+use Rattle.reclaiming.specs.Calls.{showNumber, showReply, showBuffer, queuedBy, queuedReply}
 use Rattle.reclaiming.specs.Run.{Pass, DispatcherBook, Arrived, moved, booked, bookedAll, ranAll, bytesAfter, trace, unopenedBook, openedBook, ordered, startedBytes}
 use Rattle.reclaiming.specs.Promises.{Started, OpenPlain, OpenActual, InGap, OnTime, ClosesByArrival, ClosesInTime, MostUrgent, NamesMostUrgent, Shows}
-use Rattle.reclaiming.specs.Promises.{Demand3, QueueShown, PairsKept, arrivedWith, StaysSound, SameSpeeds, RunsMostUrgent, SameLeft, NoDeadEnd, Open}
+use Rattle.reclaiming.specs.Promises.{Demand3, QueueShown, ticksIn, TotalTold, PairsKept, arrivedWith, StaysSound, SameSpeeds, RunsMostUrgent, SameLeft, NoDeadEnd, Open}
 use Rattle.reclaiming.specs.Promises.{timeLeft, isRun, holdIn, lastOrder, stateAfter, actualBook, plainBook, replies}
 use Rattle.reclaiming.proofs.Fine.{Ahead, Gap, Fine, Accepted, nominalSpeed}
 use Rattle.reclaiming.proofs.Replies.{is-idle, is-run, viewOrder, order-accepted, order-booked, order-runs, order-held, not-refused}
@@ -110,7 +114,7 @@ module _ (levels block pairs buffer : List ℕ) (ok : Started levels block pairs
 
   -- the state before an order is chosen in it
   abbrev unordered : State
-  unordered = record { clock = 0; task = 255; level = 0; entries = listTo (length ts) (newEntry τ ts); speeds = speeds }
+  unordered = stateWith 0 255 0 (listTo (length ts) (newEntry τ ts)) speeds
 
   clock : s .clock ≡ 0
   clock = choose-clock speeds τ unordered
@@ -456,7 +460,21 @@ module _ (speeds : List ℕ) (table : FineTable speeds) where
       is-state : decode bytes ≡ now
       is-state = decoded speeds table ts good (k .stored) (k .in-time) (k .own) (t .fine)
 
-      -- what showing writes is the plain schedule'now ready queue
+      -- what is told of the total is the sum over the plain schedule's ready queue
+      told : queuedReply bytes ≡ queued.Ticks (ticksIn (b .pending))
+      told =
+          let size : length bytes ≡ stateLength = stored-length speeds table ts good (k .stored) (k .in-time) (k .own) (t .fine) in
+          let n : length (now .entries) ≡ length ts = fine-length (t .fine .entries) in
+          let all : now .total ≡ ticksIn (b .pending) =
+          t .fine .entries .total
+          ∙ sumOf-places (λ (e : Entry). e .remaining) (now .entries) noEntry
+          ∙ ap (λ (m : ℕ). sumTo m (remainingOf now)) n
+          ∙ sym (queue-total (timing speeds ts) (now .clock) (remainingOf now) (length ts))
+          ∙ sym (ap (λ (x : Book). ticksIn (x .pending)) (plain-is t)) in
+          ap (λ (m : ℕ). queuedBy m (totalIn bytes)) (ask-yes 10 (eq-eqb (length bytes) stateLength size) refl)
+          ∙ ap queued.Ticks (ap (λ (x : State). x .total) is-state ∙ all)
+
+      -- what showing writes is the plain schedule's ready queue
       shown : shownBytes bytes ≡ queueBytes (b .pending)
       shown =
           ap₂ (λ (v : List ℕ) (x : State). queueBytes (readyQueue v x)) (ap (λ (x : State). x .speeds) is-state ∙ k .own) is-state
@@ -579,7 +597,7 @@ after-run :
 after-run levels block pairs buffer passes ok =
     kept-run (speedsIn levels) (table levels block pairs buffer ok) (tasksIn block) (good levels block pairs buffer ok) passes (kept-start levels block pairs buffer ok)
 
--- the state is 217 bytes all along
+-- the state is 221 bytes all along
 pub after-length :
     (levels block pairs buffer : List ℕ) (passes : List Pass) → Started levels block pairs buffer → length (stateAfter levels block pairs buffer passes) ≡ stateLength
 after-length levels block pairs buffer passes ok =
@@ -598,6 +616,10 @@ closes-in-time levels block pairs buffer passes n ok =
 pub queue-shown : QueueShown
 queue-shown levels block pairs buffer passes lent ok =
     shows (speedsIn levels) (table levels block pairs buffer ok) (tasksIn block) (good levels block pairs buffer ok) (after-run levels block pairs buffer passes ok) lent
+
+pub total-told : TotalTold
+total-told levels block pairs buffer passes ok =
+    told (speedsIn levels) (table levels block pairs buffer ok) (tasksIn block) (good levels block pairs buffer ok) (after-run levels block pairs buffer passes ok)
 
 pub runs-most-urgent : RunsMostUrgent
 runs-most-urgent levels block pairs buffer passes ok =

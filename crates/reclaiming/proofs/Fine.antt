@@ -11,7 +11,7 @@ use Rattle.plan.specs.Times.{whole, Within, timeOf}
 use Rattle.plan.specs.Levels.{speedOf, nominal}
 use Rattle.plan.specs.Blocks.{noTask}
 use Rattle.schedule.specs.PlainSchedule.{Timing}
-use Rattle.reclaiming.specs.StateBlock.{State, workOf, remainingOf, restOf, planIn, timing}
+use Rattle.reclaiming.specs.StateBlock.{State, queuedIn, workOf, remainingOf, restOf, planIn, timing}
 use Rattle.reclaiming.specs.Orders.{nextArrival, openJobs, runningTime}
 use Rattle.reclaiming.specs.Questions.{orderSound, running}
 
@@ -19,12 +19,13 @@ use Rattle.reclaiming.specs.Questions.{orderSound, running}
 abbrev pub nominalSpeed : List ℕ → List Task → ℕ
 nominalSpeed speeds ts = speedOf speeds (nominal speeds ts)
 
--- a state's plan and entries, as those of a sound one, whatever its clock; its order is not looked at
+-- a state's plan, entries and total, as those of a sound one, whatever its clock; its order is not looked at
 pub record FineEntries (speeds : List ℕ) (ts : List Task) (s : State) : Type 0 where
   pub plan : planIn s ≡ ts
   pub left : (i : ℕ) → i < length ts → Within (restOf s i) (whole (getD ts i noTask))
   pub closed : (i : ℕ) → i < length ts → workOf s i ≡ 0 → restOf s i .fixed ≡ 0
   pub remaining : (i : ℕ) → i < length ts → remainingOf s i ≤ timing speeds ts .allotment i
+  pub total : s .total ≡ queuedIn (s .entries)
 
 -- each task's job can be done at the nominal level in its plain ticks left
 abbrev pub Ahead : List ℕ → List Task → State → Type 0

@@ -32,7 +32,7 @@ use Rattle.schedule.proofs.Drain.{latest-kept}
 use Rattle.reclaiming.specs.declared.Entry.{Entry}
 use Rattle.reclaiming.specs.StateBlock.{State, noEntry, taskOf, workOf, remainingOf, restIn, restOf, planIn, timing}
 use Rattle.reclaiming.specs.Orders.{nextArrival, plainAllowance, allowance, openJobs, lowestLevel, runningTime, holdOf, withOrder, orderFor, chooseOrder}
-use Rattle.reclaiming.specs.Passes.{newEntry, startState, drainedOf, workedOf, arrivesAt, agedEntry, entryAfter, movedState, choosesAnew, passedState, passedHold}
+use Rattle.reclaiming.specs.Passes.{newEntry, stateWith, startState, drainedOf, workedOf, arrivesAt, agedEntry, entryAfter, movedState, choosesAnew, passedState, passedHold}
 use Rattle.reclaiming.specs.Questions.{orderSound, running}
 use Rattle.reclaiming.proofs.Fine.{nominalSpeed, FineEntries, Ahead, Gap, Fine, Accepted}
 use Rattle.reclaiming.proofs.PassedStates.{passed-entries}
@@ -82,7 +82,7 @@ module _ (speeds : List ℕ) (ts : List Task) (admitted : nominal speeds ts < le
 
 -- another order leaves the entries as they are
 with-order : {speeds : List ℕ} {ts : List Task} {s : State} (task level : ℕ) → FineEntries speeds ts s → FineEntries speeds ts (withOrder s task level)
-with-order task level f = record { plan = f .plan; left = f .left; closed = f .closed; remaining = f .remaining }
+with-order task level f = record { plan = f .plan; left = f .left; closed = f .closed; remaining = f .remaining; total = f .total }
 
 -- so choosing an order makes a sound state, where every task is ahead
 pub fine-chosen :
@@ -115,12 +115,13 @@ plan-listTo ts f h =
 pub start-fine : (speeds : List ℕ) (ts : List Task) → FineList speeds (length ts) ts → Rising speeds → Fine speeds ts (startState speeds ts)
 start-fine speeds ts plan rising =
     fine-chosen speeds ts (plan .tasks .admitted)
-    (record { clock = 0; task = 255; level = 0; entries = listTo (length ts) new; speeds = speeds })
+    (stateWith 0 255 0 (listTo (length ts) new) speeds)
     (record {
       plan = plan-listTo ts new (λ i h. refl);
       left = λ i h. at (λ e. Within (restIn e) (whole (getD ts i noTask))) i h (within-self (whole (getD ts i noTask)));
       closed = λ i h. at (λ e. e .work ≡ 0 → e .unspent ≡ 0) i h (λ e. absurd (omega (arith, range-at ts i (plan .tasks .ranges) h .worst-low)));
       remaining = λ i h. at (λ e. e .remaining ≤ timing speeds ts .allotment i) i h (omega arith);
+      total = refl;
     })
     (λ i h. at (λ e. timeOf (nominalSpeed speeds ts) (restIn e) ≤ e .remaining) i h (omega arith))
   where
@@ -185,6 +186,7 @@ module _ (speeds : List ℕ) (rising : Rising speeds) (ts : List Task) (plan : F
       remaining = λ i h.
           moved-is (λ e. e .remaining ≤ τ .allotment i) i h (omega arith)
           (omega (arith, drained-less τ s d i h, fine .entries .remaining i h));
+      total = refl;
     }
       where
         same-task : (i : ℕ) → taskOf (kept i) ≡ getD ts i noTask

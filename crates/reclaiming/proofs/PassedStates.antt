@@ -19,7 +19,7 @@ use Rattle.reclaiming.specs.StateBlock.{State, noEntry, remainingOf, res
 use Rattle.reclaiming.specs.Orders.{chooseOrder, orderFor, openJobs}
 use Rattle.reclaiming.specs.Passes.{passedState, movedState, choosesAnew, newEntry, agedEntry, entryAfter, workedOf, drainedOf}
 
--- choosing an order leaves the clock, the entries and the speeds
+-- choosing an order leaves the clock, the entries, the speeds and the total
 chosen-clock : (speeds : List ℕ) (τ : Timing) (s : State) (q : List Pending) → orderFor speeds τ s q .clock ≡ s .clock
 chosen-clock speeds τ s [] = refl
 chosen-clock speeds τ s (e ∷ q) = refl
@@ -32,6 +32,10 @@ chosen-speeds : (speeds : List ℕ) (τ : Timing) (s : State) (q : List Pending)
 chosen-speeds speeds τ s [] = refl
 chosen-speeds speeds τ s (e ∷ q) = refl
 
+chosen-total : (speeds : List ℕ) (τ : Timing) (s : State) (q : List Pending) → orderFor speeds τ s q .total ≡ s .total
+chosen-total speeds τ s [] = refl
+chosen-total speeds τ s (e ∷ q) = refl
+
 module _ (speeds : List ℕ) (τ : Timing) where
   pub choose-clock : (s : State) → chooseOrder speeds τ s .clock ≡ s .clock
   choose-clock s = chosen-clock speeds τ s (openJobs τ s)
@@ -41,6 +45,9 @@ module _ (speeds : List ℕ) (τ : Timing) where
 
   pub choose-speeds : (s : State) → chooseOrder speeds τ s .speeds ≡ s .speeds
   choose-speeds s = chosen-speeds speeds τ s (openJobs τ s)
+
+  pub choose-total : (s : State) → chooseOrder speeds τ s .total ≡ s .total
+  choose-total s = chosen-total speeds τ s (openJobs τ s)
 
   module _ (s : State) (d : ℕ) (finished : Bool) where
     abbrev next : State

@@ -1,7 +1,7 @@
 -- Replies as numbers and back, and the promises of the numbers that a run leaves in lent blocks.
 -- Assumes nothing.
 use Prim.Native.Nat.{ℕ, zero, suc, _+_, _*_, _/_, _%_, _≤_, _<_}
-use mathlib.Core.Path.{_≡_, refl, sym, subst₂, ap, ap₂, _∙_}
+use mathlib.Core.Path.{_≡_, refl, sym, subst, subst₂, ap, ap₂, _∙_}
 use mathlib.Core.Bool.{Bool, true, false, true≢false}
 use mathlib.Core.List.{List, [], _∷_, _++_}
 use native.Mathlib.Omega.{arith}
@@ -9,6 +9,7 @@ use borrow.Author.Tests.{eq-eqb, ne-eqb}
 use lib.Dec.{eqb}
 use lib.Arith.{digits-mod}
 use lib.ListN.{length, take, drop}
+use lib.Seq.{take-at, take-length}
 use Rattle.arith.specs.Choice.{pick}
 use Rattle.arith.proofs.QuestionLaws.{Yes, all-yes, yes-all, firstNo-most}
 use Rattle.plan.specs.LevelBlocks.{speedsIn}
@@ -20,20 +21,21 @@ use Rattle.plan.proofs.Facts.{FineList}
 use Rattle.schedule.specs.PlainSchedule.{Timing, opened}
 use Rattle.reclaiming.specs.declared.Reply.{Reply}
 use Rattle.reclaiming.specs.declared.Reply.the-variants as reply
+use Rattle.reclaiming.specs.declared.Queued.the-variants as queued
 use Rattle.reclaiming.specs.StateBlock.{State, encode, decode, planIn, timing, stateLength}
 use Rattle.reclaiming.specs.Orders.{orderWith, holdOf}
 use Rattle.reclaiming.specs.Passes.{startState, passedState, passedHold}
 use Rattle.reclaiming.specs.Questions.{passing, starting, passQuestions}
-use Rattle.reclaiming.specs.Calls.{repliedBy, isOrder, startNumber, startReply, startBuffer, startOrder, passNumber, passReply, passBytes, passOrder}
+use Rattle.reclaiming.specs.Calls.{repliedBy, isOrder, startNumber, startReply, startBuffer, startOrder, passNumber, passReply, passBytes, passOrder, queuedReply}
 use Rattle.reclaiming.specs.Run.{Pass, Answered, trace, bytesAfter, startedBytes, openedBook, bookedAll, ranAll}
-use Rattle.reclaiming.specs.Promises.{Started, OnTime, ClosesByArrival, EarlierClosed, NamesMostUrgent, lastOrder, actualBook}
+use Rattle.reclaiming.specs.Promises.{Started, OnTime, ClosesByArrival, EarlierClosed, NamesMostUrgent, ticksIn, lastOrder, actualBook, stateAfter}
 use Rattle.reclaiming.specs.Numbers.{replyNumber}
-use Rattle.reclaiming.specs.Play.{replyFrom, replyNumbers, answersFrom, leftBy, playedState, playedReplies, PlayedOnTime, PlayedInTime, PlayedMostUrgent, PlayedPairsKept, actualTo}
+use Rattle.reclaiming.specs.Play.{replyFrom, replyNumbers, answersFrom, leftBy, playedState, playedReplies, PlayedOnTime, PlayedInTime, PlayedMostUrgent, PlayedPairsKept, PlayedTotalTold, actualTo}
 use Rattle.reclaiming.proofs.Fine.{Fine, Accepted}
 use Rattle.reclaiming.proofs.Replies.{is-idle, is-run, viewOrder, order-accepted, not-refused}
 use Rattle.reclaiming.proofs.Soundness.{sound-state, sound-fine, sound-table, sound-own, pass-accepted, fine-small, Starts, start-facts}
 use Rattle.reclaiming.proofs.PassSound.{start-fine, pass-fine}
-use Rattle.reclaiming.proofs.Demand.{demand-3, closes-in-time, runs-most-urgent, pairs-kept, room, untouched}
+use Rattle.reclaiming.proofs.Demand.{demand-3, closes-in-time, runs-most-urgent, pairs-kept, total-told, room, after-length, untouched}
 
 -- a reply whose parts each fit their place in the number
 abbrev pub Small : Reply → Type 0
@@ -231,20 +233,36 @@ module _ (levels : List ℕ) where
         carried (λ (r : Reply) (l : List Answered). EarlierClosed τ (pairsIn pairs) (bookedAll speeds (tasksIn block) (openedBook (tasksIn block) r) l)) ok n
         (pairs-kept levels block pairs state (take n passes) ok)
 
+    -- the state that is left begins with the run's
+    pub left-front : Started levels block pairs state → take stateLength (playedState levels block pairs state passes) ≡ stateAfter levels block pairs state passes
+    left-front ok =
+        ap (λ (n : ℕ). take stateLength (leftBy n (bytes-left block pairs state passes) state)) (started-number block pairs state ok)
+        ∙ take-at (stateAfter levels block pairs state passes) (drop stateLength state) stateLength (after-length levels block pairs state passes ok)
+
+    played-total-told : PlayedTotalTold levels block first-number passes replies-found (playedState levels block pairs state passes)
+    played-total-told accepted =
+        let ok : Started levels block pairs state = number-accepted accepted in
+        let all : List Pass = take (length passes) passes in
+        carried (λ (r : Reply) (l : List Answered). queuedReply (take stateLength (playedState levels block pairs state passes)) ≡ queued.Ticks (ticksIn (ranAll τ (opened τ) l .pending)))
+        ok (length passes)
+        (ap queuedReply (left-front ok ∙ ap (λ (ps : List Pass). stateAfter levels block pairs state ps) (sym (take-length passes)))
+        ∙ total-told levels block pairs state all ok)
+
   -- what it leaves where the start is refused, and where it is accepted
   module _ (block pairs state : List ℕ) (passes : List Pass) (found : List ℕ) where
-    -- the number that is returned, the state and the replies; the promises are said of that number and those replies
-    abbrev Promised : ℕ → List ℕ → Type 0
-    Promised first replies =
+    -- the number that is returned, the state and the replies; the promises are said of that number, those replies and that state
+    abbrev Promised : ℕ → List ℕ → List ℕ → Type 0
+    Promised first m replies =
         PlayedOnTime levels block first passes replies
         × (PlayedInTime levels block first passes replies
-        × (PlayedMostUrgent levels block first passes replies × PlayedPairsKept levels block first passes replies pairs))
+        × (PlayedMostUrgent levels block first passes replies
+        × (PlayedPairsKept levels block first passes replies pairs × PlayedTotalTold levels block first passes replies m)))
 
     abbrev PlayLeaves : ℕ → List ℕ → List ℕ → Type 0
     PlayLeaves first m replies =
         (first ≡ replyNumber (startReply levels block pairs (length state)))
         × ((m ≡ playedState levels block pairs state passes)
-        × ((replies ≡ playedReplies levels block pairs state passes found) × Promised first replies))
+        × ((replies ≡ playedReplies levels block pairs state passes found) × Promised first m replies))
 
     play-leaves :
         (first : ℕ) (m replies : List ℕ) →
@@ -253,14 +271,23 @@ module _ (levels : List ℕ) where
         replies ≡ playedReplies levels block pairs state passes found →
         PlayLeaves first m replies
     play-leaves first m replies e f r =
-        (e, (f, (r, subst₂ Promised (sym e) (sym r) promised)))
+        (e, (f, (r, subst₂ (λ (n : ℕ) (l : List ℕ). Promised n m l) (sym e) (sym r) (subst (λ (l : List ℕ). Promised number l left) (sym f) promised))))
       where
-        promised : Promised (replyNumber (startReply levels block pairs (length state))) (playedReplies levels block pairs state passes found)
+        number : ℕ
+        number = replyNumber (startReply levels block pairs (length state))
+
+        left : List ℕ
+        left = playedReplies levels block pairs state passes found
+
+        promised : Promised number (playedState levels block pairs state passes) left
         promised = (
           played-on-time block pairs state found passes,
           (
             played-in-time block pairs state found passes,
-            (played-most-urgent block pairs state found passes, played-pairs-kept block pairs state found passes),
+            (
+              played-most-urgent block pairs state found passes,
+              (played-pairs-kept block pairs state found passes, played-total-told block pairs state found passes),
+            ),
           ),
         )
 
@@ -309,7 +336,7 @@ module _ (levels : List ℕ) where
     no-refusal : b ≡ true → Started levels block pairs state
     no-refusal t = sym order-tested ∙ t
 
-    -- an accepted start has its 217 bytes
+    -- an accepted start has its 221 bytes
     pub play-room : b ≡ true → stateLength ≤ length l
     play-room t = omega (arith, room levels block pairs state (no-refusal t), begun .kept)
 

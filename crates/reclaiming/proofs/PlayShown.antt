@@ -3,10 +3,10 @@
 use Prim.Native.Nat.{ℕ, zero, suc, _≤_, _<_}
 use mathlib.Core.Path.{_≡_, refl, sym, subst₂, ap, _∙_}
 use mathlib.Core.Bool.{true}
-use mathlib.Core.List.{List, _++_}
+use mathlib.Core.List.{List}
 use native.Mathlib.Omega.{arith}
-use lib.ListN.{length, take, drop}
-use lib.Seq.{take-at, take-length}
+use lib.ListN.{length, take}
+use lib.Seq.{take-length}
 use Rattle.arith.proofs.QuestionLaws.{firstNo-most}
 use Rattle.plan.specs.declared.Written.{Written}
 use Rattle.plan.specs.declared.Written.the-variants as written
@@ -24,8 +24,8 @@ use Rattle.reclaiming.specs.Promises.{Started, Shows, stateAfter, plainB
 use Rattle.reclaiming.specs.Numbers.{replyNumber}
 use Rattle.reclaiming.specs.Play.{replyFrom, leftBy, playedState, playedReplies, playedShown, playedQueue, PlayedQueueShown}
 use Rattle.reclaiming.proofs.Replies.{is-idle, is-run, viewOrder}
-use Rattle.reclaiming.proofs.Demand.{queue-shown, room, after-length}
-use Rattle.reclaiming.proofs.PlayLaws.{started-number, number-started, number-accepted, carried}
+use Rattle.reclaiming.proofs.Demand.{queue-shown, room}
+use Rattle.reclaiming.proofs.PlayLaws.{started-number, number-started, number-accepted, carried, left-front}
 
 -- an order's number is above every refusal's
 order-above : (s : State) (hold : ℕ) → 256 ≤ replyNumber (orderWith s hold)
@@ -121,9 +121,7 @@ module _ (levels : List ℕ) where
 
       -- the state shown is the run's
       shown-state : take stateLength m ≡ bytes
-      shown-state =
-          ap (take stateLength) (r .state-is ∙ ap (λ (n : ℕ). leftBy n (bytes ++ drop stateLength state) state) zero-is)
-          ∙ take-at bytes (drop stateLength state) stateLength (after-length levels block pairs state passes ok)
+      shown-state = ap (take stateLength) (r .state-is) ∙ left-front levels block pairs state found passes ok
 
       abbrev τ : Timing
       τ = timing speeds (tasksIn block)

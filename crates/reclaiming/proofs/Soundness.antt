@@ -1,7 +1,7 @@
 -- Between tests and facts: a state is sound exactly if it is fine, a pass gets no refusal exactly if it is accepted, and a fine state
 -- fits its block.
 -- Assumes nothing.
-use Prim.Native.Nat.{ℕ, suc, _+_, _<_, _≤_}
+use Prim.Native.Nat.{ℕ, suc, _+_, _^_, _<_, _≤_}
 use mathlib.Core.Path.{_≡_, refl, sym, subst, ap, _∙_}
 use mathlib.Core.Bool.{Bool, true, false}
 use mathlib.Core.List.{List, [], _∷_, _++_}
@@ -14,6 +14,7 @@ use Rattle.arith.specs.Choice.{pick, both, every}
 use Rattle.arith.specs.Asking.{Question, ask, firstNo}
 use Rattle.arith.proofs.Tests.{passed, failed, tested, both-left, both-right, both-true, only-if, if-so, either-second}
 use Rattle.arith.proofs.ListLaws.{every-at, at-every}
+use Rattle.arith.proofs.Sums.{sumOf-most}
 use Rattle.arith.proofs.QuestionLaws.{Yes, all-yes, yes-all, ask-yes, yes-before, yes-of, yes-after}
 use Rattle.plan.specs.declared.Task.{Task}
 use Rattle.plan.specs.Times.{whole, Within, timeOf, taskTime}
@@ -25,9 +26,10 @@ use Rattle.plan.specs.Questions.{judging, reading, roomQuestion}
 use Rattle.plan.proofs.LevelBlockLaws.{FineTable, fine-table, loaded-table}
 use Rattle.plan.proofs.Facts.{FineList, InRange, fine-list, list-yes, fine-block, block-list}
 use Rattle.reclaiming.specs.declared.Entry.{Entry}
-use Rattle.reclaiming.specs.StateBlock.{State, noEntry, restOf, remainingOf, restIn, taskOf, planIn, timing, decode, laidOut, stateLength}
+use Rattle.reclaiming.specs.Fields.{widthOf}
+use Rattle.reclaiming.specs.StateBlock.{State, noEntry, queuedIn, endFields, totalField, restOf, remainingOf, restIn, taskOf, planIn, timing, decode, laidOut, stateLength}
 use Rattle.reclaiming.specs.Orders.{nextArrival, isLone, openJobs, runningTime}
-use Rattle.reclaiming.specs.Questions.{largestClock, fixedSound, entrySound, entryAhead, orderSound, fitsGap, stateSound, inTime, soundAt, sound, starting, running}
+use Rattle.reclaiming.specs.Questions.{largestClock, fixedSound, entrySound, entryAhead, orderSound, fitsGap, totalSound, stateSound, inTime, soundAt, sound, starting, running}
 use Rattle.reclaiming.specs.Questions.{stepQuestions, passQuestions}
 use Rattle.reclaiming.proofs.Fine.{nominalSpeed, FineEntries, Ahead, Gap, Fine, Accepted}
 use Rattle.reclaiming.proofs.Plans.{task-range, allotment-short}
@@ -127,14 +129,16 @@ pub sound-fine :
 sound-fine speeds s h =
     let ts : List Task = planIn s in
     let a : Bool = eqb (firstNo (judging speeds (length (s .entries)) ts)) 0 in
-    let c : Bool = every (entrySound (nominalSpeed speeds ts)) (s .entries) in
+    let b : Bool = every (entrySound (nominalSpeed speeds ts)) (s .entries) in
+    let c : Bool = both b (totalSound s) in
     let d : Bool = orderSound speeds (timing speeds ts) (nominal speeds ts) s (openJobs (timing speeds ts) s) in
     let e : Bool = pick (every (entryAhead (nominalSpeed speeds ts)) (s .entries)) true (fitsGap speeds (timing speeds ts) s) in
     let l : both c (both d e) ≡ true = both-right a (both c (both d e)) h in
     let o : both d e ≡ true = both-right c (both d e) l in
+    let n : c ≡ true = both-left c (both d e) l in
     let entry : (i : ℕ) → i < length ts → FineEntry (nominalSpeed speeds ts) (getD (s .entries) i noEntry) =
     λ i q. fine-entry (nominalSpeed speeds ts) (getD (s .entries) i noEntry)
-    (every-at (entrySound (nominalSpeed speeds ts)) (s .entries) i noEntry (both-left c (both d e) l) (omega (arith, length-planIn s))) in (
+    (every-at (entrySound (nominalSpeed speeds ts)) (s .entries) i noEntry (both-left b (totalSound s) n) (omega (arith, length-planIn s))) in (
       subst (λ (n : ℕ). FineList speeds n ts) (sym (length-planIn s))
           (fine-list speeds (length (s .entries)) ts (eqb-true (firstNo (judging speeds (length (s .entries)) ts)) 0 (both-left a (both c (both d e)) h))),
       record {
@@ -143,6 +147,7 @@ sound-fine speeds s h =
           left = λ i q. subst (λ (t : Task). Within (restOf s i) (whole t)) (sym (planIn-at s i)) (entry i q .left);
           closed = λ i q. entry i q .closed;
           remaining = λ i q. subst (λ (t : Task). remainingOf s i ≤ taskTime (nominalSpeed speeds ts) t) (sym (planIn-at s i)) (entry i q .remaining);
+          total = eqb-true (s .total) (queuedIn (s .entries)) (both-right b (totalSound s) n);
         };
         order = both-left d e o;
         pace = pace-tested speeds ts s (sym (length-planIn s)) (both-right d e o);
@@ -166,6 +171,7 @@ fine-sound speeds ts s l f =
         (eq-eqb (firstNo (judging speeds (length (s .entries)) (planIn s))) 0
         (list-yes speeds (length (s .entries)) (planIn s) (subst (λ (n : ℕ). FineList speeds n (planIn s)) m l)))
         (both-true
+        (both-true
         (at-every (entrySound v) (s .entries) noEntry
         (λ i q. entry-sound v (getD (s .entries) i noEntry)
         (record {
@@ -173,6 +179,7 @@ fine-sound speeds ts s l f =
           closed = f .entries .closed i (omega arith);
           remaining = subst (λ (t : Task). remainingOf s i ≤ taskTime v t) (planIn-at s i) (f .entries .remaining i (omega arith));
         })))
+        (eq-eqb (s .total) (queuedIn (s .entries)) (f .entries .total)))
         (both-true (f .order) (tested-pace speeds (planIn s) s (sym m) (f .pace))))
 
 -- the time that a pass may take of the running job
@@ -332,6 +339,23 @@ entries-storable speeds ts s l rising f i h =
       unspent = omega (arith, r .fixed-high, left .fixed);
     }
 
+-- and so does its total
+pub total-storable :
+    (speeds : List ℕ) (ts : List Task) (s : State) →
+    FineList speeds (length ts) ts →
+    Rising speeds →
+    FineEntries speeds ts s →
+    s .total < 256 ^ widthOf endFields totalField
+total-storable speeds ts s l rising f =
+    omega (
+      arith,
+      f .total,
+      fine-length f,
+      l .count-high,
+      sumOf-most (λ (e : Entry). e .remaining) (s .entries) 65535 noEntry
+          (λ i h. omega (arith, entries-storable speeds ts s l rising f i h .remaining)),
+    )
+
 -- a fine state whose clock is in range fits its block, with a table that does
 pub fine-storable :
     (speeds : List ℕ) (ts : List Task) (s : State) →
@@ -352,4 +376,5 @@ fine-storable speeds ts s l rising few f late table =
       count = omega (arith, l .count-high);
       entries = entries-storable speeds ts s l rising (f .entries);
       table = table;
+      total = total-storable speeds ts s l rising (f .entries);
     }

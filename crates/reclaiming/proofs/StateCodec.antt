@@ -8,14 +8,15 @@ use native.Mathlib.Omega.{arith}
 use borrow.Author.Tests.{eqb-true, eq-eqb}
 use lib.Dec.{T, eqb}
 use lib.ListN.{length, getD, drop, length-append, length-replicate}
-use lib.Seq.{drop-at}
+use lib.Seq.{drop-at, drop-drop}
 use Rattle.arith.specs.Ranges.{listTo}
 use Rattle.arith.proofs.RangeLaws.{getD-listTo, listTo-is}
 use Rattle.arith.proofs.Tests.{both-left, both-right, both-true}
 use Rattle.reclaiming.specs.declared.Entry.{Entry}
-use Rattle.reclaiming.specs.Fields.{Field, zeros, width, valueIn, fieldsBytes, fieldAt, widthOf, readField}
+use Rattle.reclaiming.specs.Fields.{Field, zeros, width, valueIn, fieldsBytes, fieldsLength, fieldAt, widthOf, readField}
 use Rattle.reclaiming.specs.StateBlock.{State, noEntry, headFields, clockField, taskField, levelField, countField, tailFields, places}
-use Rattle.reclaiming.specs.StateBlock.{levelPlaces, speedRow, levelsField, speedField, tailAt, levelCount, speedIn}
+use Rattle.reclaiming.specs.StateBlock.{levelPlaces, speedRow, levelsField, speedField, endFields, totalField, tailAt, totalAt, tailBytes}
+use Rattle.reclaiming.specs.StateBlock.{levelCount, speedIn, totalIn}
 use Rattle.reclaiming.specs.StateBlock.{entryFields, periodField, worstField, workField, remainingField, fixedField, unspentField, headLength, entryLength, stateLength}
 use Rattle.reclaiming.specs.StateBlock.{entryBytes, entriesBytes, unusedBytes, encode, entryFrom, entriesFrom, stateCount, decode, sameBytes, laidOut}
 use Rattle.reclaiming.proofs.FieldLaws.{length-fields, read-field}
@@ -27,7 +28,7 @@ head-length = refl
 pub entry-length : entryLength ≡ 12
 entry-length = refl
 
-pub state-length : stateLength ≡ 217
+pub state-length : stateLength ≡ 221
 state-length = refl
 
 -- an entry whose numbers fit their bytes
@@ -52,10 +53,11 @@ pub record Storable (s : State) : Type 0 where
   pub count : length (s .entries) ≤ places
   pub entries : (i : ℕ) → i < length (s .entries) → StorableEntry (getD (s .entries) i noEntry)
   pub table : StorableTable (s .speeds)
+  pub total : s .total < 256 ^ widthOf endFields totalField
 
 -- what stands past the head, and past the entries
 abbrev pub pastEntries : State → List ℕ
-pastEntries s = unusedBytes (s .entries) ++ fieldsBytes tailFields s
+pastEntries s = unusedBytes (s .entries) ++ tailBytes s
 
 abbrev pub pastHead : State → List ℕ
 pastHead s = entriesBytes (s .entries) ++ pastEntries s
@@ -94,6 +96,10 @@ length-entriesBytes [] = refl
 length-entriesBytes (e ∷ es) =
     omega (arith, length-append (entryBytes e) (entriesBytes es), length-fields entryFields e, length-entriesBytes es)
 
+pub length-tail : (s : State) → length (tailBytes s) ≡ stateLength - tailAt
+length-tail s =
+    omega (arith, length-append (fieldsBytes tailFields s) (fieldsBytes endFields s), length-fields tailFields s, length-fields endFields s)
+
 pub length-encode : (s : State) → length (s .entries) ≤ places → length (encode s) ≡ stateLength
 length-encode s h =
     omega (
@@ -102,9 +108,9 @@ length-encode s h =
       length-fields headFields s,
       length-append (entriesBytes (s .entries)) (pastEntries s),
       length-entriesBytes (s .entries),
-      length-append (unusedBytes (s .entries)) (fieldsBytes tailFields s),
+      length-append (unusedBytes (s .entries)) (tailBytes s),
       length-replicate {A = ℕ} (entryLength * (places - length (s .entries))) 0,
-      length-fields tailFields s,
+      length-tail s,
     )
 
 -- a speed's row, and what is read there
@@ -112,30 +118,53 @@ pub speed-row : (k : ℕ) → k < levelPlaces → fieldAt tailFields (speedField
 speed-row k h = getD-listTo levelPlaces speedRow k (zeros 0) h
 
 pub speed-back :
-    (s : State) (k : ℕ) → k < levelPlaces → getD (s .speeds) k 0 < 65536 → readField tailFields (speedField k) (fieldsBytes tailFields s) ≡ getD (s .speeds) k 0
+    (s : State) (k : ℕ) → k < levelPlaces → getD (s .speeds) k 0 < 65536 → readField tailFields (speedField k) (tailBytes s) ≡ getD (s .speeds) k 0
 speed-back s k h fits =
-    ap (λ (l : List ℕ). readField tailFields (speedField k) l) (sym (append-nil (fieldsBytes tailFields s)))
-    ∙ read-field tailFields (speedField k) s [] (subst (λ (f : Field State). valueIn s f < 256 ^ width f) (sym (speed-row k h)) fits)
+    read-field tailFields (speedField k) s (fieldsBytes endFields s)
+    (subst (λ (f : Field State). valueIn s f < 256 ^ width f) (sym (speed-row k h)) fits)
     ∙ ap (valueIn s) (speed-row k h)
 
--- what stands past the places
-pub past-places : (s : State) → length (s .entries) ≤ places → drop tailAt (encode s) ≡ fieldsBytes tailFields s
-past-places s few =
+-- what stands up to the end of the places
+abbrev pub upToPlaces : State → List ℕ
+upToPlaces s = (fieldsBytes headFields s ++ entriesBytes (s .entries)) ++ unusedBytes (s .entries)
+
+pub two-parts : (s : State) → encode s ≡ upToPlaces s ++ tailBytes s
+two-parts s =
     let head : List ℕ = fieldsBytes headFields s in
     let es : List ℕ = entriesBytes (s .entries) in
     let unused : List ℕ = unusedBytes (s .entries) in
-    let tail : List ℕ = fieldsBytes tailFields s in
-    let size : length ((head ++ es) ++ unused) ≡ tailAt =
+    sym (append-assoc (head ++ es) unused (tailBytes s) ∙ append-assoc head es (unused ++ tailBytes s))
+
+pub length-places : (s : State) → length (s .entries) ≤ places → length (upToPlaces s) ≡ tailAt
+length-places s few =
+    let head : List ℕ = fieldsBytes headFields s in
+    let es : List ℕ = entriesBytes (s .entries) in
     omega (
       arith,
-      length-append (head ++ es) unused,
+      length-append (head ++ es) (unusedBytes (s .entries)),
       length-append head es,
       length-fields headFields s,
       length-entriesBytes (s .entries),
       length-replicate {A = ℕ} (entryLength * (places - length (s .entries))) 0,
-    ) in
-    ap (λ (l : List ℕ). drop tailAt l) (sym (append-assoc (head ++ es) unused tail ∙ append-assoc head es (unused ++ tail)))
-    ∙ drop-at ((head ++ es) ++ unused) tail tailAt size
+    )
+
+-- what stands past the places
+pub past-places : (s : State) → length (s .entries) ≤ places → drop tailAt (encode s) ≡ tailBytes s
+past-places s few =
+    ap (λ (l : List ℕ). drop tailAt l) (two-parts s) ∙ drop-at (upToPlaces s) (tailBytes s) tailAt (length-places s few)
+
+-- and past the table of speeds
+pub past-table : (s : State) → length (s .entries) ≤ places → drop totalAt (encode s) ≡ fieldsBytes endFields s
+past-table s few =
+    sym (drop-drop (fieldsLength tailFields) tailAt (encode s))
+    ∙ ap (λ (l : List ℕ). drop (fieldsLength tailFields) l) (past-places s few)
+    ∙ drop-at (fieldsBytes tailFields s) (fieldsBytes endFields s) (fieldsLength tailFields) (length-fields tailFields s)
+
+-- the total is read back
+total-back : (s : State) → length (s .entries) ≤ places → s .total < 256 ^ widthOf endFields totalField → totalIn (encode s) ≡ s .total
+total-back s few fits =
+    ap (λ (l : List ℕ). readField endFields totalField l) (past-table s few ∙ sym (append-nil (fieldsBytes endFields s)))
+    ∙ read-field endFields totalField s [] fits
 
 -- a table of speeds is read back
 table-back :
@@ -143,13 +172,13 @@ table-back :
 table-back s few t =
     ap₂ (λ (n : ℕ) (l : List ℕ). listTo n (λ k. readField tailFields (speedField k) l)) count (past-places s few)
     ∙ sym
-    (listTo-is (length (s .speeds)) (λ k. readField tailFields (speedField k) (fieldsBytes tailFields s)) (s .speeds) 0 refl
+    (listTo-is (length (s .speeds)) (λ k. readField tailFields (speedField k) (tailBytes s)) (s .speeds) 0 refl
     (λ k h. sym (speed-back s k (omega (arith, t .few)) (t .each k h))))
   where
     count : levelCount (encode s) ≡ length (s .speeds)
     count =
-        ap (λ (l : List ℕ). readField tailFields levelsField l) (past-places s few ∙ sym (append-nil (fieldsBytes tailFields s)))
-        ∙ read-field tailFields levelsField s [] (omega (arith, t .few))
+        ap (λ (l : List ℕ). readField tailFields levelsField l) (past-places s few)
+        ∙ read-field tailFields levelsField s (fieldsBytes endFields s) (omega (arith, t .few))
 
 -- a state is read back
 pub decode-encode : (s : State) → Storable s → decode (encode s) ≡ s
@@ -160,6 +189,7 @@ decode-encode s h =
       level = read-field headFields levelField s (pastHead s) (h .level) i;
       entries = entries i;
       speeds = table-back s (h .count) (h .table) i;
+      total = total-back s (h .count) (h .total) i;
     }
   where
     entries : entriesFrom (stateCount (encode s)) (drop headLength (encode s)) ≡ s .entries

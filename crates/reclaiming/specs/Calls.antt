@@ -1,5 +1,5 @@
 -- 01, "Blocks" and "Questions put to every call": what starting, passing and showing return, and every byte that they leave in a lent
--- block, refused calls included.
+-- block, refused calls included; 02, No. 6: what asking for the total returns.
 -- Assumes nothing.
 use Prim.Native.Nat.{ℕ, zero, suc}
 use mathlib.Core.Bool.{Bool}
@@ -14,10 +14,12 @@ use Rattle.plan.specs.Answers.{writtenBy, storedBy}
 use Rattle.schedule.specs.PlainSchedule.{Pending, queueOf}
 use Rattle.reclaiming.specs.declared.Reply.{Reply}
 use Rattle.reclaiming.specs.declared.Reply.the-variants as reply
-use Rattle.reclaiming.specs.StateBlock.{State, remainingOf, planIn, timing, encode, decode}
+use Rattle.reclaiming.specs.declared.Queued.{Queued}
+use Rattle.reclaiming.specs.declared.Queued.the-variants as queued
+use Rattle.reclaiming.specs.StateBlock.{State, remainingOf, planIn, timing, encode, totalIn, decode}
 use Rattle.reclaiming.specs.Orders.{holdOf, orderWith}
 use Rattle.reclaiming.specs.Passes.{startState, passedState, passedHold}
-use Rattle.reclaiming.specs.Questions.{starting, passing, showing}
+use Rattle.reclaiming.specs.Questions.{starting, passing, showing, queueing}
 
 -- 01: "starting and passing [return] the order"; a refusal's number "is all that is returned"
 abbrev pub repliedBy : ℕ → Reply → Reply
@@ -89,3 +91,16 @@ showReply bytes room = writtenBy (showNumber bytes room) (shownBytes bytes)
 
 abbrev pub showBuffer : List ℕ → List ℕ → List ℕ
 showBuffer bytes buffer = storedBy (showNumber bytes (length buffer)) (shownBytes bytes) buffer
+
+-- 02, No. 6: the total is told "without going through the entries", of a sound state or not
+abbrev pub queuedBy : ℕ → ℕ → Queued
+queuedBy zero total = queued.Ticks total
+queuedBy (suc n) total = queued.Refused (suc n)
+
+abbrev pub queuedReply : List ℕ → Queued
+queuedReply bytes = queuedBy (firstNo (queueing bytes)) (totalIn bytes)
+
+-- its number and values: the total
+abbrev pub queuedAnswer : Queued → Answer
+queuedAnswer (queued.Ticks total) = values (total ∷ [])
+queuedAnswer (queued.Refused n) = refusal n

@@ -58,7 +58,14 @@ holdOf speeds τ s =
 
 -- the same state with the order that is chosen in it
 abbrev pub withOrder : State → ℕ → ℕ → State
-withOrder s task level = record { clock = s .clock; task = task; level = level; entries = s .entries; speeds = s .speeds }
+withOrder s task level = record {
+  clock = s .clock;
+  task = task;
+  level = level;
+  entries = s .entries;
+  speeds = s .speeds;
+  total = s .total;
+}
 
 -- 01: "An order is either to run a task or to stay idle. A run order names the most urgent open job, a level and a hold."
 abbrev pub orderFor : List ℕ → Timing → State → List Pending → State

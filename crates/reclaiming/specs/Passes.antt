@@ -14,18 +14,28 @@ use Rattle.plan.specs.Levels.{speedOf}
 use Rattle.plan.specs.Blocks.{noTask}
 use Rattle.schedule.specs.PlainSchedule.{Timing, drain, queueOf, leftIn}
 use Rattle.reclaiming.specs.declared.Entry.{Entry}
-use Rattle.reclaiming.specs.StateBlock.{State, noEntry, remainingOf, restOf, taskOf, planIn, entryWith, timing}
+use Rattle.reclaiming.specs.StateBlock.{State, noEntry, queuedIn, remainingOf, restOf, taskOf, planIn, entryWith, timing}
 use Rattle.reclaiming.specs.Orders.{holdOf, chooseOrder}
 
 -- 01: "a new job with full worst case and allotment"
 abbrev pub newEntry : Timing → List Task → ℕ → Entry
 newEntry τ ts i = entryWith (getD ts i noTask) (whole (getD ts i noTask)) (τ .allotment i)
 
+-- a state with an entry for each task, whose total is "the full sum": 02, No. 6, "after the start and every accepted pass"
+abbrev pub stateWith : ℕ → ℕ → ℕ → List Entry → List ℕ → State
+stateWith clock task level entries speeds = record {
+  clock = clock;
+  task = task;
+  level = level;
+  entries = entries;
+  speeds = speeds;
+  total = queuedIn entries;
+}
+
 -- at the start every task has a new job, and an order is chosen
 abbrev pub startState : List ℕ → List Task → State
 startState speeds ts =
-    chooseOrder speeds (timing speeds ts)
-    (record { clock = 0; task = 255; level = 0; entries = listTo (length ts) (newEntry (timing speeds ts) ts); speeds = speeds })
+    chooseOrder speeds (timing speeds ts) (stateWith 0 255 0 (listTo (length ts) (newEntry (timing speeds ts) ts)) speeds)
 
 -- 01: "d ticks are taken from the queue, most urgent entry first, entries at 0 leaving it"
 abbrev pub drainedOf : Timing → State → ℕ → ℕ → ℕ
@@ -56,13 +66,8 @@ entryAfter speeds τ s d finished i =
     pick (arrivesAt τ (clockAfter s d) i) (newEntry τ (planIn s) i) (agedEntry speeds τ s d finished i)
 
 abbrev pub movedState : List ℕ → Timing → State → ℕ → Bool → State
-movedState speeds τ s d finished = record {
-  clock = clockAfter s d;
-  task = s .task;
-  level = s .level;
-  entries = listTo (τ .count) (entryAfter speeds τ s d finished);
-  speeds = s .speeds;
-}
+movedState speeds τ s d finished =
+    stateWith (clockAfter s d) (s .task) (s .level) (listTo (τ .count) (entryAfter speeds τ s d finished)) (s .speeds)
 
 -- 01: "If a job finished or one arrived, a new order is chosen; otherwise task and level stay and the hold falls by d."
 abbrev pub choosesAnew : Timing → State → ℕ → Bool → Bool

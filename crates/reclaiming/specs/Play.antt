@@ -15,10 +15,11 @@ use Rattle.plan.specs.Pairs.{pairsIn}
 use Rattle.schedule.specs.PlainSchedule.{Book, opened}
 use Rattle.reclaiming.specs.declared.Reply.{Reply}
 use Rattle.reclaiming.specs.declared.Reply.the-variants as reply
+use Rattle.reclaiming.specs.declared.Queued.the-variants as queued
 use Rattle.reclaiming.specs.StateBlock.{timing, stateLength}
-use Rattle.reclaiming.specs.Calls.{isOrder, startNumber, showReply, showBuffer}
+use Rattle.reclaiming.specs.Calls.{isOrder, startNumber, showReply, showBuffer, queuedReply}
 use Rattle.reclaiming.specs.Run.{Pass, Answered, DispatcherBook, trace, bytesAfter, startedBytes, openedBook, bookedAll, ranAll}
-use Rattle.reclaiming.specs.Promises.{OnTime, ClosesByArrival, EarlierClosed, NamesMostUrgent, Shows, lastOrder}
+use Rattle.reclaiming.specs.Promises.{OnTime, ClosesByArrival, EarlierClosed, NamesMostUrgent, Shows, ticksIn, lastOrder}
 use Rattle.reclaiming.specs.Numbers.{replyNumber}
 
 -- a pass as a number: d in its lower 32 bits, and the next bit says whether the job finished
@@ -115,6 +116,12 @@ module _ (levels block : List ℕ) (first : ℕ) (passes : List Pass) (replies :
       isOrder (replyFrom first) ≡ true →
       (n : ℕ) →
       EarlierClosed (timing (speedsIn levels) (tasksIn block)) (pairsIn pairs) (actualTo n)
+
+  -- 02, No. 6: the total that all passes leave in the state is the sum over the ready queue of the plain schedule's book
+  abbrev pub PlayedTotalTold : List ℕ → Type 0
+  PlayedTotalTold left =
+      isOrder (replyFrom first) ≡ true →
+      queuedReply (take stateLength left) ≡ queued.Ticks (ticksIn (plainTo (length passes) .pending))
 
   -- demand 2: the queue shown after all passes is that of the plain schedule's book
   abbrev pub PlayedQueueShown : List ℕ → Written → List ℕ → Type 0

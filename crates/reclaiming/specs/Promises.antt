@@ -8,6 +8,7 @@ use mathlib.Core.Logic.{_⊎_}
 use lib.Dec.{eqb}
 use lib.ListN.{length, take}
 use Rattle.arith.specs.Choice.{pick, both}
+use Rattle.arith.specs.Sum.{sumOf}
 use Rattle.plan.specs.declared.Written.{Written}
 use Rattle.plan.specs.Times.{timeOf}
 use Rattle.plan.specs.Levels.{speedOf}
@@ -19,10 +20,11 @@ use Rattle.schedule.specs.PlainSchedule.{Timing, Job, Pending, Book, deadline, 
 use Rattle.schedule.specs.Feasibility.{In}
 use Rattle.reclaiming.specs.declared.Reply.{Reply}
 use Rattle.reclaiming.specs.declared.Reply.the-variants as reply
+use Rattle.reclaiming.specs.declared.Queued.the-variants as queued
 use Rattle.reclaiming.specs.StateBlock.{restOf, decode, timing, stateLength}
 use Rattle.reclaiming.specs.Orders.{nextArrival}
 use Rattle.reclaiming.specs.Questions.{sound, largestClock}
-use Rattle.reclaiming.specs.Calls.{isOrder, startNumber, startReply, passReply, queueBytes, showReply, showBuffer}
+use Rattle.reclaiming.specs.Calls.{isOrder, startNumber, startReply, passReply, queueBytes, showReply, showBuffer, queuedReply}
 use Rattle.reclaiming.specs.Run.{Pass, Answered, DispatcherBook, Arrived, trace, bytesAfter, startedBytes, openedBook, bookedAll, ranAll}
 
 -- a job is open in the plain schedule's book
@@ -148,6 +150,18 @@ QueueShown =
     Shows (plainBook levels block pairs buffer passes .pending) lent
     (showReply (stateAfter levels block pairs buffer passes) (length lent))
     (showBuffer (stateAfter levels block pairs buffer passes) lent)
+
+-- 02, No. 6: "how many plain ticks are queued in all": the sum over a ready queue
+abbrev pub ticksIn : List Pending → ℕ
+ticksIn q = sumOf (λ (e : Pending). e .remaining) q
+
+-- 02, No. 6: the total "equals the full sum after the start and every accepted pass". Said of the call: after any run what it answers is
+-- the sum over the ready queue of the plain schedule's book.
+abbrev pub TotalTold : Type 0
+TotalTold =
+    (levels block pairs buffer : List ℕ) (passes : List Pass) →
+    Started levels block pairs buffer →
+    queuedReply (stateAfter levels block pairs buffer passes) ≡ queued.Ticks (ticksIn (plainBook levels block pairs buffer passes .pending))
 
 -- A started state is sound, and so is every state that a pass leaves: in a run refusal 10 never comes.
 abbrev pub StaysSound : Type 0

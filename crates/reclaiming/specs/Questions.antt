@@ -14,7 +14,7 @@ use Rattle.plan.specs.Questions.{judging, roomQuestion}
 use Rattle.plan.specs.Pairs.{pairedReading}
 use Rattle.schedule.specs.PlainSchedule.{Timing, Pending}
 use Rattle.reclaiming.specs.declared.Entry.{Entry}
-use Rattle.reclaiming.specs.StateBlock.{State, restIn, taskOf, planIn, timing, decode, laidOut, stateLength}
+use Rattle.reclaiming.specs.StateBlock.{State, queuedIn, restIn, taskOf, planIn, timing, decode, laidOut, stateLength}
 use Rattle.reclaiming.specs.Orders.{nextArrival, isLone, allowance, openJobs, runningTime}
 use Rattle.reclaiming.specs.Passes.{clockAfter}
 
@@ -48,13 +48,17 @@ orderSound speeds τ highest s (e ∷ q) =
     both (eqb (s .task) (e .job .task))
     (both (leb (s .level) highest) (leb (runningTime speeds s) (allowance τ s (s .task))))
 
--- 01: "Sound means [..] a plan that passes 3, 6, 7, 8;" the entries and the order as above, whatever the clock
+-- 02, No. 6: "A state whose total differs is unsound."
+abbrev pub totalSound : State → Bool
+totalSound s = eqb (s .total) (queuedIn (s .entries))
+
+-- 01: "Sound means [..] a plan that passes 3, 6, 7, 8;" the entries, the total and the order as above, whatever the clock
 abbrev pub stateSound : List ℕ → State → Bool
 stateSound speeds s =
     let τ : Timing = timing speeds (planIn s) in
     let speed : ℕ = speedOf speeds (nominal speeds (planIn s)) in
     both (eqb (firstNo (judging speeds (length (s .entries)) (planIn s))) 0)
-    (both (every (entrySound speed) (s .entries))
+    (both (both (every (entrySound speed) (s .entries)) (totalSound s))
     (both (orderSound speeds τ (nominal speeds (planIn s)) s (openJobs τ s))
     (pick (every (entryAhead speed) (s .entries)) true (fitsGap speeds τ s))))
 
@@ -62,7 +66,7 @@ stateSound speeds s =
 abbrev pub inTime : ℕ → Bool
 inTime clock = leb clock largestClock
 
--- 01: "Sound means exactly [217] bytes, laid out as above; [..] a clock in range;" and what is asked of the state, at a table of speeds
+-- 01: "Sound means exactly [221] bytes, laid out as above; [..] a clock in range;" and what is asked of the state, at a table of speeds
 abbrev pub soundAt : List ℕ → List ℕ → Bool
 soundAt speeds bytes = both (laidOut bytes) (both (inTime (decode bytes .clock)) (stateSound speeds (decode bytes)))
 
@@ -95,7 +99,11 @@ passing bytes d finished = ask 10 (sound bytes) ∷ passQuestions (decode bytes 
 abbrev pub showing : List ℕ → ℕ → ℕ → List Question
 showing bytes wanted room = ask 10 (sound bytes) ∷ roomQuestion wanted room ∷ []
 
--- "Starting reads the block, then puts 9 for the [217] bytes."; the level block's questions come "before all else"; 02, No. 5: a list of
+-- 02, No. 6: "asking only for the 221 bytes (10)"
+abbrev pub queueing : List ℕ → List Question
+queueing bytes = ask 10 (eqb (length bytes) stateLength) ∷ []
+
+-- "Starting reads the block, then puts 9 for the [221] bytes."; the level block's questions come "before all else"; 02, No. 5: a list of
 -- pairs "comes with the plan at starting", and 22 is "put after 8"
 abbrev pub starting : List ℕ → List ℕ → List ℕ → ℕ → List Question
 starting levels block pairs room =

@@ -41,7 +41,7 @@ abbrev pub bytesAfter : List ℕ → List Pass → List ℕ
 bytesAfter bytes [] = bytes
 bytesAfter bytes (p ∷ ps) = bytesAfter (passBytes bytes (p .d) (p .finished)) ps
 
--- demand 3: "the first gets the state that starting gave on an accepted plan": the first 217 bytes of the lent buffer
+-- demand 3: "the first gets the state that starting gave on an accepted plan": the first 221 bytes of the lent buffer
 abbrev pub startedBytes : List ℕ → List ℕ → List ℕ → List ℕ → List ℕ
 startedBytes levels block pairs buffer = take stateLength (startBuffer levels block pairs buffer)
 

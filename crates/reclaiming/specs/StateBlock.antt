@@ -1,4 +1,4 @@
--- 01, "Blocks": the state, and its block; 02, No. 1: it "grows to 217 bytes".
+-- 01, "Blocks": the state, and its block; 02, No. 1 and No. 6: it grows to 217 bytes, then to 221.
 -- Assumes nothing.
 use Prim.Native.Nat.{ℕ, zero, suc, _+_, _-_, _*_}
 use mathlib.Core.Bool.{Bool, true, false}
@@ -6,6 +6,7 @@ use mathlib.Core.List.{List, [], _∷_, _++_, map}
 use lib.Dec.{eqb}
 use lib.ListN.{length, getD, drop, replicate}
 use Rattle.arith.specs.Choice.{both}
+use Rattle.arith.specs.Sum.{sumOf}
 use Rattle.arith.specs.Ranges.{listTo}
 use Rattle.plan.specs.declared.Task.{Task}
 use Rattle.plan.specs.declared.Rest.{Rest}
@@ -16,13 +17,15 @@ use Rattle.schedule.specs.PlainSchedule.{Timing}
 use Rattle.reclaiming.specs.declared.Entry.{Entry}
 use Rattle.reclaiming.specs.Fields.{Field, field, zeros, fieldsBytes, fieldsLength, readField}
 
--- the clock, the order that stands (its task, or 255 for idle; its level, or 0 for idle), an entry for each task, and the speeds of the levels
+-- the clock, the order that stands (its task, or 255 for idle; its level, or 0 for idle), an entry for each task, the speeds of the levels,
+-- and the total of the plain ticks left
 pub record State : Type 0 where
   pub clock : ℕ
   pub task : ℕ
   pub level : ℕ
   pub entries : List Entry
   pub speeds : List ℕ
+  pub total : ℕ
 
 abbrev pub noEntry : Entry
 noEntry = record { period = 0; worst = 0; work = 0; remaining = 0; fixed = 0; unspent = 0 }
@@ -33,6 +36,10 @@ workOf s i = getD (s .entries) i noEntry .work
 
 abbrev pub remainingOf : State → ℕ → ℕ
 remainingOf s i = getD (s .entries) i noEntry .remaining
+
+-- 02, No. 6: "how many plain ticks are queued in all", "the full sum"
+abbrev pub queuedIn : List Entry → ℕ
+queuedIn es = sumOf (λ (e : Entry). e .remaining) es
 
 -- what is left of task i's job, by which its time is told
 abbrev pub restIn : Entry → Rest
@@ -146,7 +153,14 @@ levelsField = 0
 abbrev pub speedField : ℕ → ℕ
 speedField k = suc k
 
--- 8 bytes, 12 for an entry, and "217 bytes" in all
+-- 02, No. 6: "Keep the total in the state block, as four bytes at its end"
+abbrev pub endFields : List (Field State)
+endFields = field 4 (λ s. s .total) ∷ []
+
+abbrev pub totalField : ℕ
+totalField = 0
+
+-- 8 bytes, 12 for an entry, and "221 bytes" in all
 abbrev pub headLength : ℕ
 headLength = fieldsLength headFields
 
@@ -156,8 +170,11 @@ entryLength = fieldsLength entryFields
 abbrev pub tailAt : ℕ
 tailAt = headLength + entryLength * places
 
+abbrev pub totalAt : ℕ
+totalAt = tailAt + fieldsLength tailFields
+
 abbrev pub stateLength : ℕ
-stateLength = tailAt + fieldsLength tailFields
+stateLength = totalAt + fieldsLength endFields
 
 abbrev pub entryBytes : Entry → List ℕ
 entryBytes e = fieldsBytes entryFields e
@@ -170,8 +187,12 @@ entriesBytes (e ∷ es) = entryBytes e ++ entriesBytes es
 abbrev pub unusedBytes : List Entry → List ℕ
 unusedBytes es = replicate (entryLength * (places - length es)) 0
 
+-- what stands behind the places
+abbrev pub tailBytes : State → List ℕ
+tailBytes s = fieldsBytes tailFields s ++ fieldsBytes endFields s
+
 abbrev pub encode : State → List ℕ
-encode s = fieldsBytes headFields s ++ (entriesBytes (s .entries) ++ (unusedBytes (s .entries) ++ fieldsBytes tailFields s))
+encode s = fieldsBytes headFields s ++ (entriesBytes (s .entries) ++ (unusedBytes (s .entries) ++ tailBytes s))
 
 -- the same fields read off a block
 abbrev pub entryFrom : List ℕ → Entry
@@ -197,6 +218,9 @@ levelCount bytes = readField tailFields levelsField (drop tailAt bytes)
 abbrev pub speedIn : List ℕ → ℕ → ℕ
 speedIn bytes k = readField tailFields (speedField k) (drop tailAt bytes)
 
+abbrev pub totalIn : List ℕ → ℕ
+totalIn bytes = readField endFields totalField (drop totalAt bytes)
+
 abbrev pub decode : List ℕ → State
 decode bytes = record {
   clock = readField headFields clockField bytes;
@@ -204,6 +228,7 @@ decode bytes = record {
   level = readField headFields levelField bytes;
   entries = entriesFrom (stateCount bytes) (drop headLength bytes);
   speeds = listTo (levelCount bytes) (speedIn bytes);
+  total = totalIn bytes;
 }
 
 -- two lists of bytes are the same
@@ -213,6 +238,6 @@ sameBytes [] (y ∷ ys) = false
 sameBytes (x ∷ xs) [] = false
 sameBytes (x ∷ xs) (y ∷ ys) = both (eqb x y) (sameBytes xs ys)
 
--- 01: "exactly [217] bytes, laid out as above": a block is what its own fields are written as
+-- 01: "exactly [221] bytes, laid out as above": a block is what its own fields are written as
 abbrev pub laidOut : List ℕ → Bool
 laidOut bytes = both (eqb (length bytes) stateLength) (sameBytes (encode (decode bytes)) bytes)

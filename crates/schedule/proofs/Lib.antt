@@ -10,6 +10,7 @@ pub mod Demand
 pub mod Feasible
 pub mod Drain
 pub mod QueueLaws
+pub mod Totals
 pub mod Ahead
 pub mod Span
 pub mod Sample

@@ -1,9 +1,10 @@
 -- What each step and each way out of testing the entries of a state block says of whether they are sound.
 -- Assumes nothing.
-use Prim.Native.Nat.{ℕ, _+_, _<_, _≤_}
+use Prim.Native.Nat.{ℕ, _+_, _*_, _<_, _≤_}
 use mathlib.Core.Path.{_≡_, refl, sym, ap, ap₂, _∙_}
 use mathlib.Core.Bool.{Bool, true, false}
 use mathlib.Core.List.{List}
+use native.Mathlib.Numerals.{add-one}
 use native.Mathlib.Omega.{arith}
 use borrow.Author.Tests.{le-leb, lt-leb, eq-eqb, ne-eqb}
 use lib.Dec.{leb, eqb}
@@ -16,12 +17,12 @@ use Rattle.arith.proofs.Tests.{both-left, both-yes}
 use Rattle.arith.proofs.ListLaws.{every-both}
 use Rattle.arith.proofs.Loops.{every-again, every-not, every-end}
 use Rattle.reclaiming.specs.declared.Entry.{Entry}
-use Rattle.reclaiming.specs.StateBlock.{noEntry, restIn, taskOf, decode, stateCount}
-use Rattle.reclaiming.specs.Questions.{entrySound, entryAhead}
-use Rattle.state.specs.Code.{Holds, entryIn}
+use Rattle.reclaiming.specs.StateBlock.{State, noEntry, restIn, taskOf, totalIn, decode, stateCount}
+use Rattle.reclaiming.specs.Questions.{entrySound, entryAhead, totalSound}
+use Rattle.state.specs.Code.{Holds, entryIn, queuedTo}
 use Rattle.sound_entries.specs.declared.Entries.{Entries}
-use Rattle.sound_entries.specs.Code.{restSound, entryPasses, entriesTested}
-use Rattle.state.proofs.BlockLaws.{count-in, entry-at}
+use Rattle.sound_entries.specs.Code.{restSound, entryPasses, entriesPass, entriesTested}
+use Rattle.state.proofs.BlockLaws.{count-in, entry-at, queued-in}
 
 -- what is left of a job, beside a whole one: each test as the code makes it
 module _ (rest full : Rest) where
@@ -109,7 +110,7 @@ module _ {b : List ℕ} {count : ℕ} {test : Entry → Bool} {i : ℕ} (now : T
   all-entries : every test (take count (decode b .entries)) ≡ every test (decode b .entries)
   all-entries = ap (every test) (take-all count (decode b .entries) (omega (arith, size)))
 
-  pub entries-end : count ≤ i → true ≡ every test (decode b .entries)
+  entries-end : count ≤ i → true ≡ every test (decode b .entries)
   entries-end h =
       every-end test (decode b .entries) count noEntry (omega (arith, size)) i (omega (arith, now .below)) (now .decide) ∙ all-entries
 
@@ -117,7 +118,7 @@ module _ {b : List ℕ} {count : ℕ} {test : Entry → Bool} {i : ℕ} (now : T
     tested-is : test (getD (decode b .entries) i noEntry) ≡ found
     tested-is = ap test (entry-at b i (omega (arith, now .same))) ∙ sym e
 
-    pub entries-stop : found ≡ false → false ≡ every test (decode b .entries)
+    entries-stop : found ≡ false → false ≡ every test (decode b .entries)
     entries-stop f =
         every-not test (decode b .entries) count noEntry (omega (arith, size)) i h (now .decide) (tested-is ∙ f) ∙ all-entries
 
@@ -129,18 +130,57 @@ module _ {b : List ℕ} {count : ℕ} {test : Entry → Bool} {i : ℕ} (now : T
       decide = every-again test (decode b .entries) count noEntry (omega (arith, size)) i h (now .decide) (tested-is ∙ t);
     }
 
+-- the terms below i of the sum of their remaining ticks
+pub record SummedTo (b : List ℕ) (sum i : ℕ) : Type 0 where
+  pub total : sum ≡ queuedTo b i
+  pub small : sum ≤ 65535 * i
+
+pub sum-more : {b : List ℕ} {sum i x : ℕ} → SummedTo b sum i → x ≡ entryIn b i .remaining → x ≤ 65535 → SummedTo b (sum + x) (i + 1)
+sum-more {b} {i = i} so-far read most = record {
+  total = ap₂ _+_ (so-far .total) read ∙ ap (queuedTo b) (sym (add-one i));
+  small = omega (arith, so-far .small);
+}
+
+-- each way out of the walk: an entry does not pass, or all do and the sum decides
+module _ {b : List ℕ} {count : ℕ} {test : Entry → Bool} {i : ℕ} (now : Testing b count test i) where
+  pub walk-stop : i < count → {found : Bool} → found ≡ test (entryIn b i) → found ≡ false → false ≡ both (every test (decode b .entries)) (totalSound (decode b))
+  walk-stop h e f = ap (λ (t : Bool). both t (totalSound (decode b))) (entries-stop now h e f)
+
+  pub walk-end :
+      count ≤ i →
+      {sum total : ℕ} →
+      SummedTo b sum i →
+      total ≡ totalIn b →
+      eqb total sum ≡ both (every test (decode b .entries)) (totalSound (decode b))
+  walk-end h {sum} so-far read =
+      let n : i ≡ stateCount b = omega (arith, now .below, now .same) in
+      ap₂ eqb read (so-far .total ∙ ap (queuedTo b) n ∙ queued-in b) ∙ ap (λ (t : Bool). both t (totalSound (decode b))) (entries-end now h)
+
+-- two tests that are made in another order
+both-turned : (a b c : Bool) → both (both a b) c ≡ both (both a c) b
+both-turned true true true = refl
+both-turned true true false = refl
+both-turned true false true = refl
+both-turned true false false = refl
+both-turned false b c = refl
+
 -- what is found of all entries, by whether every one is sound and ahead
-module _ (speed : ℕ) (es : List Entry) {both-pass : Bool} (e : both-pass ≡ every (entryPasses true speed) es) where
+module _ (speed : ℕ) (s : State) {both-pass : Bool} (e : both-pass ≡ entriesPass true speed s) where
+  abbrev es : List Entry
+  es = s .entries
+
   abbrev sounds : Bool
-  sounds = every (entrySound speed) es
+  sounds = both (every (entrySound speed) es) (totalSound s)
 
   abbrev aheads : Bool
   aheads = every (entryAhead speed) es
 
   passes-both : both sounds aheads ≡ both-pass
-  passes-both = sym (e ∙ every-both (entrySound speed) (entryAhead speed) es)
+  passes-both =
+      both-turned (every (entrySound speed) es) (totalSound s) aheads
+      ∙ sym (e ∙ ap (λ (t : Bool). both t (totalSound s)) (every-both (entrySound speed) (entryAhead speed) es))
 
-  pub entries-ahead : both-pass ≡ true → _≡_ {A = Entries} (record { sound = true; ahead = true }) (entriesTested speed es)
+  pub entries-ahead : both-pass ≡ true → _≡_ {A = Entries} (record { sound = true; ahead = true }) (entriesTested speed s)
   entries-ahead t =
       let all : both sounds aheads ≡ true = passes-both ∙ t in
       λ k. record { sound = sym (both-left sounds aheads all) k; ahead = sym all k }
@@ -148,8 +188,8 @@ module _ (speed : ℕ) (es : List Entry) {both-pass : Bool} (e : both-pass ≡ e
   pub entries-behind :
       both-pass ≡ false →
       {sound : Bool} →
-      sound ≡ every (entryPasses false speed) es →
-      _≡_ {A = Entries} (record { sound = sound; ahead = false }) (entriesTested speed es)
-  entries-behind f {sound} s =
-      let alone : sound ≡ sounds = s ∙ (λ k. every (λ (x : Entry). both-yes (entrySound speed x) k) es) in
+      sound ≡ entriesPass false speed s →
+      _≡_ {A = Entries} (record { sound = sound; ahead = false }) (entriesTested speed s)
+  entries-behind f {sound} g =
+      let alone : sound ≡ sounds = g ∙ (λ k. both (every (λ (x : Entry). both-yes (entrySound speed x) k) es) (totalSound s)) in
       λ k. record { sound = alone k; ahead = sym (passes-both ∙ f) k }

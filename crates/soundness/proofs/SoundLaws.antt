@@ -26,13 +26,13 @@ use Rattle.plan.proofs.RoundTrip.{tasksOf-planOf}
 use Rattle.plan.proofs.TimeLaws.{time-none}
 use Rattle.arith.proofs.ArrayLaws.{value-at}
 use Rattle.judging.proofs.Judgements.{Filled, filled-more, filled-all, count-low, count-high, count-good}
-use Rattle.arith.proofs.Tests.{both-false, both-yes}
+use Rattle.arith.proofs.Tests.{both-false, both-yes, both-left}
 use Rattle.arith.proofs.ListLaws.{every-at, at-every}
 use Rattle.soundness.specs.declared.Tested.{Tested}
 use Rattle.reclaiming.specs.declared.Entry.{Entry}
 use Rattle.reclaiming.specs.StateBlock.{State, noEntry, workOf, remainingOf, restOf, taskOf, planIn, timing, decode, laidOut, places, stateCount}
 use Rattle.reclaiming.specs.Orders.{nextArrival, isLone, openJobs, runningTime}
-use Rattle.reclaiming.specs.Questions.{largestClock, inTime, entrySound, entryAhead, orderSound, fitsGap, stateSound, soundAt}
+use Rattle.reclaiming.specs.Questions.{largestClock, inTime, entrySound, entryAhead, orderSound, fitsGap, totalSound, stateSound, soundAt}
 use Rattle.state.specs.Code.{Holds, entryIn, timingIn}
 use Rattle.urgency.specs.Code.{Keyed, noKey, deadlineIn, latestKey, keysIn}
 use Rattle.orders.specs.declared.Choice.{Choice}
@@ -94,7 +94,7 @@ module _ (speeds : List ℕ) (s : State) where
   planWell = eqb (firstNo (judging speeds (length (s .entries)) (planIn s))) 0
 
   abbrev entriesWell : Bool
-  entriesWell = every (entrySound (speedOf speeds (nominal speeds (planIn s)))) (s .entries)
+  entriesWell = both (every (entrySound (speedOf speeds (nominal speeds (planIn s)))) (s .entries)) (totalSound s)
 
   abbrev orderWell : Bool
   orderWell = orderSound speeds (timing speeds (planIn s)) (nominal speeds (planIn s)) s (openJobs (timing speeds (planIn s)) s)
@@ -215,7 +215,7 @@ module _ {held : List ℕ} {levels : ℕ} {b : List ℕ} {count clock level spee
 
   pub admitted-entries :
       {found : Entries} →
-      found ≡ entriesTested speed (decode b .entries) →
+      found ≡ entriesTested speed (decode b) →
       found .sound ≡ false →
       {r : Tested} →
       r ≡ testedBy [] false [] →
@@ -223,12 +223,12 @@ module _ {held : List ℕ} {levels : ℕ} {b : List ℕ} {count clock level spee
   admitted-entries e f g =
       tested-not (loaded held levels) b g
       (entries-not (loaded held levels) (decode b)
-      (sym (ap (λ (x : Entries). x .sound) e ∙ ap (λ (v : ℕ). every (entrySound v) (decode b .entries)) speed-nominal) ∙ f))
+      (sym (ap (λ (x : Entries). x .sound) e ∙ ap (λ (v : ℕ). both (every (entrySound v) (decode b .entries)) (totalSound (decode b))) speed-nominal) ∙ f))
 
--- its entries are sound, and it is known whether they are ahead
+-- its entries and its total are sound, and it is known whether the entries are ahead
 pub record Entered (held : List ℕ) (levels : ℕ) (b : List ℕ) (count clock level speed : ℕ) (found : Entries) : Type 0 where
   pub admitted : Admitted held levels b count clock level speed
-  pub tests : found ≡ entriesTested speed (decode b .entries)
+  pub tests : found ≡ entriesTested speed (decode b)
   pub well : found .sound ≡ true
 
 module _ {held : List ℕ} {levels : ℕ} {b : List ℕ} {count clock level speed : ℕ} {found : Entries} (k : Entered held levels b count clock level speed found) where
@@ -238,7 +238,7 @@ module _ {held : List ℕ} {levels : ℕ} {b : List ℕ} {count clock level spee
   abbrev S : State
   S = decode b
 
-  entries-well : every (entrySound speed) (S .entries) ≡ true
+  entries-well : both (every (entrySound speed) (S .entries)) (totalSound S) ≡ true
   entries-well = sym (ap (λ (x : Entries). x .sound) (k .tests)) ∙ k .well
 
   ahead-is : found .ahead ≡ every (entryAhead speed) (S .entries)
@@ -250,7 +250,7 @@ module _ {held : List ℕ} {levels : ℕ} {b : List ℕ} {count clock level spee
       judging-yes table-speeds b (k .admitted .yes-all) (k .admitted .holds .few) (subst (λ (n : ℕ). 1 ≤ n) (k .admitted .same) (k .admitted .some))
 
   nominal-well : entriesWell table-speeds S ≡ true
-  nominal-well = ap (λ (v : ℕ). every (entrySound v) (S .entries)) (sym (speed-nominal (k .admitted))) ∙ entries-well
+  nominal-well = ap (λ (v : ℕ). both (every (entrySound v) (S .entries)) (totalSound S)) (sym (speed-nominal (k .admitted))) ∙ entries-well
 
   order-is : orderIn table-speeds b level ≡ orderWell table-speeds S
   order-is = ap (orderIn table-speeds b) (k .admitted .level-is)
@@ -281,10 +281,13 @@ module _ {held : List ℕ} {levels : ℕ} {b : List ℕ} {count clock level spee
         positive : 0 < speed
         positive = admitted-speed (k .admitted) .0
 
+        each-well : every (entrySound speed) (S .entries) ≡ true
+        each-well = both-left (every (entrySound speed) (S .entries)) (totalSound S) entries-well
+
         closed : (i : ℕ) → i < length (S .entries) → workOf S i ≡ 0 → entryAhead speed (getD (S .entries) i noEntry) ≡ true
         closed i h z =
             let entry : Entry = getD (S .entries) i noEntry in
-            let whole-entry : FineEntry speed entry = fine-entry speed entry (every-at (entrySound speed) (S .entries) i noEntry entries-well h) in
+            let whole-entry : FineEntry speed entry = fine-entry speed entry (every-at (entrySound speed) (S .entries) i noEntry each-well h) in
             let none : restOf S i ≡ noRest = λ x. record { fixed = whole-entry .closed z x; work = z x } in
             le-leb (timeOf speed (restOf S i)) (remainingOf S i) (omega (arith, ap (timeOf speed) none, time-none speed positive))
 

@@ -1,6 +1,6 @@
 -- Starting: the order chosen in a fresh image, and what a start leaves.
 -- Assumes nothing.
-use Prim.Native.Nat.{ℕ, zero, suc, _+_, _<_, _≤_}
+use Prim.Native.Nat.{ℕ, zero, suc, _+_, _^_, _<_, _≤_}
 use mathlib.Core.Path.{_≡_, refl, sym, subst, ap, ap₂, _∙_}
 use mathlib.Core.Bool.{Bool}
 use mathlib.Core.List.{List, [], _∷_, _++_, map}
@@ -29,7 +29,8 @@ use Rattle.schedule.specs.PlainSchedule.{Timing}
 use Rattle.reclaiming.specs.declared.Entry.{Entry}
 use Rattle.reclaiming.specs.declared.Reply.{Reply}
 use Rattle.reclaiming.specs.declared.Reply.the-variants as reply
-use Rattle.reclaiming.specs.StateBlock.{State, noEntry, restIn, taskOf, timing, planIn, stateLength, stateCount, encode, decode, places}
+use Rattle.reclaiming.specs.Fields.{widthOf}
+use Rattle.reclaiming.specs.StateBlock.{State, noEntry, endFields, totalField, restIn, taskOf, timing, planIn, stateLength, stateCount, encode, decode, places}
 use Rattle.reclaiming.specs.Orders.{chooseOrder, holdOf, orderWith}
 use Rattle.reclaiming.specs.Passes.{newEntry, startState}
 use Rattle.reclaiming.specs.Calls.{repliedBy, startNumber, startOrder}
@@ -47,7 +48,7 @@ use Rattle.reclaiming.proofs.Plans.{task-range}
 use Rattle.reclaiming.proofs.StateCodec.{Storable, StorableEntry, StorableTable, length-encode, decode-encode}
 use Rattle.reclaiming.proofs.Soundness.{fine-storable}
 use Rattle.arith.proofs.RangeLaws.{length-listTo, getD-listTo}
-use Rattle.reclaiming.proofs.PassedStates.{choose-clock, choose-entries, choose-speeds}
+use Rattle.reclaiming.proofs.PassedStates.{choose-clock, choose-entries, choose-speeds, choose-total}
 use Rattle.reclaiming.proofs.PassSound.{start-fine}
 use Rattle.state.proofs.BlockLaws.{count-in, entry-at}
 
@@ -158,6 +159,7 @@ module _ {speeds : List ℕ} {ts : List Task} {image : List ℕ} (new : Newly sp
     count = omega (arith, new-length, new .good .count-high);
     entries = subst (λ (es : List Entry). (i : ℕ) → i < length es → StorableEntry (getD es i noEntry)) entries-are (start-storable .entries);
     table = new .stored;
+    total = subst (λ (x : ℕ). x < 256 ^ widthOf endFields totalField) (choose-total speeds τ N) (start-storable .total);
   }
 
   -- it is read back

@@ -25,7 +25,7 @@ ghost use Rattle.reclaiming.specs.Calls.{repliedBy, startOrder, startReply, sta
 ghost use Rattle.levels.specs.Code.{loaded, Table};
 ghost use Rattle.starting.specs.Code.{startNo};
 
-// Starting a plan that was accepted over a table of speeds, of which the nominal level is known: 9 for the 217 bytes.
+// Starting a plan that was accepted over a table of speeds, of which the nominal level is known: 9 for the 221 bytes.
 fn started(speeds: &[u32; 8], levels: usize, p: Plan, highest: usize, state: &mut [u8]) -> Reply
     requires { ⌜ Table (now speeds) levels × (now speeds ≡ padded 8 0 (loaded (now speeds) levels)) ⌝ }
     requires { ⌜ firstNo (judging (loaded (now speeds) levels) (p .count) (tasksOf p)) ≡ 0 ⌝ }
@@ -47,7 +47,7 @@ fn started(speeds: &[u32; 8], levels: usize, p: Plan, highest: usize, state: &mu
 }
 
 // Starting over a table of speeds whose numbers past its count are zero: those questions of the block that reading puts, 22 of its pairs,
-// then 9 for the 217 bytes.
+// then 9 for the 221 bytes.
 fn start_over(
     speeds: &[u32; 8],
     levels: usize,
@@ -75,7 +75,7 @@ fn start_over(
     }
 }
 
-// Starting: the questions 18 to 20 of the level block, those of the plan's that reading puts, 22 of its pairs, then 9 for the 217 bytes.
+// Starting: the questions 18 to 20 of the level block, those of the plan's that reading puts, 22 of its pairs, then 9 for the 221 bytes.
 pub fn start(levels: &[u8], block: &[u8], pairs: &[u8], state: &mut [u8]) -> Reply
     ensures { λ r. ⌜ r ≡ startReply (now (levels .entry)) (now (block .entry)) (now (pairs .entry)) (length (now (state .entry))) ⌝ }
     ensures { λ _. ⌜ now (state .exit) ≡ startBuffer (now (levels .entry)) (now (block .entry)) (now (pairs .entry)) (now (state .entry)) ⌝ }

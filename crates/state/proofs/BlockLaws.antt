@@ -13,17 +13,19 @@ use lib.ListN.{length, getD, take, drop, set, replicate, length-append, length-s
 use lib.Seq.{sets, length-sets, drop-drop, getD-drop, length-take-le, take-all, take-length, take-suc, getD-set-same, getD-set-other, paste, paste-suc}
 use Rattle.arith.specs.Digits.{number, digits}
 use Rattle.arith.specs.Choice.{pick}
-use Rattle.arith.proofs.DigitLaws.{number-below}
+use Rattle.arith.specs.Sum.{sumTo}
+use Rattle.arith.proofs.Sums.{sumTo-eq, sumOf-places}
+use Rattle.arith.proofs.DigitLaws.{length-digits, number-below}
 use Rattle.reclaiming.specs.declared.Entry.{Entry}
 use Rattle.plan.specs.declared.Rest.{Rest}
-use Rattle.reclaiming.specs.Fields.{valueIn, fieldsBytes, fieldAt, widthOf, offsetOf, readField}
-use Rattle.reclaiming.specs.StateBlock.{State, noEntry, remainingOf, restIn, restOf, taskOf, entryWith, headFields, clockField, taskField, levelField, countField, tailFields, places}
-use Rattle.reclaiming.specs.StateBlock.{entryFields, periodField, worstField, workField, remainingField, fixedField, unspentField, headLength, entryLength, stateLength}
-use Rattle.reclaiming.specs.StateBlock.{entryBytes, entriesBytes, unusedBytes, encode, entryFrom, entriesFrom, stateCount, decode}
+use Rattle.reclaiming.specs.Fields.{valueIn, fieldsBytes, fieldsLength, fieldAt, widthOf, offsetOf, readField}
+use Rattle.reclaiming.specs.StateBlock.{State, noEntry, queuedIn, remainingOf, restIn, restOf, taskOf, entryWith, headFields, clockField, taskField, levelField, countField, tailFields, endFields, totalField, places}
+use Rattle.reclaiming.specs.StateBlock.{entryFields, periodField, worstField, workField, remainingField, fixedField, unspentField, headLength, entryLength, tailAt, totalAt, stateLength}
+use Rattle.reclaiming.specs.StateBlock.{entryBytes, entriesBytes, unusedBytes, tailBytes, encode, entryFrom, entriesFrom, stateCount, decode}
 use Rattle.reclaiming.specs.Orders.{withOrder}
-use Rattle.state.specs.Code.{entryAt, entryIn, fieldPlace, fieldIn, numberIn, entryStored, headStored, changed, withJobs, withClock, FitTask, FitRest, restStored}
+use Rattle.state.specs.Code.{entryAt, entryIn, fieldPlace, fieldIn, numberIn, entryStored, headStored, changed, withJobs, withClock, withTotal, FitTask, FitRest, restStored, totalStored, queuedTo}
 use Rattle.reclaiming.proofs.FieldLaws.{fieldsValues, sets-past, sets-over, length-fields, read-field, fields-same, store-field, store-next}
-use Rattle.reclaiming.proofs.StateCodec.{pastHead, pastEntries, past-head, length-entriesFrom, length-entriesBytes}
+use Rattle.reclaiming.proofs.StateCodec.{pastHead, pastEntries, past-head, length-entriesFrom, length-entriesBytes, length-tail, upToPlaces, two-parts, length-places}
 use Rattle.arith.proofs.RangeLaws.{length-listTo, getD-listTo, listTo-is, listTo-same}
 
 -- the remaining ticks of a block's tasks
@@ -48,6 +50,14 @@ pub entry-at : (bytes : List ℕ) (i : ℕ) → i < stateCount bytes → getD (d
 entry-at bytes i h =
     entriesFrom-at (stateCount bytes) (drop headLength bytes) i h
     ∙ ap (λ (x : List ℕ). entryFrom x) (drop-drop (entryLength * i) headLength bytes)
+
+-- the remaining ticks of all of them
+pub queued-in : (bytes : List ℕ) → queuedTo bytes (stateCount bytes) ≡ queuedIn (decode bytes .entries)
+queued-in bytes =
+    sumTo-eq (stateCount bytes) (remainingIn bytes) (remainingOf (decode bytes))
+    (λ i h. ap (λ (e : Entry). e .remaining) (sym (entry-at bytes i h)))
+    ∙ ap (λ (n : ℕ). sumTo n (remainingOf (decode bytes))) (sym (count-in bytes))
+    ∙ sym (sumOf-places (λ (e : Entry). e .remaining) (decode bytes .entries) noEntry)
 
 -- a field of one byte is that byte; so the task, the level and the count are
 pub byte-field : (bytes : List ℕ) (at : ℕ) → number 256 1 (drop at bytes) ≡ getD bytes at 0
@@ -133,11 +143,11 @@ zeros-part a b k tail e =
 
 -- a state's bytes from place i on, while no entry is stored there
 abbrev freeFrom : State → ℕ → List ℕ
-freeFrom s i = replicate (entryLength * (places - i)) 0 ++ fieldsBytes tailFields s
+freeFrom s i = replicate (entryLength * (places - i)) 0 ++ tailBytes s
 
 free-next : (s : State) (i : ℕ) → i < places → freeFrom s i ≡ replicate entryLength 0 ++ freeFrom s (i + 1)
 free-next s i h =
-    zeros-part entryLength (entryLength * (places - (i + 1))) (entryLength * (places - i)) (fieldsBytes tailFields s) (omega arith)
+    zeros-part entryLength (entryLength * (places - (i + 1))) (entryLength * (places - i)) (tailBytes s) (omega arith)
 
 -- the image of a state whose first i entries are stored
 abbrev pub storedTo : State → ℕ → List ℕ
@@ -154,9 +164,9 @@ stored-size s i few h =
       length-append p (freeFrom s i),
       length-entriesBytes (take i (s .entries)),
       length-take-le i (s .entries) h,
-      length-append (replicate free 0) (fieldsBytes tailFields s),
+      length-append (replicate free 0) (tailBytes s),
       length-replicate {A = ℕ} free 0,
-      length-fields tailFields s,
+      length-tail s,
     )
 
 pub stored-more :
@@ -298,12 +308,23 @@ module _ (s : State) (left : ℕ → Rest) (remaining : ℕ → ℕ) where
     pub jobs-task : taskOf (getD (withJobs s left remaining .entries) i noEntry) ≡ taskOf (getD (s .entries) i noEntry)
     jobs-task = ap taskOf jobs-entry
 
+-- a state with other entries
+abbrev withEntries : State → List Entry → State
+withEntries s es = record {
+  clock = s .clock;
+  task = s .task;
+  level = s .level;
+  entries = es;
+  speeds = s .speeds;
+  total = s .total;
+}
+
 -- its own jobs, and the same jobs
 pub jobs-same : (s : State) → withJobs s (restOf s) (remainingOf s) ≡ s
 jobs-same s =
     let e : s .entries ≡ withJobs s (restOf s) (remainingOf s) .entries =
     listTo-is (length (s .entries)) (jobWith s (restOf s) (remainingOf s)) (s .entries) noEntry refl (λ i h. refl) in
-    λ k. record { clock = s .clock; task = s .task; level = s .level; entries = sym e k; speeds = s .speeds }
+    λ k. withEntries s (sym e k)
 
 pub jobs-eq :
     (s : State) (f g : ℕ → Rest) (p q : ℕ → ℕ) →
@@ -314,11 +335,11 @@ jobs-eq s f g p q a b =
     let e : withJobs s f p .entries ≡ withJobs s g q .entries =
     listTo-same (length (s .entries)) (jobWith s f p) (jobWith s g q)
     (λ i h k. entryWith (taskOf (getD (s .entries) i noEntry)) (a i h k) (b i h k)) in
-    λ k. record { clock = s .clock; task = s .task; level = s .level; entries = e k; speeds = s .speeds }
+    λ k. withEntries s (e k)
 
 -- a state with another entry in the place of one
 abbrev withEntry : State → ℕ → Entry → State
-withEntry s i e = record { clock = s .clock; task = s .task; level = s .level; entries = set (s .entries) i e; speeds = s .speeds }
+withEntry s i e = withEntries s (set (s .entries) i e)
 
 -- a store leaves the length
 pub length-entryStored : (bytes : List ℕ) (k i x : ℕ) → length (entryStored bytes k i x) ≡ length bytes
@@ -365,7 +386,7 @@ module _ (k v : ℕ) (f : Entry) where
       ∙ sets-past (fieldsBytes headFields s) (pastHead s) headLength at new (length-fields headFields s)
       ∙ ap₂ (λ (x y : List ℕ). x ++ y) front
       (store-entries (s .entries) (pastEntries s) i h e
-      ∙ ap (λ (l : List ℕ). entriesBytes (set (s .entries) i f) ++ (l ++ fieldsBytes tailFields s)) unused)
+      ∙ ap (λ (l : List ℕ). entriesBytes (set (s .entries) i f) ++ (l ++ tailBytes s)) unused)
 
 -- a number stored in field k in front of the entries
 pub store-head :
@@ -410,7 +431,7 @@ module _ (s : State) (left : ℕ → Rest) (remaining : ℕ → ℕ) (i : ℕ) (
   store-jobs f p k x e a b =
       store-entry k x (jobWith s f p i) (withJobs s left remaining) i in-jobs
       (e ∙ ap (λ (y : Entry). set (fieldsValues entryFields y) k x) (sym (jobs-entry s left remaining i h)))
-      ∙ ap encode (λ j. record { clock = s .clock; task = s .task; level = s .level; entries = changed-entries f p a b j; speeds = s .speeds })
+      ∙ ap encode (λ j. withEntries s (changed-entries f p a b j))
 
   pub store-remaining :
       (x : ℕ) → entryStored (encode (withJobs s left remaining)) remainingField i x ≡ encode (withJobs s left (changed remaining i x))
@@ -438,3 +459,18 @@ pub store-order :
 store-order s task level =
     ap (λ (l : List ℕ). headStored l levelField level) (store-head s (withOrder s task (s .level)) taskField task refl refl)
     ∙ store-head (withOrder s task (s .level)) (withOrder s task level) levelField level refl refl
+
+-- storing the total
+pub store-total : (s : State) (x : ℕ) → length (s .entries) ≤ places → totalStored (encode s) x ≡ encode (withTotal s x)
+store-total s x few =
+    let width : ℕ = widthOf endFields totalField in
+    let old : List ℕ = digits 256 width (s .total) in
+    let new : List ℕ = digits 256 width x in
+    let table : List ℕ = fieldsBytes tailFields s in
+    ap (λ (l : List ℕ). sets l totalAt new) (two-parts s)
+    ∙ sets-past (upToPlaces s) (tailBytes s) tailAt (fieldsLength tailFields) new (length-places s few)
+    ∙ ap (λ (l : List ℕ). upToPlaces s ++ l)
+    (sets-past table (fieldsBytes endFields s) (fieldsLength tailFields) 0 new (length-fields tailFields s)
+    ∙ ap (λ (l : List ℕ). table ++ l)
+    (sets-over [] old [] new 0 refl (length-digits 256 width (s .total) ∙ sym (length-digits 256 width x))))
+    ∙ sym (two-parts (withTotal s x))

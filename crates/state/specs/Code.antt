@@ -8,13 +8,14 @@ use lib.Dec.{eqb}
 use lib.ListN.{length, drop, getD}
 use lib.Seq.{sets}
 use Rattle.arith.specs.Choice.{pick, every}
+use Rattle.arith.specs.Sum.{sumTo}
 use Rattle.arith.specs.Digits.{number, digits}
 use Rattle.schedule.specs.PlainSchedule.{Timing}
 use Rattle.reclaiming.specs.declared.Entry.{Entry}
 use Rattle.plan.specs.declared.Task.{Task}
 use Rattle.plan.specs.declared.Rest.{Rest}
 use Rattle.reclaiming.specs.Fields.{widthOf, offsetOf}
-use Rattle.reclaiming.specs.StateBlock.{State, noEntry, headFields, entryFields, workField, unspentField, places, headLength, entryLength, stateLength}
+use Rattle.reclaiming.specs.StateBlock.{State, noEntry, headFields, entryFields, workField, unspentField, places, endFields, totalField, headLength, entryLength, totalAt, stateLength}
 use Rattle.reclaiming.specs.StateBlock.{levelPlaces, taskOf, entryWith, entryFrom, stateCount, levelCount, speedIn, decode, planIn, timing}
 use Rattle.arith.specs.Ranges.{listTo}
 
@@ -61,7 +62,7 @@ timingIn speeds bytes = timing speeds (planIn (decode bytes))
 abbrev pub changed {ℓ} : {A : Type ℓ} → (ℕ → A) → ℕ → A → ℕ → A
 changed f i x j = pick (eqb j i) x (f j)
 
--- the same state with something else left of each task's job, and other plain ticks left
+-- the same state with something else left of each task's job, and other plain ticks left; its total stays what it was
 abbrev pub withJobs : State → (ℕ → Rest) → (ℕ → ℕ) → State
 withJobs s left remaining = record {
   clock = s .clock;
@@ -69,6 +70,7 @@ withJobs s left remaining = record {
   level = s .level;
   entries = listTo (length (s .entries)) (λ i. entryWith (taskOf (getD (s .entries) i noEntry)) (left i) (remaining i));
   speeds = s .speeds;
+  total = s .total;
 }
 
 -- a task, and what is left of a job, whose numbers fit their bytes
@@ -87,4 +89,30 @@ restStored bytes i r = entryStored (entryStored bytes workField i (r .work)) uns
 
 -- the same state at another clock
 abbrev pub withClock : State → ℕ → State
-withClock s clock = record { clock = clock; task = s .task; level = s .level; entries = s .entries; speeds = s .speeds }
+withClock s clock = record {
+  clock = clock;
+  task = s .task;
+  level = s .level;
+  entries = s .entries;
+  speeds = s .speeds;
+  total = s .total;
+}
+
+-- and with another total
+abbrev pub withTotal : State → ℕ → State
+withTotal s total = record {
+  clock = s .clock;
+  task = s .task;
+  level = s .level;
+  entries = s .entries;
+  speeds = s .speeds;
+  total = total;
+}
+
+-- a block with a number stored as its total
+abbrev pub totalStored : List ℕ → ℕ → List ℕ
+totalStored bytes x = sets bytes totalAt (digits 256 (widthOf endFields totalField) x)
+
+-- the remaining ticks of a block's first so many tasks, in all
+abbrev pub queuedTo : List ℕ → ℕ → ℕ
+queuedTo bytes n = sumTo n (λ i. entryIn bytes i .remaining)

@@ -4,7 +4,7 @@ use plan::Task;
 ghost use mathlib.Core.Path.{_≡_};
 ghost use Prim.Native.Nat.{_+_, _-_, _^_, _<_, _≤_};
 ghost use lib.ListN.{length, drop};
-ghost use Rattle.reclaiming.specs.StateBlock.{places, levelPlaces, stateLength, restIn, taskOf, stateCount, levelCount, speedIn, decode};
+ghost use Rattle.reclaiming.specs.StateBlock.{places, levelPlaces, stateLength, restIn, taskOf, stateCount, levelCount, speedIn, totalIn, decode};
 ghost use Rattle.state.specs.Code.{Holds, entryAt, entryIn, fieldIn};
 
 // The fields of a block: where each begins, and its count of bytes.
@@ -73,7 +73,12 @@ pub const SPEED_WIDTH: usize = 2;
 
 pub const LEVEL_PLACES: usize = 8;
 
-pub const STATE_LENGTH: usize = SPEEDS_AT + SPEED_WIDTH * LEVEL_PLACES;
+// The total of the remaining ticks.
+pub const TOTAL_AT: usize = SPEEDS_AT + SPEED_WIDTH * LEVEL_PLACES;
+
+pub const TOTAL_WIDTH: usize = 4;
+
+pub const STATE_LENGTH: usize = TOTAL_AT + TOTAL_WIDTH;
 
 // The clock of a block.
 pub fn clock_at(block: &[u8]) -> u32
@@ -152,4 +157,12 @@ pub fn speed_at(block: &[u8], k: usize) -> u32
     ensures { λ r. ⌜ (r ≡ speedIn (now (block .entry)) k) × (r ≤ 65535) ⌝ }
 {
     numeric::get_number(block, SPEEDS_AT + SPEED_WIDTH * k, SPEED_WIDTH)
+}
+
+// The total of a block.
+pub fn total_at(block: &[u8]) -> u32
+    requires { ⌜ length (now block) ≡ stateLength ⌝ }
+    ensures { λ r. ⌜ r ≡ totalIn (now (block .entry)) ⌝ }
+{
+    numeric::get_number(block, TOTAL_AT, TOTAL_WIDTH)
 }

@@ -9,6 +9,8 @@ use state::PERIOD_WIDTH;
 use state::REMAINING_AT;
 use state::REMAINING_WIDTH;
 use state::STATE_LENGTH;
+use state::TOTAL_AT;
+use state::TOTAL_WIDTH;
 use state::UNSPENT_AT;
 use state::UNSPENT_WIDTH;
 use state::WORK_AT;
@@ -21,7 +23,7 @@ ghost use Prim.Native.Nat.{_<_, _≤_};
 ghost use lib.ListN.{length, drop};
 ghost use lib.Seq.{sets};
 ghost use Rattle.reclaiming.specs.StateBlock.{places, remainingField, stateLength, entryBytes};
-ghost use Rattle.state.specs.Code.{entryAt, entryStored, restStored};
+ghost use Rattle.state.specs.Code.{entryAt, entryStored, restStored, totalStored};
 
 // Stores what is left of task i's job.
 pub fn put_rest(block: &mut [u8], i: usize, rest: Rest)
@@ -43,6 +45,14 @@ pub fn put_remaining(block: &mut [u8], i: usize, x: u32)
     ensures { λ _. ⌜ now (block .exit) ≡ entryStored (now (block .entry)) remainingField i x ⌝ }
 {
     numeric::put_number(block, REMAINING_AT + ENTRY_LENGTH * i, REMAINING_WIDTH, x);
+}
+
+// Stores the total of the remaining ticks.
+pub fn put_total(block: &mut [u8], x: u32)
+    requires { ⌜ length (now block) ≡ stateLength ⌝ }
+    ensures { λ _. ⌜ now (block .exit) ≡ totalStored (now (block .entry)) x ⌝ }
+{
+    numeric::put_number(block, TOTAL_AT, TOTAL_WIDTH, x);
 }
 
 // Stores an entry.

@@ -33,7 +33,7 @@ pub record Owns (bytes held : List ℕ) (levels : ℕ) : Type 0 where
 
 -- a state that has a table of speeds and nothing else, and the bytes that the table is written as
 abbrev pub tableOnly : List ℕ → State
-tableOnly speeds = record { clock = 0; task = 0; level = 0; entries = []; speeds = speeds }
+tableOnly speeds = record { clock = 0; task = 0; level = 0; entries = []; speeds = speeds; total = 0 }
 
 abbrev pub tableBytes : List ℕ → List ℕ
 tableBytes speeds = fieldsBytes tailFields (tableOnly speeds)

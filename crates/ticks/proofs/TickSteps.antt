@@ -1,6 +1,6 @@
 -- What d ticks make of a state, step by step, and what moving its block on finds.
 -- Assumes nothing.
-use Prim.Native.Nat.{ℕ, _+_, _%_, _<_, _≤_}
+use Prim.Native.Nat.{ℕ, _+_, _-_, _%_, _<_, _≤_}
 use mathlib.Core.Path.{_≡_, refl, sym, ap, ap₂, subst, _∙_}
 use mathlib.Core.Bool.{Bool, true, false, false≢true}
 use mathlib.Core.List.{List}
@@ -9,6 +9,10 @@ use borrow.Author.Tests.{eq-eqb}
 use lib.Dec.{eqb}
 use lib.ListN.{length, getD}
 use Rattle.arith.specs.Choice.{pick}
+use Rattle.arith.specs.Sum.{sumTo}
+use Rattle.arith.proofs.Tests.{passed, failed, tested}
+use Rattle.arith.proofs.Sums.{sumTo-eq, sumTo-most, sumOf-places}
+use Rattle.plan.specs.declared.Task.{Task}
 use Rattle.plan.specs.Times.{whole, noRest, worn, taskTime}
 use Rattle.plan.specs.Levels.{Rising, speedOf}
 use Rattle.levels.specs.Code.{loaded, Table}
@@ -17,26 +21,29 @@ use Rattle.plan.specs.Blocks.{noTask}
 use Rattle.schedule.specs.PlainSchedule.{Timing}
 use Rattle.reclaiming.specs.declared.Entry.{Entry}
 use Rattle.orders.specs.declared.Choice.{Choice}
-use Rattle.reclaiming.specs.StateBlock.{State, noEntry, taskOf, entryWith, remainingOf, restIn, restOf, planIn, timing, encode, decode, clockField, stateCount, places}
+use Rattle.reclaiming.specs.StateBlock.{State, noEntry, queuedIn, taskOf, entryWith, remainingOf, restIn, restOf, planIn, timing, encode, totalIn, decode, clockField, stateCount, places}
 use Rattle.reclaiming.specs.Orders.{nextArrival}
-use Rattle.reclaiming.specs.Passes.{newEntry, drainedOf, workedOf, clockAfter, arrivesAt, agedEntry, entryAfter, movedState}
+use Rattle.reclaiming.specs.Passes.{newEntry, stateWith, drainedOf, workedOf, clockAfter, arrivesAt, agedEntry, entryAfter, movedState}
 use Rattle.arith.specs.Ranges.{listTo}
 use Rattle.reclaiming.specs.Questions.{stateSound}
-use Rattle.state.specs.Code.{timingIn, withJobs, withClock, headStored, FitTask, FitRest}
+use Rattle.state.specs.Code.{entryIn, timingIn, withJobs, withClock, withTotal, headStored, totalStored, queuedTo, FitTask, FitRest}
 use Rattle.urgency.specs.Code.{noKey, Keyed, dueAt, drainedBy}
 use Rattle.orders.specs.Code.{choiceOf, Runnable}
-use Rattle.arriving.specs.Code.{arrivedState}
+use Rattle.arriving.specs.Code.{Allots, arrivedState}
 use Rattle.ticks.specs.Code.{Stepping}
 use Rattle.draining.proofs.DrainLaws.{Drains}
 use Rattle.draining.proofs.WorkLaws.{Works}
 use Rattle.arriving.proofs.ArriveLaws.{Arrives}
+use Rattle.schedule.proofs.Totals.{drained-total}
 use Rattle.reclaiming.proofs.Fine.{nominalSpeed}
+use Rattle.reclaiming.proofs.Plans.{allotment-short}
+use Rattle.reclaiming.proofs.Worked.{drained-less}
 use Rattle.reclaiming.proofs.Soundness.{planIn-at, length-planIn, sound-state}
-use Rattle.arith.proofs.RangeLaws.{listTo-same}
-use Rattle.state.proofs.BlockLaws.{count-in, jobs-count, jobs-entry, jobs-rest, store-clock}
+use Rattle.arith.proofs.RangeLaws.{length-listTo, listTo-same}
+use Rattle.state.proofs.BlockLaws.{count-in, remainingIn, encode-task, encode-remaining, jobs-count, jobs-entry, jobs-rest, jobs-remaining, store-clock, store-total}
 use Rattle.urgency.proofs.OpenJobs.{timing-count}
 use Rattle.urgency.proofs.KeyLaws.{key-below, key-task, due-is, due-none, drained-is}
-use Rattle.soundness.proofs.SoundFacts.{entries-few, nominal-small, remaining-most, runnable, sound-back, ticks-short, task-fits, rest-fits}
+use Rattle.soundness.proofs.SoundFacts.{sound-plan, sound-facts, entries-few, nominal-small, remaining-most, runnable, sound-back, ticks-short, task-fits, rest-fits}
 
 -- the steps of a state through d ticks: ticks are taken from its queue, work is done, the clock moves, jobs arrive
 module _ (speeds : List ℕ) (s : State) (keys : List ℕ) (count d : ℕ) (finished : Bool) where
@@ -114,7 +121,10 @@ module _ (speeds : List ℕ) (s : State) (keys : List ℕ) (keyed : Keyed (timin
         (timed-entry speeds s keys count d finished all i h ∙ ap (aged speeds s keys count d finished all i h) drained-same)
         ∙ renewed-is (arrivesAt τ (s .clock + d) i)
 
-  arrived-moved : arrivedState keys (s .clock + d) speed before ≡ movedState speeds τ s d finished
+  -- once its total is what its entries come to
+  arrived-moved :
+      withTotal (arrivedState keys (s .clock + d) speed before) (queuedIn (arrivedState keys (s .clock + d) speed before .entries))
+      ≡ movedState speeds τ s d finished
   arrived-moved =
       let n : length (before .entries) ≡ τ .count = timed-count speeds s keys count d finished all ∙ sym all ∙ sym (length-planIn s) in
       let e : listTo (length (before .entries)) (λ i. renewedIf (dueAt keys (s .clock + d) i) (getD (before .entries) i noEntry))
@@ -122,7 +132,7 @@ module _ (speeds : List ℕ) (s : State) (keys : List ℕ) (keyed : Keyed (timin
       ap (λ (k : ℕ). listTo k (λ i. renewedIf (dueAt keys (s .clock + d) i) (getD (before .entries) i noEntry))) n
       ∙ listTo-same (τ .count) (λ i. renewedIf (dueAt keys (s .clock + d) i) (getD (before .entries) i noEntry)) (entryAfter speeds τ s d finished)
       (λ i h. entry-moved i (omega (arith, length-planIn s))) in
-      λ k. record { clock = s .clock + d; task = s .task; level = s .level; entries = e k; speeds = s .speeds }
+      λ k. stateWith (s .clock + d) (s .task) (s .level) (e k) (s .speeds)
 
 -- what is known where a block is moved on: the order that stands, and the count of the tasks
 pub record Moving (held : List ℕ) (levels : ℕ) (bytes keys : List ℕ) (highest d : ℕ) (c : Choice) (count : ℕ) : Type 0 where
@@ -198,16 +208,24 @@ moving-none {held} {levels} {bytes} {keys} {highest} {d} k next a f i h =
     ∙ due-none (timingIn (loaded held levels) bytes) (decode bytes .clock) keys (s .good .keyed) d (s .some) (s .within) (omega (arith, a, s .within, ne)) i
     (task-within (k .moving) i h)
 
--- the block after each step: ticks are taken, work is done, the clock is stored, jobs arrive
-pub record Stepped (held : List ℕ) (levels : ℕ) (bytes keys : List ℕ) (highest d : ℕ) (c : Choice) (count clock : ℕ) (finished : Bool) (b1 b2 b3 b4 : List ℕ) : Type 0 where
+-- what is read of the remaining ticks of a state's tasks, where they fit, comes to what they come to
+queued-encode :
+    (s : State) (count : ℕ) → length (s .entries) ≡ count → ((i : ℕ) → i < count → remainingOf s i ≤ 65535) → queuedTo (encode s) count ≡ queuedIn (s .entries)
+queued-encode s count all fits =
+    sumTo-eq count (remainingIn (encode s)) (remainingOf s) (λ i h. encode-remaining s i (omega (arith, all)) (fits i h))
+    ∙ ap (λ (n : ℕ). sumTo n (remainingOf s)) (sym all)
+    ∙ sym (sumOf-places (λ (e : Entry). e .remaining) (s .entries) noEntry)
+
+-- the block after each step up to the arrivals: ticks are taken, work is done, the clock is stored; and what the ticks leave of the total
+pub record Clocked (held : List ℕ) (levels : ℕ) (bytes keys : List ℕ) (highest d : ℕ) (c : Choice) (count clock : ℕ) (finished : Bool) (b1 b2 b3 : List ℕ) (left : ℕ) : Type 0 where
   pub prepared : Prepared held levels bytes keys highest d c count clock
   pub drains : Drains keys count d bytes b1
   pub works : Works (loaded held levels) b1 c d finished b2
   pub clocks : b3 ≡ headStored b2 clockField clock
-  pub arrives : Arrives keys count clock (getD held highest 0) b3 b4
+  pub lowered : left ≡ totalIn bytes - d
 
-module _ {held : List ℕ} {levels : ℕ} {bytes keys : List ℕ} {highest d : ℕ} {c : Choice} {count clock : ℕ} {finished : Bool} {b1 b2 b3 b4 : List ℕ}
-    (k : Stepped held levels bytes keys highest d c count clock finished b1 b2 b3 b4) where
+module _ {held : List ℕ} {levels : ℕ} {bytes keys : List ℕ} {highest d : ℕ} {c : Choice} {count clock : ℕ} {finished : Bool} {b1 b2 b3 : List ℕ} {left : ℕ}
+    (k : Clocked held levels bytes keys highest d c count clock finished b1 b2 b3 left) where
   abbrev table-speeds : List ℕ
   table-speeds = loaded held levels
 
@@ -249,13 +267,124 @@ module _ {held : List ℕ} {levels : ℕ} {bytes keys : List ℕ} {highest d : �
       ∙ ap₂ (λ (l : List ℕ) (x : ℕ). headStored l clockField x) after-work (k .prepared .clock-is)
       ∙ store-clock (worked table-speeds start keys count d finished) (start .clock + d)
 
-  pub moved-on : b4 ≡ encode (movedState (loaded held levels) (timingIn (loaded held levels) bytes) (decode bytes) d finished)
-  moved-on =
-      k .arrives (timed table-speeds start keys count d finished) after-clock (timed-count table-speeds start keys count d finished all)
+  -- the state there, and what its entries have
+  abbrev there : State
+  there = timed table-speeds start keys count d finished
+
+  in-start : (i : ℕ) → i < count → i < length (start .entries)
+  in-start i h = omega (arith, all)
+
+  there-count : length (there .entries) ≡ count
+  there-count = timed-count table-speeds start keys count d finished all
+
+  there-task : (i : ℕ) → i < count → taskOf (getD (there .entries) i noEntry) ≡ taskOf (getD (start .entries) i noEntry)
+  there-task i h = timed-task table-speeds start keys count d finished all i (in-start i h)
+
+  there-fits : (i : ℕ) → i < count → FitTask (taskOf (getD (there .entries) i noEntry))
+  there-fits i h = subst FitTask (sym (there-task i h)) (task-fits table-speeds rising start (ok moving) i (in-start i h))
+
+  speed-nominal : getD held highest 0 ≡ nominalSpeed table-speeds (planIn start)
+  speed-nominal = speed-is (moving .table) highest (highest-small moving) ∙ ap (speedOf table-speeds) (moving .step .good .nominal)
+
+  allotted : (i : ℕ) → i < count → taskTime (getD held highest 0) (taskOf (getD (there .entries) i noEntry)) ≤ 65535
+  allotted i h =
+      let same : getD (planIn start) i noTask ≡ taskOf (getD (there .entries) i noEntry) = planIn-at start i ∙ sym (there-task i h) in
+      subst (λ (t : Task). taskTime (getD held highest 0) t ≤ 65535) same
+      (subst (λ (v : ℕ). taskTime v (getD (planIn start) i noTask) ≤ 65535) (sym speed-nominal)
+      (allotment-short table-speeds (planIn start) (sound-plan table-speeds rising start (ok moving)) rising i (omega (arith, length-planIn start, all))))
+
+  -- the allotments fit
+  pub clocked-allots : Allots b3 count (getD held highest 0)
+  clocked-allots i h =
+      subst (λ (t : Task). taskTime (getD held highest 0) t ≤ 65535)
+      (sym (ap (λ (l : List ℕ). taskOf (entryIn l i)) after-clock ∙ encode-task there i (omega (arith, there-count)) (there-fits i h)))
+      (allotted i h)
+
+  there-left : (i : ℕ) → i < count → remainingOf there i ≡ drainedOf (timingIn table-speeds bytes) start d i
+  there-left i h =
+      ap (λ (e : Entry). e .remaining) (timed-entry table-speeds start keys count d finished all i (in-start i h))
+      ∙ drained-same table-speeds start keys (keyed moving) d (moving .step .some) (moving .step .within) finished (getD held highest 0) speed-nominal count all i
+      (in-start i h)
+
+  there-short : (i : ℕ) → i < count → remainingOf there i ≤ 65535
+  there-short i h =
+      omega (
+        arith,
+        there-left i h,
+        drained-less (timingIn table-speeds bytes) start d i (task-within moving i h),
+        remaining-most table-speeds rising start (ok moving) i (in-start i h),
+      )
+
+  -- and what they come to is what the ticks left of the total
+  start-total : start .total ≡ sumTo count (remainingOf start)
+  start-total =
+      sound-facts table-speeds rising start (ok moving) .entries .total
+      ∙ sumOf-places (λ (e : Entry). e .remaining) (start .entries) noEntry
+      ∙ ap (λ (n : ℕ). sumTo n (remainingOf start)) all
+
+  pub clocked-total : left ≡ queuedTo b3 count
+  clocked-total =
+      let τ : Timing = timingIn table-speeds bytes in
+      let n : τ .count ≡ count = length-planIn start ∙ all in
+      k .lowered
+      ∙ ap (λ (x : ℕ). x - d) start-total
+      ∙ sym (ap (λ (m : ℕ). sumTo m (remainingOf start) - d) n)
+      ∙ sym (drained-total τ (start .clock) (remainingOf start) (τ .count) d)
+      ∙ ap (λ (m : ℕ). sumTo m (drainedOf τ start d)) n
+      ∙ sumTo-eq count (drainedOf τ start d) (remainingIn b3)
       (λ i h.
-      let w : i < length (start .entries) = omega (arith, all) in
-      subst FitTask (sym (timed-task table-speeds start keys count d finished all i w)) (task-fits table-speeds rising start (ok moving) i w))
-      ∙ ap (λ (x : ℕ). encode (arrivedState keys x (getD held highest 0) (timed table-speeds start keys count d finished))) (k .prepared .clock-is)
+      sym
+      (ap (λ (l : List ℕ). entryIn l i .remaining) after-clock
+      ∙ encode-remaining there i (omega (arith, there-count)) (there-short i h)
+      ∙ there-left i h))
+
+  pub clocked-small : left ≤ 1048560
+  clocked-small =
+      omega (
+        arith,
+        k .lowered,
+        start-total,
+        sumTo-most count (remainingOf start) 65535 (λ i h. remaining-most table-speeds rising start (ok moving) i (in-start i h)),
+        moving-few moving,
+      )
+
+-- and past them: jobs arrive, and the total that they make is stored
+pub record Stepped (held : List ℕ) (levels : ℕ) (bytes keys : List ℕ) (highest d : ℕ) (c : Choice) (count clock : ℕ) (finished : Bool) (b1 b2 b3 b4 b5 : List ℕ) (left total : ℕ) : Type 0 where
+  pub clocked : Clocked held levels bytes keys highest d c count clock finished b1 b2 b3 left
+  pub arrives : Arrives keys count clock (getD held highest 0) b3 b4
+  pub totalled : total ≡ queuedTo b4 count
+  pub stored : b5 ≡ totalStored b4 total
+
+module _ {held : List ℕ} {levels : ℕ} {bytes keys : List ℕ} {highest d : ℕ} {c : Choice} {count clock : ℕ} {finished : Bool} {b1 b2 b3 b4 b5 : List ℕ} {left total : ℕ}
+    (k : Stepped held levels bytes keys highest d c count clock finished b1 b2 b3 b4 b5 left total) where
+  abbrev arrived : State
+  arrived = arrivedState keys (decode bytes .clock + d) (getD held highest 0) (there (k .clocked))
+
+  after-arrivals : b4 ≡ encode arrived
+  after-arrivals =
+      k .arrives (there (k .clocked)) (after-clock (k .clocked)) (there-count (k .clocked)) (there-fits (k .clocked))
+      ∙ ap (λ (x : ℕ). encode (arrivedState keys x (getD held highest 0) (there (k .clocked)))) (k .clocked .prepared .clock-is)
+
+  arrived-count : length (arrived .entries) ≡ count
+  arrived-count = length-listTo (length (there (k .clocked) .entries)) _ ∙ there-count (k .clocked)
+
+  arrived-short : (i : ℕ) → i < count → remainingOf arrived i ≤ 65535
+  arrived-short i h =
+      let at : i < length (there (k .clocked) .entries) = omega (arith, there-count (k .clocked)) in
+      let new : ℕ = taskTime (getD held highest 0) (taskOf (getD (there (k .clocked) .entries) i noEntry)) in
+      subst (λ (x : ℕ). x ≤ 65535) (sym (jobs-remaining (there (k .clocked)) _ _ i at))
+      (elim (tested (dueAt keys (decode bytes .clock + d) i)) as (λ b _. pick {A = ℕ} b new (remainingOf (there (k .clocked)) i) ≤ 65535)
+      [ passed ↦ allotted (k .clocked) i h | failed ↦ there-short (k .clocked) i h ])
+
+  total-is : total ≡ queuedIn (arrived .entries)
+  total-is = k .totalled ∙ ap (λ (l : List ℕ). queuedTo l count) after-arrivals ∙ queued-encode arrived count arrived-count arrived-short
+
+  pub moved-on : b5 ≡ encode (movedState (loaded held levels) (timingIn (loaded held levels) bytes) (decode bytes) d finished)
+  moved-on =
+      let m : Moving held levels bytes keys highest d c count = moving (k .clocked) in
+      k .stored
+      ∙ ap₂ totalStored after-arrivals total-is
+      ∙ store-total arrived (queuedIn (arrived .entries)) (omega (arith, arrived-count, moving-few m))
       ∙ ap encode
-      (arrived-moved table-speeds start keys (keyed moving) d (moving .step .some) (moving .step .within) finished (getD held highest 0)
-      (speed-is (moving .table) highest (highest-small moving) ∙ ap (speedOf table-speeds) (moving .step .good .nominal)) count all)
+      (arrived-moved (loaded held levels) (decode bytes) keys (keyed m) d (m .step .some) (m .step .within) finished (getD held highest 0)
+      (speed-nominal (k .clocked)) count (all (k .clocked)))

@@ -10,6 +10,9 @@ use state::PLACES;
 use state::clock_at;
 use state::count_at;
 use state::period_at;
+use state::total_at;
+use storing::put_total;
+use totals::left_of;
 use urgency::deadline_in;
 use urgency::key_of;
 ghost use mathlib.Core.Path.{_≡_};
@@ -45,7 +48,7 @@ pub fn renewed(block: &[u8], keys: &[u64; PLACES], count: usize, clock: u32) -> 
     r
 }
 
-// Moves a state on by d ticks, before an order is chosen.
+// Moves a state on by d ticks, before an order is chosen. Its total is kept by what the ticks take and the arrivals change, not summed anew.
 pub fn move_on(
     speeds: &[u32; 8],
     levels: usize,
@@ -67,8 +70,10 @@ pub fn move_on(
     let count = count_at(block);
     let clock = Clock::new(clock_at(block)).after(d);
     let speed = speeds[highest];
+    let left = left_of(total_at(block), d);
     drain(block, keys, count, d);
     work_off(speeds, levels, block, c, d, finished);
     numeric::put_number(block, CLOCK_AT, CLOCK_WIDTH, clock.ticks);
-    arrive_if(block, keys, count, clock.ticks, speed, d == next);
+    let total = arrive_if(block, keys, count, clock.ticks, speed, left, d == next);
+    put_total(block, total);
 }

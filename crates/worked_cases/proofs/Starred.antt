@@ -1,5 +1,5 @@
--- 01, "On each side of the edge": every starred case of the table holds. 02, No. 1, 2, 4 and 5: so does every case of level blocks, of
--- fixed ticks, of lone jobs and of pairs.
+-- 01, "On each side of the edge": every starred case of the table holds. 02, No. 1, 2, 4, 5 and 6: so does every case of level blocks,
+-- of fixed ticks, of lone jobs, of pairs and of totals.
 -- Assumes nothing.
 use mathlib.Core.Path.{_≡_, refl}
 use mathlib.Core.Bool.{true}
@@ -14,6 +14,7 @@ use Rattle.worked_cases.specs.Cases.{Case, starred, boards, matches, agr
 use Rattle.worked_cases.specs.FixedCases.{conversions}
 use Rattle.worked_cases.specs.LoneCases.{gaps}
 use Rattle.worked_cases.specs.PairCases.{lists, starts}
+use Rattle.worked_cases.specs.TotalCases.{totals}
 use Rattle.reclaiming.proofs.StateCodec.{same-bytes}
 
 -- the table's test, computed
@@ -41,6 +42,10 @@ starts-agree : agrees starts ≡ true
 unfolding need timeOf worn lcm gcd moreUrgent
 starts-agree = refl
 
+totals-agree : agrees totals ≡ true
+unfolding need timeOf worn lcm gcd moreUrgent
+totals-agree = refl
+
 -- so each of its rows holds
 row-holds : (cases : List Case) → agrees cases ≡ true → (c : Case) → In c cases → c .found ≡ c .wanted
 row-holds cases h c m = same-bytes (c .found) (c .wanted) (every-in matches cases h c m)
@@ -62,3 +67,6 @@ list-cases = row-holds lists lists-agree
 
 pub start-cases : (c : Case) → In c starts → c .found ≡ c .wanted
 start-cases = row-holds starts starts-agree
+
+pub total-cases : (c : Case) → In c totals → c .found ≡ c .wanted
+total-cases = row-holds totals totals-agree

@@ -2,3 +2,4 @@ pub mod Cases
 pub mod FixedCases
 pub mod LoneCases
 pub mod PairCases
+pub mod TotalCases

@@ -16,7 +16,7 @@ use Rattle.schedule.specs.PlainSchedule.{Job, moreUrgent}
 use Rattle.reclaiming.specs.declared.Reply.the-variants as reply
 use Rattle.reclaiming.specs.StateBlock.{State, entryWith, planIn, timing, encode, stateLength}
 use Rattle.reclaiming.specs.Orders.{nextArrival}
-use Rattle.reclaiming.specs.Passes.{passedState}
+use Rattle.reclaiming.specs.Passes.{stateWith, passedState}
 use Rattle.reclaiming.specs.Run.{Pass, Line, bytesAfter, startedBytes, line, runLines}
 use Rattle.reclaiming.specs.Promises.{OpenPlain, OpenActual, Started, timeLeft, actualBook, plainBook}
 use Rattle.worked_cases.specs.Cases.{Case, task, pass, case, benchAfter, startValues, passValues, shownValues}
@@ -52,13 +52,7 @@ gapLines =
 
 -- one level of speed 1, tasks (4, 3) and (8, 2): task 0 has so much work left, task 1 has 2 units and no plain ticks left
 abbrev behindAt : ℕ → ℕ → ℕ → State
-behindAt clock running work = record {
-  clock = clock;
-  task = running;
-  level = 0;
-  entries = entryWith (task 4 3) (left work) 3 ∷ entryWith (task 8 2) (left 2) 0 ∷ [];
-  speeds = 1 ∷ [];
-}
+behindAt clock running work = stateWith clock running 0 (entryWith (task 4 3) (left work) 3 ∷ entryWith (task 8 2) (left 2) 0 ∷ []) (1 ∷ [])
   where
     left : ℕ → Rest
     left work = record { fixed = 0; work = work }

@@ -1,4 +1,4 @@
-//! The three calls as C sees them, of each that is measured.
+//! The four calls as C sees them, of each that is measured.
 
 use crate::fast;
 // Links the archives of the proved library.
@@ -17,12 +17,14 @@ pub type Start = unsafe extern "C" fn(
 ) -> u64;
 pub type Pass = unsafe extern "C" fn(*mut u8, usize, u32, u8) -> u64;
 pub type Show = unsafe extern "C" fn(*const u8, usize, *mut u8, usize) -> u64;
+pub type Queued = unsafe extern "C" fn(*const u8, usize) -> u64;
 
 #[derive(Clone, Copy)]
 pub struct Calls {
     pub start: Start,
     pub pass: Pass,
     pub show: Show,
+    pub queued: Queued,
 }
 
 extern "C" {
@@ -41,6 +43,8 @@ extern "C" {
 
     fn kilmstra_show(state: *const u8, state_len: usize, buffer: *mut u8, buffer_len: usize)
         -> u64;
+
+    fn kilmstra_queued(state: *const u8, state_len: usize) -> u64;
 }
 
 /// The proved calls.
@@ -48,6 +52,7 @@ pub const PROVED: Calls = Calls {
     start: kilmstra_start,
     pass: kilmstra_pass,
     show: kilmstra_show,
+    queued: kilmstra_queued,
 };
 
 /// The calls written by hand.
@@ -55,6 +60,7 @@ pub const BY_HAND: Calls = Calls {
     start: fast_start,
     pass: fast_pass,
     show: fast_show,
+    queued: fast_queued,
 };
 
 /// Calls that do nothing: what they cost is the cost of measuring.
@@ -62,6 +68,7 @@ pub const NONE: Calls = Calls {
     start: no_start,
     pass: no_pass,
     show: no_show,
+    queued: no_queued,
 };
 
 impl Calls {
@@ -106,6 +113,11 @@ impl Calls {
             )
         }
     }
+
+    pub fn queued(&self, state: &[u8]) -> u64 {
+        // SAFETY: pointer and length are those of a slice.
+        unsafe { (self.queued)(state.as_ptr(), state.len()) }
+    }
 }
 
 unsafe extern "C" fn fast_start(
@@ -149,6 +161,11 @@ unsafe extern "C" fn fast_show(
     }
 }
 
+unsafe extern "C" fn fast_queued(state: *const u8, state_len: usize) -> u64 {
+    // SAFETY: the caller lends a slice.
+    unsafe { fast::queued(from_raw_parts(state, state_len)) }
+}
+
 unsafe extern "C" fn no_start(
     _: *const u8,
     _: usize,
@@ -167,5 +184,9 @@ unsafe extern "C" fn no_pass(_: *mut u8, _: usize, _: u32, _: u8) -> u64 {
 }
 
 unsafe extern "C" fn no_show(_: *const u8, _: usize, _: *mut u8, _: usize) -> u64 {
+    0
+}
+
+unsafe extern "C" fn no_queued(_: *const u8, _: usize) -> u64 {
     0
 }

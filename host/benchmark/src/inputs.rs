@@ -29,8 +29,8 @@ const PERIODS: [u64; 12] = [
     280, 420, 560, 630, 840, 1_008, 1_260, 1_680, 2_520, 5_040, 9_360, 10_010,
 ];
 
-/// One input: the blocks and the pairs are for starting, the state for passing and showing, the rest for
-/// passing.
+/// One input: the blocks and the pairs are for starting, the state for passing, showing and asking for its
+/// total, the rest for passing.
 #[derive(Clone)]
 pub struct Input {
     pub levels: Vec<u8>,

@@ -1,7 +1,7 @@
 //! Measures the dispatcher's calls.
 //!
 //! - `benchmark time`: for each call and count of tasks, the nanoseconds of the proved call, of the
-//!   one written by hand, and their ratio.
+//!   one written by hand, and their ratio; `<2` and no ratio where there are fewer than can be told.
 //! - `benchmark stack`: the same with the bytes of stack.
 //! - `benchmark calls`: how many inputs each measurement has, and how many calls `count` makes of them.
 //! - `benchmark count CALL TASKS WHICH`: makes these calls, for a tool that counts instructions.
@@ -16,6 +16,9 @@ use std::process::ExitCode;
 
 const TIMED_ROUNDS: usize = 400;
 const COUNTED_ROUNDS: usize = 4;
+
+/// Nanoseconds. Rounds without calls differ by as much, so less cannot be told.
+const LEAST_TIME: f64 = 2.0;
 
 fn main() -> ExitCode {
     let words: Vec<String> = args().skip(1).collect();
@@ -38,11 +41,26 @@ fn print_times() -> bool {
     for call in CALLS {
         for &tasks in call.counts() {
             let (proved, hand) = times(call, &inputs(tasks), TIMED_ROUNDS);
-            let ratio = proved / hand;
-            println!("{} {tasks} {proved:.0} {hand:.0} {ratio:.2}", call.name());
+            println!("{} {tasks} {}", call.name(), compared(proved, hand));
         }
     }
     true
+}
+
+/// Both times and their ratio. There is none of a time that is too short to be told.
+fn compared(proved: f64, hand: f64) -> String {
+    if proved.min(hand) < LEAST_TIME {
+        return format!("{} {} -", told(proved), told(hand));
+    }
+    format!("{} {} {:.2}", told(proved), told(hand), proved / hand)
+}
+
+fn told(time: f64) -> String {
+    if time < LEAST_TIME {
+        format!("<{LEAST_TIME}")
+    } else {
+        format!("{time:.0}")
+    }
 }
 
 fn print_stack() -> bool {

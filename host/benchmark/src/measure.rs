@@ -6,7 +6,13 @@ use std::arch::asm;
 use std::ptr::addr_of_mut;
 use std::time::Instant;
 
-pub const CALLS: [Call; 4] = [Call::Start, Call::StartPairs, Call::Pass, Call::Show];
+pub const CALLS: [Call; 5] = [
+    Call::Start,
+    Call::StartPairs,
+    Call::Pass,
+    Call::Show,
+    Call::Queued,
+];
 
 /// The counts of tasks that the calls are measured at.
 pub const COUNTS: [usize; 4] = [1, 3, 8, 16];
@@ -19,6 +25,7 @@ pub enum Call {
     StartPairs,
     Pass,
     Show,
+    Queued,
 }
 
 impl Call {
@@ -28,6 +35,7 @@ impl Call {
             Call::StartPairs => "start-pairs",
             Call::Pass => "pass",
             Call::Show => "show",
+            Call::Queued => "queued",
         }
     }
 
@@ -64,6 +72,7 @@ pub fn round(call: Call, calls: &Calls, inputs: &[Input]) {
             Call::StartPairs => calls.start(&input.levels, &input.block, &input.pairs, lent),
             Call::Pass => calls.pass(lent, input.d, input.finished),
             Call::Show => calls.show(lent, black_box(&mut queue)),
+            Call::Queued => calls.queued(lent),
         });
     }
 }

@@ -42,6 +42,7 @@ fn used_by(call: Call, calls: &Calls, input: &Input) -> usize {
                 let room = [queue.as_mut_ptr() as u64, queue.len() as u64];
                 (calls.show as usize, vec![lent, room])
             }
+            Call::Queued => (calls.queued as usize, vec![lent]),
         };
         let mut stack = Box::new(Stack([pattern; STACK_BYTES]));
         // SAFETY: the function takes these numbers, and the stack is large and aligned.

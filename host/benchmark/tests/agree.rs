@@ -18,7 +18,9 @@ use sim::random::passes::any_pass;
 use sim::random::plans;
 use sim::random::states::{forged_state, invented_state, late_state, with_a_table_changed};
 use sim::random::tables::{bad_level_block, damaged_level_block, some_or_base_levels};
+use sim::random::totals::ticks_replaced;
 use sim::random::Random;
+use sim::state::{unpack, Entry, State};
 use std::collections::BTreeMap;
 use std::fmt::Arguments;
 
@@ -128,6 +130,38 @@ fn show_agrees(state: &[u8], room: usize, seen: &mut Seen) {
         format_args!("{state:02x?}, {room} bytes"),
     );
     seen.add(hand.0);
+}
+
+/// A task without fixed ticks.
+fn simple_task(period: u64, worst: u64) -> Task {
+    Task {
+        period,
+        worst,
+        fixed: 0,
+    }
+}
+
+/// What asking for the total answers, of a state or of any other bytes.
+fn queued_agrees(state: &[u8], seen: &mut Seen) -> u64 {
+    let hand = outcome(state, |state| BY_HAND.queued(state));
+    same(
+        &hand,
+        &outcome(state, |state| PROVED.queued(state)),
+        &outcome(state, |state| sim::queued_number(state)),
+        format_args!("{state:02x?}"),
+    );
+    seen.add(hand.0);
+    hand.0
+}
+
+/// Asks for the total of a sound state, which is to be the sum of what its entries have.
+fn total_is_the_sum(state: &[u8], seen: &mut Seen) {
+    let sum = unpacked(state).total();
+    assert_eq!(queued_agrees(state, seen), 256 * sum, "{state:02x?}");
+}
+
+fn unpacked(state: &[u8]) -> State {
+    unpack(state).expect("it is laid out as a state is")
 }
 
 /// Plans of all kinds, most of them accepted.
@@ -376,21 +410,23 @@ fn level_blocks_agree() {
     seen.were("start, level blocks", &[0, 18, 19, 20]);
 }
 
-/// Would catch a pass that goes another way at some point of a run.
+/// Would catch a pass that goes another way at some point of a run, and a total that isn't the sum there.
 #[test]
 fn runs_agree() {
     let mut random = Random::new(2);
-    let (mut starts, mut passes, mut shows) = Default::default();
+    let (mut starts, mut passes, mut shows, mut totals) = Default::default();
     for _ in 0..400 {
         let table = some_or_base_levels(&mut random);
         let block = block_of(&good_plan(&mut random, &table));
         let levels = write_levels(&table);
         let (first, mut state) = start_agrees(&levels, &block, STATE_BYTES, &mut starts);
+        total_is_the_sum(&state, &mut totals);
         let mut order = order_in(first);
         for _ in 0..50 {
             let (d, finished) = any_pass(&mut random, order);
             let (reply, after) = pass_agrees(&state, d, finished, &mut passes);
             state = after;
+            total_is_the_sum(&state, &mut totals);
             if reply % 256 == 0 {
                 order = order_in(reply);
             }
@@ -400,6 +436,7 @@ fn runs_agree() {
     starts.were("start, of runs", &[0]);
     passes.were("pass, in runs", &[0, 11, 12, 13, 14]);
     shows.were("show, after runs", &[0]);
+    totals.were("queued, in runs", &[0]);
 }
 
 /// 02, No. 4: states with one open job on each side of the gap, and with another job opened in them.
@@ -435,7 +472,7 @@ fn lone_states_agree() {
 #[test]
 fn invented_and_forged_states_agree() {
     let mut random = Random::new(3);
-    let (mut passes, mut shows) = (Seen::default(), Seen::default());
+    let (mut passes, mut shows, mut totals) = Default::default();
     for _ in 0..20_000 {
         let table = some_or_base_levels(&mut random);
         let plan = good_plan(&mut random, &table);
@@ -446,6 +483,7 @@ fn invented_and_forged_states_agree() {
             2 => with_a_table_changed(&mut random, &sound).to_vec(),
             _ => forged_state(&mut random, &sound),
         };
+        queued_agrees(&state, &mut totals);
         let room = random.place(QUEUE_BYTES + 9);
         show_agrees(&state, room, &mut shows);
         let hold = random.pick(&[1, 2, 5, 20, 100, 1_000]);
@@ -455,6 +493,136 @@ fn invented_and_forged_states_agree() {
     }
     shows.were("show", &[0, 9, 10]);
     passes.were("pass, in made states", &[0, 10, 11, 12, 13, 14, 15]);
+    totals.were("queued, in made states", &[0, 10]);
+}
+
+fn ticks_to_next_arrival(state: &State) -> u64 {
+    let ticks = |entry: &Entry| entry.task.period - state.clock % entry.task.period;
+    let least = state.entries.iter().map(ticks).min();
+    least.expect("there is a task")
+}
+
+/// 02, No. 6: in a run an entry that is replaced has no ticks left, but in a sound state it may. Would
+/// catch a total that keeps them, and one that is lowered by more than the queue has: states of all
+/// kinds get a pass to the next arrival.
+#[test]
+fn arrivals_in_invented_states_agree() {
+    let mut random = Random::new(6);
+    let (mut passes, mut totals) = Default::default();
+    let (mut replaced, mut emptied) = (0, 0);
+    for _ in 0..10_000 {
+        let table = some_or_base_levels(&mut random);
+        let plan = good_plan(&mut random, &table);
+        let state = invented_state(&mut random, &table, &plan);
+        let before = unpacked(&state);
+        let next = ticks_to_next_arrival(&before);
+        let (reply, after) = pass_agrees(&state, next as u32, random.one_in(2), &mut passes);
+        total_is_the_sum(&after, &mut totals);
+        if reply % 256 == 0 {
+            replaced += u32::from(ticks_replaced(&before) > 0);
+            emptied += u32::from(before.total() < next);
+        }
+    }
+    println!("ticks replaced {replaced} times, fewer than d {emptied} times");
+    assert!(replaced > 500 && emptied > 300);
+    passes.were("pass, to an arrival", &[0, 13, 14, 15]);
+    totals.were("queued, at an arrival", &[0]);
+}
+
+/// 02, No. 6: the smallest state in which a replaced entry has ticks left. One of its two goes with the
+/// tick, the other with the job, and two come: the total is 2, not 3.
+#[test]
+fn the_smallest_replaced_ticks_agree() {
+    let mut seen = Seen::default();
+    let levels = write_levels(&Levels::new(&[1]));
+    let block = block_of(&[simple_task(2, 2)]);
+    let (_, mut state) = start_agrees(&levels, &block, STATE_BYTES, &mut seen);
+    layout::CLOCK.put(&mut state, 1);
+    layout::TASK.put(&mut state, layout::IDLE);
+    layout::of_task(0, layout::WORK_LEFT).put(&mut state, 0);
+    let (_, after) = pass_agrees(&state, 1, false, &mut seen);
+    assert_eq!(queued_agrees(&after, &mut seen), 256 * 2);
+    seen.were("the smallest replaced ticks", &[0]);
+}
+
+/// Each of its four bytes anything, one more, one less, and turned round.
+fn totals_beside(sum: u32) -> Vec<u32> {
+    let mut totals = vec![sum.wrapping_add(1), sum.wrapping_sub(1), sum.swap_bytes()];
+    for place in 0..4 {
+        let with = |byte: u8| {
+            let mut bytes = sum.to_be_bytes();
+            bytes[place] = byte;
+            u32::from_be_bytes(bytes)
+        };
+        totals.extend((0..=255).map(with));
+    }
+    totals
+}
+
+/// Would catch a total that soundness leaves out or tests in part, and asking that wants a sound state
+/// or reads fewer than four bytes: the total is changed in the state with the largest sum that there
+/// can be, in one with less and in one with none.
+#[test]
+fn totals_in_states_agree() {
+    let (mut starts, mut passes, mut shows, mut totals) = Default::default();
+    let levels = write_levels(&Levels::new(&[1]));
+    let mut started = |period, worst| {
+        let block = block_of(&[simple_task(period, worst)]);
+        start_agrees(&levels, &block, STATE_BYTES, &mut starts).1
+    };
+    let (full, some) = (started(65_535, 65_535), started(800, 700));
+    let (_, none) = pass_agrees(&started(800, 300), 300, true, &mut passes);
+    for state in [full, some, none] {
+        let sum = unpacked(&state).total();
+        for total in totals_beside(sum as u32) {
+            let mut forged = state.clone();
+            layout::TOTAL.put(&mut forged, total.into());
+            assert_eq!(queued_agrees(&forged, &mut totals), 256 * u64::from(total));
+            show_agrees(&forged, QUEUE_BYTES, &mut shows);
+            let (reply, _) = pass_agrees(&forged, 1, false, &mut passes);
+            let is_right = u64::from(total) == sum;
+            assert_eq!(reply % 256 == 0, is_right, "{total} for {sum}");
+        }
+    }
+    starts.were("start, before totals are forged", &[0]);
+    passes.were("pass, with forged totals", &[0, 10]);
+    shows.were("show, with forged totals", &[0, 10]);
+    totals.were("queued, with forged totals", &[0]);
+}
+
+/// Would catch a length that is asked about in another way: each up to past twice the state's, one of
+/// which is the state's again when counted in a byte, and one that is when counted in two. The bytes are
+/// those of a state, then zeros.
+#[test]
+fn lengths_of_states_agree() {
+    let (mut starts, mut passes, mut shows, mut totals) = Default::default();
+    let levels = write_levels(&Levels::base());
+    let (_, state) = start_agrees(&levels, &block_of(&mixed_plan()), STATE_BYTES, &mut starts);
+    for length in (0..=500).chain([STATE_BYTES + 65_536]) {
+        let mut other = state.clone();
+        other.resize(length, 0);
+        let reply = queued_agrees(&other, &mut totals);
+        assert_eq!(reply == 10, length != 221, "{length} bytes");
+        show_agrees(&other, QUEUE_BYTES, &mut shows);
+        pass_agrees(&other, 1, true, &mut passes);
+    }
+    starts.were("start, before the length is changed", &[0]);
+    passes.were("pass, of every length", &[0, 10]);
+    shows.were("show, of every length", &[0, 10]);
+    totals.were("queued, of every length", &[0, 10]);
+}
+
+/// Would catch asking that looks at anything but the length and the last four bytes.
+#[test]
+fn totals_of_any_bytes_agree() {
+    let mut random = Random::new(7);
+    let mut totals = Seen::default();
+    for _ in 0..20_000 {
+        let bytes: Vec<u8> = (0..STATE_BYTES).map(|_| random.number() as u8).collect();
+        let reply = queued_agrees(&bytes, &mut totals);
+        assert_eq!(reply, 256 * layout::TOTAL.get(&bytes));
+    }
+    totals.were("queued, of any bytes", &[0]);
 }
 
 /// Numbers on both sides of every edge that a speed has beside these two.
@@ -571,17 +739,19 @@ fn fixed_ticks_in_states_agree() {
 /// Would catch measured calls that are refused, or that are done differently.
 #[test]
 fn measured_inputs_agree() {
-    let (mut starts, mut passes, mut shows) = Default::default();
+    let (mut starts, mut passes, mut shows, mut totals) = Default::default();
     for input in COUNTS.into_iter().flat_map(inputs) {
         let (levels, block) = (&input.levels, &input.block);
         start_agrees(levels, block, STATE_BYTES, &mut starts);
         start_with_agrees(levels, block, &input.pairs, STATE_BYTES, &mut starts);
         show_agrees(&input.state, QUEUE_BYTES, &mut shows);
+        total_is_the_sum(&input.state, &mut totals);
         pass_agrees(&input.state, input.d, input.finished, &mut passes);
     }
     starts.were("start, measured", &[0]);
     passes.were("pass, measured", &[0]);
     shows.were("show, measured", &[0]);
+    totals.were("queued, measured", &[0]);
 }
 
 /// Would catch a start measured with fewer pairs than it is said to have.

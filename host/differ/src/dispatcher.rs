@@ -1,4 +1,4 @@
-//! The dispatcher's calls for C: starting, passing and showing the queue.
+//! The dispatcher's calls for C: starting, passing, showing the queue, and asking how much of it is left.
 
 use crate::proved::unpacked;
 
@@ -18,6 +18,8 @@ extern "C" {
 
     fn kilmstra_show(state: *const u8, state_len: usize, buffer: *mut u8, buffer_len: usize)
         -> u64;
+
+    fn kilmstra_queued(state: *const u8, state_len: usize) -> u64;
 }
 
 #[derive(Clone, Copy, PartialEq, Eq, Debug)]
@@ -71,6 +73,19 @@ pub fn show(state: &[u8], buffer: &mut [u8]) -> Result<u64, u32> {
     unpacked(answer)
 }
 
+/// How many plain ticks are queued in all, as the state says it at its end.
+pub fn queued(state: &[u8]) -> Result<u32, u32> {
+    // SAFETY: pointer and length are those of a slice, which the call only reads.
+    let answer = unsafe { kilmstra_queued(state.as_ptr(), state.len()) };
+    totalled(answer)
+}
+
+/// All that an accepted answer has above its lowest byte is the total.
+fn totalled(answer: u64) -> Result<u32, u32> {
+    let total = unpacked(answer)?;
+    Ok(u32::try_from(total).expect("a total has 32 bits"))
+}
+
 /// From the lowest byte of an accepted answer's rest on: the kind, the task and the level, a byte
 /// each, then the hold.
 fn ordered(answer: u64) -> Result<Order, u32> {
@@ -88,6 +103,7 @@ fn ordered(answer: u64) -> Result<Order, u32> {
 #[cfg(test)]
 mod tests {
     use super::*;
+    use std::fmt::Debug;
 
     /// Would catch a decoder that drops or swaps a part of an answer, so that a wrong one looks
     /// right.
@@ -103,19 +119,39 @@ mod tests {
         assert_eq!(ordered(256 + 14), Err(270));
     }
 
-    fn is_no_answer(answer: u64) {
-        let decoded = std::panic::catch_unwind(|| ordered(answer));
+    /// The same of a total.
+    #[test]
+    fn every_bit_of_a_total_counts() {
+        assert_eq!(totalled(0), Ok(0));
+        assert_eq!(totalled(0x0000_0000_0000_0e00), Ok(14));
+        assert_eq!(totalled(0x0000_0080_0002_0100), Ok(0x8000_0201));
+        assert_eq!(totalled(0x0000_00ff_ffff_ff00), Ok(u32::MAX));
+        assert_eq!(totalled(10), Err(10));
+        assert_eq!(totalled(256 + 10), Err(266));
+    }
+
+    fn is_no_answer<T: Debug>(decoder: fn(u64) -> T, answer: u64) {
+        let decoded = std::panic::catch_unwind(|| decoder(answer));
         assert!(decoded.is_err(), "{answer:#018x} was taken for {decoded:?}");
+    }
+
+    /// Would catch a decoder that takes for a total what is none.
+    #[test]
+    fn other_answers_are_no_totals() {
+        // A bit more than a total has, and a refusal with something above it.
+        is_no_answer(totalled, 0x0000_0100_0000_0000);
+        is_no_answer(totalled, 0x8000_0000_0000_0000);
+        is_no_answer(totalled, 0x0000_0001_0000_000a);
     }
 
     /// Would catch a decoder that takes for an order what is none.
     #[test]
     fn other_answers_are_no_orders() {
         // No kind, another kind, idle with a task or a level, a refusal with a hold.
-        is_no_answer(0);
-        is_no_answer(0x0000_0001_0000_0300);
-        is_no_answer(0x0000_0001_0001_0200);
-        is_no_answer(0x0000_0001_0100_0200);
-        is_no_answer(0x0000_0001_0000_000e);
+        is_no_answer(ordered, 0);
+        is_no_answer(ordered, 0x0000_0001_0000_0300);
+        is_no_answer(ordered, 0x0000_0001_0001_0200);
+        is_no_answer(ordered, 0x0000_0001_0100_0200);
+        is_no_answer(ordered, 0x0000_0001_0000_000e);
     }
 }

@@ -1,6 +1,6 @@
 //! 01, "The run in demand 3": the two job books, and the demand checked on them, with the exception
-//! that 02's No. 4 makes for a lone job; and what its No. 5 promises of good pairs. Nothing in them
-//! comes from the state block.
+//! that 02's No. 4 makes for a lone job; what its No. 5 promises of good pairs; and what its No. 6 says
+//! of the total. Nothing in them comes from the state block.
 
 use crate::dispatch::Order;
 use crate::job::{left_after, time_needed, Left};
@@ -226,6 +226,11 @@ impl PlainBook {
         self.schedule.open_jobs()
     }
 
+    /// The ticks that all open jobs together have still to get.
+    pub fn ticks_left(&self) -> u64 {
+        self.open_jobs().iter().map(|job| job.left).sum()
+    }
+
     /// Enters a pass: d ticks of the plain schedule if it was accepted, nothing if not.
     pub fn pass(&mut self, d: u32, reply: Result<Order, u32>) {
         if reply.is_err() {
@@ -385,6 +390,21 @@ pub fn pairs_hold(actual: &ActualBook, pairs: &[u8]) -> Result<(), String> {
         }
     }
     Ok(())
+}
+
+/// 02, No. 6, of what `queued` answers after the passes entered so far, refused ones too: "It equals
+/// the full sum after the start and every accepted pass." The sum is taken over the ready queue of the
+/// plain schedule. The state of an accepted start has the bytes that are asked for, so a refusal is as
+/// wrong as another total.
+pub fn total_holds(plain: &PlainBook, answer: Result<u32, u32>) -> Result<(), String> {
+    let sum = plain.ticks_left();
+    match answer {
+        Ok(total) if u64::from(total) == sum => Ok(()),
+        _ => Err(format!(
+            "{sum} plain ticks queued at clock {}, and the answer is {answer:?}",
+            plain.clock()
+        )),
+    }
 }
 
 /// "all deadlines hold": a job whose deadline has come is closed, in both books.

@@ -1,6 +1,6 @@
 //! The calls as a host makes them. 02, No. 1: "Every call that takes a plan takes this block before
 //! it", so its questions, 18 to 20, come before the call's own. Passing and showing take no plan;
-//! they find the speeds in the state.
+//! they find the speeds in the state. Asking for the total of the queue wants neither.
 
 use crate::dispatch::{self, Order};
 use crate::level_block::read_levels;
@@ -54,4 +54,13 @@ pub fn start(
     state: &mut [u8],
 ) -> Result<Order, u32> {
     dispatch::start(&read_levels(level_block)?, block, pairs, state)
+}
+
+/// What `queued` answers, as one number: a refusal is its number, in the lowest byte; else that byte
+/// is 0 and the total stands from bit 8 on. It may be any number of 32 bits, so 64 are wanted.
+pub fn queued_number(state: &[u8]) -> u64 {
+    match dispatch::queued(state) {
+        Ok(total) => u64::from(total) << 8,
+        Err(number) => u64::from(number),
+    }
 }

@@ -1,11 +1,11 @@
 //! 01, "Orders and passes", and the questions that starting, passing and showing put. 02, No. 1:
 //! "Orders and the plain schedule are from now on those of the loaded speeds", which after the start
 //! are the state's own. 02, No. 4: a job that is the only open one has the ticks to the next arrival
-//! as its allowance where these are more than 01's.
+//! as its allowance where these are more than 01's. 02, No. 6: the total of the plain ticks left.
 
 use crate::clock::{clock_after, LARGEST_CLOCK};
 use crate::job::{left_after, time_needed, Left};
-use crate::layout::STATE_BYTES;
+use crate::layout::{self, STATE_BYTES};
 use crate::levels::Levels;
 use crate::pairs::read_pairs;
 use crate::plan::{judge_list, read_plan, Judged, Task};
@@ -27,7 +27,7 @@ pub enum Rule {
 }
 
 /// Starting: reads the block (1 to 8, and 21), then the pairs (22, which 02's No. 5 has "put after 8"),
-/// then asks for the state's 217 bytes (9). Of a longer buffer the bytes past them stay as they were.
+/// then asks for the state's 221 bytes (9). Of a longer buffer the bytes past them stay as they were.
 /// The pairs go no further: they are in neither the state nor the order.
 pub fn start(levels: &Levels, block: &[u8], pairs: &[u8], state: &mut [u8]) -> Result<Order, u32> {
     let (tasks, judged) = read_plan(levels, block)?;
@@ -118,11 +118,25 @@ pub fn show(state: &[u8], buffer: &mut [u8]) -> Result<usize, u32> {
     Ok(shown.len())
 }
 
+/// How many plain ticks are queued in all. 02, No. 6: "answer from it without going through the
+/// entries, asking only for the 221 bytes (10)". So of a state that isn't sound the answer is what its
+/// last four bytes say, and that may be any number of 32 bits.
+pub fn queued(state: &[u8]) -> Result<u32, u32> {
+    if state.len() != STATE_BYTES {
+        return Err(10);
+    }
+    Ok(layout::TOTAL.get(state) as u32)
+}
+
 /// The state and what its plan is judged to be, or nothing if 01's "Sound means ..." fails. It is
 /// put with the state's own speeds; that these can be loaded is part of it.
 pub fn sound(block: &[u8]) -> Option<(State, Judged)> {
-    // "exactly 200 bytes, laid out as above", which now are 217.
+    // "exactly 200 bytes, laid out as above", which now are 221.
     let state = unpack(block)?;
+    // 02, No. 6: "A state whose total differs is unsound."
+    if layout::TOTAL.get(block) != state.total() {
+        return None;
+    }
     // "a plan that passes 3, 6, 7, 8"
     let judged = judge_list(&state.levels, &state.tasks()).ok()?;
     // "a clock in range"

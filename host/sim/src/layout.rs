@@ -1,5 +1,5 @@
-//! 01, Blocks, and 02, No. 1 and No. 2: where each number of the state block stands. Nothing else
-//! in the simulator knows a place or a length of it.
+//! 01, Blocks, and 02, No. 1, No. 2 and No. 6: where each number of the state block stands. Nothing
+//! else in the simulator knows a place or a length of it.
 
 use std::ops::Range;
 
@@ -39,13 +39,19 @@ pub const ENTRIES_END: usize = 200;
 const _: () = assert!(ENTRIES_END == HEAD_BYTES + ENTRIES * ENTRY_BYTES);
 
 /// 02, No. 1: "The state block grows to 217 bytes: at its end the count and eight speeds of two
-/// bytes".
+/// bytes". They stood at its end then.
 pub const LEVEL_COUNT: Field = field(200, 1);
 pub const SPEEDS: usize = 8;
 pub const SPEED_BYTES: usize = 2;
-pub const STATE_BYTES: usize = 217;
+pub const SPEEDS_END: usize = 217;
 const _: () = assert!(LEVEL_COUNT.at == ENTRIES_END);
-const _: () = assert!(STATE_BYTES == speed_of(SPEEDS).at);
+const _: () = assert!(SPEEDS_END == speed_of(SPEEDS).at);
+
+/// 02, No. 6: "Keep the total in the state block, as four bytes at its end (221 bytes)".
+pub const TOTAL: Field = field(217, 4);
+pub const STATE_BYTES: usize = 221;
+const _: () = assert!(TOTAL.at == SPEEDS_END);
+const _: () = assert!(STATE_BYTES == TOTAL.at + TOTAL.bytes);
 
 /// What stands for the task in an idle order.
 pub const IDLE: u64 = 255;

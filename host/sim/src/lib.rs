@@ -1,4 +1,4 @@
-//! Reference simulator of the knee's dispatcher, written from document 01 and the first five requests
+//! Reference simulator of the knee's dispatcher, written from document 01 and the first six requests
 //! of document 02 alone.
 //!
 //! It is meant to be read beside those documents: every step is done the long way, tick by tick and
@@ -26,9 +26,11 @@ pub mod random;
 pub mod schedule;
 pub mod state;
 
-pub use books::{demand3_holds, lone_finishes_hold, pairs_hold, ActualBook, PlainBook};
-pub use calls::{copy_plan, judge, judge_list, pairs, read_plan, start, write_plan};
-pub use dispatch::{pass, show, Order};
+pub use books::{
+    demand3_holds, lone_finishes_hold, pairs_hold, total_holds, ActualBook, PlainBook,
+};
+pub use calls::{copy_plan, judge, judge_list, pairs, queued_number, read_plan, start, write_plan};
+pub use dispatch::{pass, queued, show, Order};
 pub use level_block::{read_levels, write_levels};
 pub use levels::Levels;
 pub use listing::listing;

@@ -9,6 +9,7 @@ pub mod passes;
 pub mod plans;
 pub mod states;
 pub mod tables;
+pub mod totals;
 
 /// Splitmix64.
 #[derive(Clone, Debug)]

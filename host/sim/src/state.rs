@@ -1,5 +1,5 @@
-//! 01, Blocks, and 02, No. 1 and No. 2: the state, packed into its block and unpacked. This file
-//! knows nothing of what the plan, the jobs and the order have to do with each other.
+//! 01, Blocks, and 02, No. 1, No. 2 and No. 6: the state, packed into its block and unpacked. This
+//! file knows nothing of what the plan, the jobs and the order have to do with each other.
 
 use crate::job::Left;
 use crate::layout::{self, Field, ENTRIES, ENTRIES_END, IDLE, SPEEDS, STATE_BYTES};
@@ -36,6 +36,12 @@ impl State {
     pub fn tasks(&self) -> Vec<Task> {
         self.entries.iter().map(|entry| entry.task).collect()
     }
+
+    /// 02, No. 6: "how many plain ticks are queued in all", found by going through the entries. It
+    /// isn't kept beside them: what is a sum is summed, and so can't differ.
+    pub fn total(&self) -> u64 {
+        self.entries.iter().map(|entry| entry.plain_left).sum()
+    }
 }
 
 fn all_zero(bytes: &[u8]) -> bool {
@@ -43,8 +49,9 @@ fn all_zero(bytes: &[u8]) -> bool {
 }
 
 /// Unpacks a block, or nothing if it hasn't the state's length or isn't laid out as the documents
-/// have it: 1 to 16 entries, zeros where there are to be zeros, level 0 for idle, and at the end a
-/// table that can be loaded.
+/// have it: 1 to 16 entries, zeros where there are to be zeros, level 0 for idle, and behind them a
+/// table that can be loaded. The total isn't looked at; whether it is the entries' is asked of a sound
+/// state.
 pub fn unpack(block: &[u8]) -> Option<State> {
     if block.len() != STATE_BYTES {
         return None;
@@ -67,7 +74,7 @@ pub fn unpack(block: &[u8]) -> Option<State> {
     })
 }
 
-/// "at its end the count and eight speeds of two bytes, unused ones zero".
+/// "the count and eight speeds of two bytes, unused ones zero".
 fn unpack_levels(block: &[u8]) -> Option<Levels> {
     let count = layout::LEVEL_COUNT.get(block) as usize;
     if count > SPEEDS {
@@ -115,6 +122,7 @@ fn unpack_entry(block: &[u8], task: usize) -> Entry {
     }
 }
 
+/// The block of a state. Its total is the one of the entries, whatever else is said of them.
 pub fn pack(state: &State) -> [u8; STATE_BYTES] {
     let mut block = [0; STATE_BYTES];
     layout::CLOCK.put(&mut block, state.clock);
@@ -130,6 +138,7 @@ pub fn pack(state: &State) -> [u8; STATE_BYTES] {
         pack_entry(&mut block, task, entry);
     }
     pack_levels(&mut block, &state.levels);
+    layout::TOTAL.put(&mut block, state.total());
     block
 }
 

@@ -7,15 +7,15 @@ use borrow.Author.Needs.{needs}
 use lib.ListN.{length}
 use Rattle.arith.proofs.Loops.{length-mapped}
 use Rattle.levels.specs.Code.{loaded}
-use Rattle.fresh_state.proofs.MakingLaws.{Making, task-at, making-none, making-more, making-all}
+use Rattle.fresh_state.proofs.MakingLaws.{Making, task-at, making-none, ticks-small, making-more, making-all}
 use Rattle.fresh_state.proofs.fresh.Statement.{statement}
 use Rattle.fresh_state.proofs.fresh.Tie as tie
 
 abbrev Inv-loop : tie.InvT-loop
-Inv-loop speeds levels speed p count image₀ i₀ image i = Making (loaded speeds levels) speed p image i
+Inv-loop speeds levels speed p count image₀ total₀ i₀ image total i = Making (loaded speeds levels) speed p image total i
 
 abbrev μ-loop : tie.MeasureT-loop
-μ-loop speeds levels speed p count image₀ i₀ image i = count - i
+μ-loop speeds levels speed p count image₀ total₀ i₀ image total i = count - i
 
 size : (c : tie.Start Inv-loop μ-loop) → length (c .args .t3 .tasks) ≡ 16
 size c = search (length-mapped, needs)
@@ -54,6 +54,13 @@ put-entry-requires c κs =
     let turn : tie.In-loop Inv-loop μ-loop = c .before .before .before .before in
     (omega (arith, turn .before .loop .inv .plan .most), turn .before .loop .inv .size)
 
+add-total : tie.Need-add-total Inv-loop μ-loop
+add-total c =
+    let timed : tie.After-task-time Inv-loop μ-loop = c .before .before .before in
+    let turn : tie.In-loop Inv-loop μ-loop = timed .before .before .before in
+    let now = turn .before .loop .inv in
+    omega (arith, now .small, now .plan .most, ticks-small now (turn .loop-test .taken) (turn .before .before .before .pre .1 .2) (timed .task-time .ensures))
+
 add-i : tie.Need-add-i Inv-loop μ-loop
 add-i c = omega arith
 
@@ -65,10 +72,18 @@ loop-again c =
     let timed : tie.After-task-time Inv-loop μ-loop = c .before .before .before in
     let full : tie.After-whole-of Inv-loop μ-loop = timed .before in
     let turn : tie.In-loop Inv-loop μ-loop = full .before .before in
-    making-more (turn .before .loop .inv) (turn .loop-test .taken) (full .whole-of .ensures) (timed .task-time .ensures) (c .before .put-entry .ensures)
+    making-more (turn .before .loop .inv) (turn .loop-test .taken) (turn .before .before .before .pre .1 .2) (full .whole-of .ensures) (timed .task-time .ensures) (c .before .put-entry .ensures)
+
+slice-aggregate-put-total : tie.Need-slice-aggregate-put-total Inv-loop μ-loop
+slice-aggregate-put-total c = search needs
+
+put-total-requires : tie.Need-put-total-requires Inv-loop μ-loop
+put-total-requires c κs = c .before .before .loop .inv .size
 
 returns : tie.Need-returns Inv-loop μ-loop
-returns c = making-all (c .before .loop .inv) (c .loop-test .left)
+returns c =
+    let left : tie.After-loop Inv-loop μ-loop = c .before .before .before in
+    making-all (left .before .loop .inv) (left .loop-test .left) (c .before .put-total .ensures)
 
 pub fresh-spec : {M : Type 1} → statement M
 fresh-spec =
@@ -84,7 +99,10 @@ fresh-spec =
     task-time-requires
     slice-aggregate-put-entry
     put-entry-requires
+    add-total
     add-i
     loop-less
     loop-again
+    slice-aggregate-put-total
+    put-total-requires
     returns)

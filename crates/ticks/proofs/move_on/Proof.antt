@@ -1,11 +1,12 @@
 -- `move_on` meets its contract: what each call leaves in the block is the next step of its state.
 -- Assumes nothing.
 use mathlib.Core.Path.{ap, _∙_}
-use Prim.Native.Nat.{ℕ, _+_}
+use Prim.Native.Nat.{ℕ, _+_, _-_}
 use mathlib.Core.List.{List}
 use native.Mathlib.Omega.{arith}
 use borrow.Author.Needs.{needs}
-use Rattle.ticks.proofs.TickSteps.{Moving, Prepared, Stepped, highest-small, moving-short, moving-few, moving-keys, moving-none, order-form, speed-range, moved-on}
+use Rattle.ticks.proofs.TickSteps.{Moving, Prepared, Clocked, Stepped, highest-small, moving-short, moving-few, moving-keys, moving-none, order-form, speed-range}
+use Rattle.ticks.proofs.TickSteps.{clocked-allots, clocked-total, clocked-small, moved-on}
 use Rattle.ticks.proofs.move_on.Statement.{statement}
 use Rattle.ticks.proofs.move_on.Tie as tie
 
@@ -29,13 +30,16 @@ abbrev taken : tie.After-work-off → tie.After-drain
 taken c = c .before .before .before .before
 
 abbrev sped : tie.After-work-off → tie.After-speed
-sped c = taken c .before .before
+sped c = taken c .before .before .before .before .before
 
-abbrev clocked : tie.After-arrive-if → tie.After-put-number
-clocked c = c .before .before .before .before
+abbrev worked : tie.After-put-number → tie.After-work-off
+worked c = c .before .before .before .before
 
-abbrev worked : tie.After-arrive-if → tie.After-work-off
-worked c = clocked c .before .before .before .before
+abbrev lowered : tie.After-put-number → tie.After-left-of
+lowered c = taken (worked c) .before .before
+
+abbrev timed : tie.After-arrive-if → tie.After-put-number
+timed c = c .before .before .before .before
 
 moving :
     (c : tie.After-count-at) →
@@ -49,6 +53,22 @@ prepared :
 prepared c = record {
   moving = moving (counted c);
   clock-is = c .before .after .ensures ∙ ap (λ (x : ℕ). x + start c .args .d) (c .before .before .new .ensures ∙ c .before .before .before .clock-at .ensures);
+}
+
+-- the block before the arrivals, and what is left of the total
+clocked :
+    (c : tie.After-put-number) →
+    let w : tie.After-work-off = worked c in
+    let p : tie.After-speed = sped w in
+    Clocked (start p .args .speeds .now) (start p .args .levels) (block (start p)) (keys (start p)) (start p .args .highest) (start p .args .d) (start p .args .c)
+    (counted p .count-at .result) (p .before .after .result .ticks) (start p .args .finished)
+    (taken w .drain .last .0) (w .work-off .last .1 .1 .0) (c .put-number .last .0) (lowered c .left-of .result)
+clocked c = record {
+  prepared = prepared (sped (worked c));
+  drains = taken (worked c) .drain .ensures;
+  works = worked c .work-off .ensures;
+  clocks = c .put-number .ensures;
+  lowered = lowered c .left-of .ensures ∙ ap (λ (x : ℕ). x - start (sped (worked c)) .args .d) (lowered c .before .total-at .ensures);
 }
 
 count-at-requires : tie.Need-count-at-requires
@@ -73,14 +93,20 @@ element-copy-out-speed c =
     let k = moving (c .before .before .before .before) in
     omega (arith, highest-small k, k .table .few)
 
+total-at-requires : tie.Need-total-at-requires
+total-at-requires c κs = search needs
+
+left-of-requires : tie.Need-left-of-requires
+left-of-requires c κs = search needs
+
 drain-requires : tie.Need-drain-requires
 drain-requires c κs =
-    let k = moving (counted (c .before)) in
+    let k = moving (counted (c .before .before .before .before)) in
     ((moving-few k, k .step .good .holds .size), moving-keys k)
 
 work-off-requires : tie.Need-work-off-requires
 work-off-requires c κs =
-    let k = moving (counted (c .before .before .before .before .before)) in
+    let k = moving (counted (c .before .before .before .before .before .before .before .before)) in
     ((k .table, search needs, moving-short k), order-form k)
 
 put-number-requires : tie.Need-put-number-requires
@@ -88,30 +114,37 @@ put-number-requires c κs = search needs
 
 arrive-if-requires : tie.Need-arrive-if-requires
 arrive-if-requires c κs =
-    let p : tie.After-speed = sped (c .before .before .before .before .before .before .before) in
+    let n : tie.After-put-number = c .before .before .before in
+    let p : tie.After-speed = sped (worked n) in
     let k = moving (counted p) in (
       (moving-few k, search needs, speed-range k .0, speed-range k .1),
-      (λ i h. moving-keys k i h .1, moving-none (prepared p) _ (start p .pre .1 .1)),
+      (
+        (λ i h. moving-keys k i h .1, moving-none (prepared p) _ (start p .pre .1 .1)),
+        (clocked-allots (clocked n), clocked-total (clocked n), clocked-small (clocked n)),
+      ),
     )
+
+put-total-requires : tie.Need-put-total-requires
+put-total-requires c κs =
+    let k = moving (counted (sped (worked (timed (c .before .before .before))))) in
+    search needs
 
 same-length : tie.Need-same-length
 same-length c = search needs
 
--- the block after each call
+-- and after them
 stepped :
-    (c : tie.After-arrive-if) →
-    let w : tie.After-work-off = worked c in
-    let p : tie.After-speed = sped w in
+    (c : tie.After-put-total) →
+    let a : tie.After-arrive-if = c .before .before .before .before in
+    let n : tie.After-put-number = timed a in
+    let p : tie.After-speed = sped (worked n) in
     Stepped (start p .args .speeds .now) (start p .args .levels) (block (start p)) (keys (start p)) (start p .args .highest) (start p .args .d) (start p .args .c)
     (counted p .count-at .result) (p .before .after .result .ticks) (start p .args .finished)
-    (taken w .drain .last .0) (w .work-off .last .1 .1 .0) (clocked c .put-number .last .0) (c .arrive-if .last .0)
-stepped c = record {
-  prepared = prepared (sped (worked c));
-  drains = taken (worked c) .drain .ensures;
-  works = worked c .work-off .ensures;
-  clocks = clocked c .put-number .ensures;
-  arrives = c .arrive-if .ensures;
-}
+    (taken (worked n) .drain .last .0) (worked n .work-off .last .1 .1 .0) (n .put-number .last .0) (a .arrive-if .last .0) (c .put-total .last .0)
+    (lowered n .left-of .result) (a .arrive-if .result)
+stepped c =
+    let a : tie.After-arrive-if = c .before .before .before .before in
+    record { clocked = clocked (timed a); arrives = a .arrive-if .ensures .1; totalled = a .arrive-if .ensures .0; stored = c .put-total .ensures }
 
 returns : tie.Need-returns
 returns c = moved-on (stepped (c .before .before))
@@ -126,9 +159,12 @@ move-on-spec =
     after-requires
     mul-speed
     element-copy-out-speed
+    total-at-requires
+    left-of-requires
     drain-requires
     work-off-requires
     put-number-requires
     arrive-if-requires
+    put-total-requires
     same-length
     returns)

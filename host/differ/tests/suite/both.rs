@@ -27,6 +27,7 @@ pub enum Call {
     Start,
     Pass,
     Show,
+    Queued,
 }
 
 /// What an accepted call was about. Its answer doesn't tell.

@@ -1,5 +1,6 @@
-//! Starting, passing and showing put to both sides. Whatever a call is lent, to write or only to
-//! read, stands between marked bytes, and after the call every byte must be the simulator's.
+//! Starting, passing, showing and asking for the total put to both sides. Whatever a call is lent, to
+//! write or only to read, stands between marked bytes, and after the call every byte must be the
+//! simulator's.
 
 use crate::both::{Both, Call, Kind};
 use crate::lent::{Element, Lent};
@@ -96,6 +97,18 @@ impl Both {
             self.note_plan(Call::Show, &shown.tasks());
         }
         answer.map(|_| wanted[..written].to_vec())
+    }
+
+    /// Asks how many plain ticks are queued in all.
+    #[track_caller]
+    pub fn queued(&mut self, state: &[u8]) -> Result<u32, u32> {
+        let what = || format!("the total of {state:02x?}");
+        let mut lent = Lent::new(self.times(Call::Queued), state);
+        let answer = dispatcher::queued(lent.slice());
+        assert_eq!(answer, sim::queued(state), "{}", what());
+        lent.wants(state, what);
+        self.count(Call::Queued, &answer);
+        answer
     }
 }
 

@@ -5,12 +5,14 @@ use crate::both::{Both, Call, ACCEPTED};
 use crate::dispatch::STATE_BYTES;
 use crate::made::{fixed_tasks, some_plan};
 use crate::states::put_state;
+use crate::sums::Step;
 use crate::view::{told, View};
 use sim::job::{time_needed, Left};
 use sim::layout::{of_task, CLOCK, FIXED_LEFT, LEVEL, PLAIN_LEFT, TASK, WORK_LEFT};
 use sim::levels::Levels;
 use sim::plan::{judge_list, Task};
 use sim::random::lone::{crowded_state, lone_state, with_another_job_open, Crowded, Lone};
+use sim::random::totals::put_total;
 use sim::random::Random;
 use sim::schedule::{allotment, first_arrival_after, urgency, Urgency};
 use sim::state::{pack, unpack, Entry, Running, State};
@@ -172,7 +174,8 @@ impl Seen {
 }
 
 /// The state with one number that is one more or one less: a tick of the clock, a level, a unit of the
-/// running job's work, a fixed tick or a plain tick of it. Then with another job open.
+/// running job's work, a fixed tick or a plain tick of it, which the total has too. Then with another job
+/// open.
 fn beside(random: &mut Random, state: &[u8; STATE_BYTES]) -> Vec<[u8; STATE_BYTES]> {
     let task = TASK.get(state) as usize;
     let of_job = [WORK_LEFT, FIXED_LEFT, PLAIN_LEFT].map(|part| of_task(task, part));
@@ -182,6 +185,7 @@ fn beside(random: &mut Random, state: &[u8; STATE_BYTES]) -> Vec<[u8; STATE_BYTE
         for other in [number + 1, number.wrapping_sub(1)] {
             let mut moved = *state;
             field.put(&mut moved, other);
+            put_total(&mut moved);
             all.push(moved);
         }
     }
@@ -211,7 +215,7 @@ fn lone_states_and_those_beside_them() {
             made.note(&crowded, put_state(&mut both, &mut random, &crowded));
         }
     }
-    both.saw("lone states and those beside them", 140_000);
+    both.saw("lone states and those beside them", 220_000);
     made.wants("made", 100);
     near.wants("beside", 300);
     both.wants_editions(&[Call::Show], 5_000);
@@ -251,7 +255,7 @@ fn a_second_open_job_makes_it_unsound() {
         );
         *seen.entry(kind).or_default() += 1;
     }
-    both.saw("a second open job", 6_000);
+    both.saw("a second open job", 10_000);
     println!("{seen:?}");
     for kind in [Crowded::Behind, Crowded::ByGap] {
         assert!(seen.get(&kind) > Some(&500), "{seen:?}");
@@ -353,7 +357,7 @@ fn on_each_side_of_the_gap() {
             _ => {}
         }
     }
-    both.saw("each side of the gap", 5_000);
+    both.saw("each side of the gap", 8_900);
     println!("{seen:?}");
     let Edges {
         tick_later,
@@ -419,7 +423,7 @@ fn sound_states_stay_sound() {
             }
         }
     }
-    both.saw("sound states led on", 50_000);
+    both.saw("sound states led on", 65_000);
     println!("{led:?}");
     let Led {
         first,
@@ -485,7 +489,7 @@ fn every_state(levels: &Levels, plan: &[Task]) -> Vec<[u8; STATE_BYTES]> {
 }
 
 /// Puts every pass that can be accepted, and those one tick beyond, to a sound state; after each, both
-/// calls take it for sound still.
+/// calls take it for sound still, and the total is what the pass had to make of it.
 fn put_every_pass(both: &mut Both, state: &[u8; STATE_BYTES]) {
     let view = View::of(state);
     for d in 1..=view.to_arrival as u32 + 1 {
@@ -496,6 +500,8 @@ fn put_every_pass(both: &mut Both, state: &[u8; STATE_BYTES]) {
             if reply.is_ok() {
                 assert!(both.show(&after, 48).is_ok());
                 assert_eq!(both.pass(&mut after, 0, 0), Err(11));
+                let total = Step::of(state, d).after();
+                assert_eq!(both.queued(&after).map(u64::from), Ok(total));
             }
         }
     }
@@ -528,6 +534,6 @@ fn every_state_of_small_plans() {
             }
         }
     }
-    both.saw("every state of small plans", 40_000);
+    both.saw("every state of small plans", 100_000);
     seen.wants("every state of small plans", 50);
 }

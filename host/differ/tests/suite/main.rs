@@ -1,5 +1,5 @@
 //! The proved library held to the cases of documents 01 and 02 and, call by call, to the simulator.
-//! Over 4,300,000 calls are put to both, with 01's speeds and with those of random boards. What each
+//! Over 6,000,000 calls are put to both, with 01's speeds and with those of random boards. What each
 //! test has seen is printed with `--nocapture`.
 
 mod blocks;
@@ -24,5 +24,7 @@ mod rounding;
 mod runs;
 mod starts;
 mod states;
+mod sums;
+mod totals;
 mod turns;
 mod view;

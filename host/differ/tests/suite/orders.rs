@@ -9,6 +9,7 @@ use differ::dispatcher::Order;
 use sim::levels::Levels;
 use sim::plan::Task;
 use sim::random::blocks::block_of;
+use sim::random::totals::put_total;
 
 /// The passes of 01's listing, and what they are answered. 02, No. 4: at 14 task 1's job is alone and
 /// has 6 ticks to the next arrival, so it runs at level 6 and ends at 19.
@@ -65,13 +66,17 @@ fn the_state_byte_by_byte() {
     wanted[20..32].copy_from_slice(&[0, 10, 0, 1, 0x90, 0, 1, 0x90, 0, 4, 0, 0]);
     wanted[32..44].copy_from_slice(&[0, 30, 0, 2, 0x58, 0, 2, 0x58, 0, 6, 0, 0]);
     // Eight levels, and their speeds in two bytes each.
-    wanted[200..].copy_from_slice(&[8, 0, 10, 0, 20, 0, 30, 0, 40, 0, 50, 0, 60, 0, 80, 0, 100]);
+    let table = [8, 0, 10, 0, 20, 0, 30, 0, 40, 0, 50, 0, 60, 0, 80, 0, 100];
+    wanted[200..217].copy_from_slice(&table);
+    // 3 + 4 + 6 plain ticks.
+    wanted[217..].copy_from_slice(&[0, 0, 0, 13]);
     assert_eq!(state, wanted);
     // Two ticks at 60 a tick: 280 left, hex 118.
     assert_eq!(both.pass(&mut state, 2, 0), Ok(run(1, 5, 5)));
     wanted[3] = 3;
     wanted[17] = 1;
     wanted[26..28].copy_from_slice(&[1, 0x18]);
+    wanted[220] = 11;
     assert_eq!(state, wanted);
     // Idle at tick 19: task 255, level 0. Only task 2's allotment isn't used up.
     let idle = led(&mut both, 5);
@@ -79,6 +84,8 @@ fn the_state_byte_by_byte() {
     assert_eq!(idle[8..20], [0, 10, 0, 1, 0x90, 0, 0, 0, 0, 0, 0, 0]);
     assert_eq!(idle[20..32], [0, 10, 0, 1, 0x90, 0, 0, 0, 0, 0, 0, 0]);
     assert_eq!(idle[32..44], [0, 30, 0, 2, 0x58, 0, 0, 0, 0, 3, 0, 0]);
+    assert_eq!(idle[200..217], table);
+    assert_eq!(idle[217..], [0, 0, 0, 3]);
 }
 
 /// Would catch an edge of 11 to 14 that is off by one.
@@ -163,19 +170,19 @@ fn the_table_in_the_state_byte_by_byte() {
     // 300 units are 2 ticks at 258, and too many at 1.
     assert_eq!(first, Ok(run(0, 1, 2)));
     let wanted = [3, 0, 1, 1, 2, 3, 232, 0, 0, 0, 0, 0, 0, 0, 0, 0, 0];
-    assert_eq!(state[200..STATE_BYTES], wanted);
+    assert_eq!(state[200..217], wanted);
     assert_eq!(state[STATE_BYTES..], [0xa5; 3]);
     let mut state: [u8; STATE_BYTES] = state[..STATE_BYTES].try_into().unwrap();
     assert_eq!(both.pass(&mut state, 1, 0), Ok(run(0, 1, 1)));
     assert_eq!(both.pass(&mut state, 1, 1), Ok(idle(38)));
-    assert_eq!(state[200..], wanted);
+    assert_eq!(state[200..217], wanted);
     // One level alone: 300 units are a tick at 1,000.
     both.load(&Levels::new(&[1_000]));
     let mut state = [0xa5; STATE_BYTES];
     let first = both.start(&block_of(&tasks(&[(40, 300)])), &[], &mut state);
     assert_eq!(first, Ok(run(0, 0, 1)));
     let wanted = [1, 3, 232, 0, 0, 0, 0, 0, 0, 0, 0, 0, 0, 0, 0, 0, 0];
-    assert_eq!(state[200..], wanted);
+    assert_eq!(state[200..217], wanted);
 }
 
 /// Would catch speeds that are 01's whatever was loaded: 7, 13 and 29 units a tick, with the answers
@@ -405,6 +412,7 @@ fn the_smallest_use_of_the_exception_forged() {
         for (place, value) in changes {
             forged[*place] = *value;
         }
+        put_total(&mut forged);
         let passed = both.pass(&mut forged.clone(), 1, 1).err();
         assert_eq!(both.show(&forged, 48).err(), passed);
         passed
@@ -435,12 +443,13 @@ fn a_job_in_company_may_not_be_behind() {
     let mut state = [0; STATE_BYTES];
     let first = both.start(&block_of(&tasks(&[(4, 1); 3])), &[], &mut state);
     assert_eq!(first, Ok(run(0, 0, 1)));
-    let (order, first_work, plain, third_work) = (4, 15, 29, 39);
+    let (order, first_work, plain, third_work, total) = (4, 15, 29, 39, 220);
     state[order] = 1;
     state[first_work] = 0;
     assert!(both.show(&state, 9).is_ok());
     // Without a plain tick of its own, it has the first one's for an allowance, and 4 ticks of gap.
     state[plain] = 0;
+    state[total] = 2;
     assert_eq!(both.show(&state, 9), Err(10));
     assert_eq!(both.pass(&mut state, 1, 1), Err(10));
     // Alone it may be so.

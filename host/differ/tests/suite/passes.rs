@@ -105,7 +105,7 @@ fn every_edge_of_late_states() {
 fn every_edge_of_invented_states() {
     let mut both = Both::new(&Levels::base());
     let mut random = Random::new(503);
-    for _ in 0..3_000 {
+    for _ in 0..3_600 {
         let levels = some_or_base_levels(&mut random);
         let level = random.place(levels.count());
         let plan = plan_at_level(&mut random, &levels, level);
@@ -113,7 +113,7 @@ fn every_edge_of_invented_states() {
         put_edges(&mut both, &mut random, &state);
         let _ = both.show(&state, 48);
     }
-    both.saw("edges of invented states", 100_000);
+    both.saw("edges of invented states", 120_000);
     both.wants_inside(500);
     both.wants(Call::Pass, ACCEPTED, 6_000);
     for number in 11..=14 {

@@ -2,18 +2,22 @@
 //! pass, accepted or refused, demand 3 and what else 02's No. 4 says of a run are checked on the
 //! simulator's two books, which are fed the library's replies and nothing of the state; and the queue
 //! shown must be the one of the plain schedule's book, and what the state has left of each job what the
-//! dispatcher's book has. What No. 5 promises is checked on that book before every accepted pass.
+//! dispatcher's book has. What No. 5 promises is checked on that book before every accepted pass. After
+//! every pass the total that No. 6 has answered is the plain schedule's.
 
 use crate::both::{Both, Call, Kind, ACCEPTED};
 use crate::dispatch::{as_simulated, STATE_BYTES};
 use crate::gaps::{Gaps, Stand};
 use crate::made::bench_plan;
+use crate::sums::{Step, Sums};
 use crate::turns::Turns;
 use crate::view::{queue_bytes, told, View};
 use differ::dispatcher::Order;
 use sim::block::Edition;
-use sim::books::{demand3_holds, lone_finishes_hold, pairs_hold, ActualBook, PlainBook};
+use sim::books::{demand3_holds, lone_finishes_hold, pairs_hold};
+use sim::books::{total_holds, ActualBook, PlainBook};
 use sim::job::Left;
+use sim::layout::TOTAL;
 use sim::levels::{Levels, MOST_LEVELS};
 use sim::plan::{judge_list, Task};
 use sim::random::blocks::block_of;
@@ -61,6 +65,7 @@ struct Tally {
     without: u64,
     gaps: Gaps,
     turns: Turns,
+    sums: Sums,
 }
 
 impl Tally {
@@ -138,10 +143,12 @@ impl Run {
     fn step(&mut self, both: &mut Both, random: &mut Random, style: Style, tally: &mut Tally) {
         let view = View::of(&self.state);
         let (d, finished) = self.choose(view, random, style);
+        let before = self.state;
         let reply = both.pass(&mut self.state, d, told(random, finished));
         assert_eq!(reply.err().unwrap_or(0), view.refusal(d, finished));
         if reply.is_ok() {
             self.check_pairs(tally);
+            self.check_total(&before, d, tally);
         }
         let entered = reply.map(as_simulated);
         self.actual.pass(d, finished, entered);
@@ -200,6 +207,13 @@ impl Run {
         tally.turns.note(&self.plan, &self.actual, &self.pairs);
     }
 
+    /// The total after an accepted pass is the one that the queue before it leads to.
+    fn check_total(&self, before: &[u8], d: u32, tally: &mut Tally) {
+        let step = Step::of(before, d);
+        assert_eq!(TOTAL.get(&self.state), step.after(), "{step:?}");
+        tally.sums.note(&step);
+    }
+
     fn check(&self, both: &mut Both) {
         let demand = demand3_holds(&self.plan, &self.actual, &self.plain);
         assert_eq!(demand, Ok(()), "{:?}", self.plan);
@@ -212,6 +226,8 @@ impl Run {
         let open: Vec<(usize, u64)> = open.iter().map(|job| (job.task, job.left)).collect();
         let shown = both.show(&self.state, 48);
         assert_eq!(shown, Ok(queue_bytes(&open)), "{:?}", self.plan);
+        let total = total_holds(&self.plain, both.queued(&self.state));
+        assert_eq!(total, Ok(()), "{:?}", self.plan);
         let entries = unpack(&self.state).expect("it is a state").entries;
         let left: Vec<Left> = entries.iter().map(|entry| entry.left).collect();
         assert_eq!(left, self.actual.left(), "{:?}", self.plan);
@@ -262,7 +278,7 @@ fn long_runs_at_every_level() {
         }
     }
     println!("{tally:?}");
-    both.saw("runs at every level", 120_000);
+    both.saw("runs at every level", 185_000);
     both.wants(Call::Pass, ACCEPTED, 50_000);
     for number in [11, 12, 13, 14] {
         both.wants(Call::Pass, number, 100);
@@ -277,6 +293,8 @@ fn long_runs_at_every_level() {
     tally.wants_fixed(80, 500, 500, 50);
     tally.gaps.wants(30);
     tally.turns.wants(300);
+    tally.sums.wants(10);
+    tally.sums.wants_none_replaced();
 }
 
 /// The same where the plain schedule has no tick to spare: would catch a level that is one too low,
@@ -306,13 +324,15 @@ fn long_runs_of_full_plans() {
         runs += 1;
     }
     println!("{tally:?}");
-    both.saw("runs of full plans", 30_000);
+    both.saw("runs of full plans", 46_000);
     both.wants(Call::Pass, ACCEPTED, 13_000);
     assert!(tally.early > 1_000 && tally.interrupted > 100, "{tally:?}");
     assert!(tally.below_nominal > 1_000, "{tally:?}");
     tally.wants_fixed(20, 100, 100, 10);
     tally.gaps.wants(10);
     tally.turns.wants(100);
+    tally.sums.wants_full(2_000);
+    tally.sums.wants_none_replaced();
 }
 
 /// A plan at any level, a full one if told so. Half of them are at the highest, which few tables would
@@ -348,7 +368,7 @@ fn runs_with_any_table() {
         run(&mut both, &mut random, board, style, 80, &mut tally);
     }
     println!("{tally:?}");
-    both.saw("runs with any table", 140_000);
+    both.saw("runs with any table", 219_000);
     both.wants(Call::Pass, ACCEPTED, 60_000);
     for number in [11, 12, 13, 14] {
         both.wants(Call::Pass, number, 100);
@@ -362,6 +382,8 @@ fn runs_with_any_table() {
     tally.wants_fixed(200, 1_000, 1_000, 100);
     tally.gaps.wants(40);
     tally.turns.wants(500);
+    tally.sums.wants(10);
+    tally.sums.wants_none_replaced();
 }
 
 /// Would catch a table that is mixed up with another one: a state goes on with its own, whatever is
@@ -383,7 +405,7 @@ fn runs_of_two_boards_side_by_side() {
             }
         }
     }
-    both.saw("runs of two boards", 9_800);
+    both.saw("runs of two boards", 14_800);
     both.wants_editions(&[Call::Start], 20);
     both.wants_inside(20);
     both.wants(Call::Pass, ACCEPTED, 3_000);
@@ -413,10 +435,11 @@ fn runs_with_long_periods() {
         }
     }
     println!("{tally:?}");
-    both.saw("runs with long periods", 4_800);
+    both.saw("runs with long periods", 7_300);
     both.wants(Call::Pass, ACCEPTED, 2_000);
     assert!(tally.early > 300, "{tally:?}");
     tally.wants_fixed(10, 20, 3, 20);
+    tally.sums.wants_none_replaced();
 }
 
 /// Plans whose jobs are mostly fixed ticks, so that many passes end inside them: would catch fixed
@@ -440,13 +463,15 @@ fn runs_inside_the_fixed_ticks() {
         runs += 1;
     }
     println!("{tally:?}");
-    both.saw("runs inside the fixed ticks", 55_000);
+    both.saw("runs inside the fixed ticks", 87_000);
     both.wants(Call::Pass, ACCEPTED, 20_000);
     both.wants(Call::Pass, 14, 400);
     both.wants_inside(3_000);
     tally.wants_fixed(0, 3_000, 3_000, 500);
     tally.gaps.wants(4);
     tally.turns.wants(100);
+    tally.sums.wants(100);
+    tally.sums.wants_none_replaced();
 }
 
 /// A plan of one to four tasks, whose jobs are soon alone. Where there is a lower level than the nominal
@@ -493,11 +518,13 @@ fn runs_with_lone_jobs() {
         run(&mut both, &mut random, board, style, 80, &mut tally);
     }
     println!("{tally:?}");
-    both.saw("runs with lone jobs", 250_000);
+    both.saw("runs with lone jobs", 390_000);
     tally.wants_fixed(400, 500, 500, 30);
     tally.gaps.wants(200);
     tally.gaps.wants_of_levels(70);
     tally.turns.wants(1_000);
+    tally.sums.wants(1_500);
+    tally.sums.wants_none_replaced();
 }
 
 /// A plan of two to six tasks with few periods, each a multiple of the shortest and in any order, so
@@ -540,11 +567,13 @@ fn runs_with_pairs() {
         run(&mut both, &mut random, board, style, 80, &mut tally);
     }
     println!("{tally:?}");
-    both.saw("runs with pairs", 250_000);
+    both.saw("runs with pairs", 390_000);
     both.wants_kind(Call::Start, Kind::SomePairs, 1_300);
     tally.wants_fixed(300, 600, 600, 50);
     tally.gaps.wants(60);
     tally.turns.wants(2_500);
+    tally.sums.wants(1_500);
+    tally.sums.wants_none_replaced();
 }
 
 /// Two to five tasks with much in fixed ticks and little work, periods short and long.
@@ -585,8 +614,10 @@ fn the_bench_plan_for_thousands_of_passes() {
         );
     }
     println!("{tally:?}");
-    both.saw("the bench plan", 32_000);
+    both.saw("the bench plan", 48_000);
     both.wants(Call::Pass, ACCEPTED, 14_000);
     assert!(tally.early > 3_000 && tally.interrupted > 500, "{tally:?}");
     assert!(tally.below_nominal > 3_000, "{tally:?}");
+    tally.sums.wants_full(1_000);
+    tally.sums.wants_none_replaced();
 }

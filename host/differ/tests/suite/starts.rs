@@ -37,14 +37,14 @@ fn some_room(random: &mut Random) -> usize {
     let exact = STATE_BYTES;
     let longer = [exact + 1, exact + 12, 2 * exact];
     match random.below(9) {
-        0 => random.pick(&[0, 200, 216]),
+        0 => random.pick(&[0, 200, 217]),
         1 => exact - 1,
         2..=5 => exact,
         other => longer[other as usize - 6],
     }
 }
 
-/// Would catch a buffer that must have exactly 217 bytes, a byte written past the 217 or past the
+/// Would catch a buffer that must have exactly 221 bytes, a byte written past the 221 or past the
 /// buffer, a buffer half filled before 9 is said, an old byte that shines through, and a list of pairs
 /// that is asked about in long buffers only.
 #[test]

@@ -4,23 +4,27 @@
 use crate::both::{Both, Call, ACCEPTED};
 use crate::dispatch::STATE_BYTES;
 use crate::made::{bench_plan, some_plan};
+use crate::sums::sum_of;
 use crate::view::{told, View};
 use sim::dispatch::{choose, sound};
 use sim::job::{time_needed, Left};
 use sim::layout::{entry_at, of_task};
 use sim::layout::{speed_of, LEVEL_COUNT, SPEEDS};
 use sim::layout::{CLOCK, COUNT, ENTRIES, ENTRIES_END, FIXED, FIXED_LEFT, HEAD_ZERO, LEVEL, TASK};
+use sim::layout::{SPEEDS_END, TOTAL};
 use sim::levels::{Levels, FASTEST, MOST_LEVELS};
 use sim::plan::{judge_list, Task, LARGEST_FIXED};
 use sim::random::states::{
     forged_state, invented_state, late_state, put_table, reached_state, with_a_table_changed,
 };
 use sim::random::tables::some_or_base_levels;
+use sim::random::totals::put_total;
 use sim::random::Random;
 use sim::schedule::allotment;
 use sim::state::{pack, unpack, Entry};
 
-/// Puts a state to passing and showing. Says whether it was taken for a sound one.
+/// Puts a state to passing and showing, and asks for its total, which any block of the right length has.
+/// Says whether it was taken for a sound one; the total is then that of its entries.
 pub fn put_state(both: &mut Both, random: &mut Random, state: &[u8]) -> bool {
     let (d, finished) = match sound(state) {
         Some(_) if random.one_in(2) => View::of(state).whole_hold(),
@@ -31,11 +35,16 @@ pub fn put_state(both: &mut Both, random: &mut Random, state: &[u8]) -> bool {
     let passed = both.pass(&mut after, d, told(random, finished));
     let shown = both.show(state, random.pick(&[0, 1, 47, 48, 60]));
     assert_eq!(passed == Err(10), shown == Err(10), "{state:02x?}");
+    let total = both.queued(state);
+    assert_eq!(total == Err(10), state.len() != STATE_BYTES);
+    if shown != Err(10) {
+        assert_eq!(total.map(u64::from), Ok(sum_of(state)), "{state:02x?}");
+    }
     shown != Err(10)
 }
 
 /// Sound states of each kind, from plans of each kind, with any speeds.
-fn some_sound_state(random: &mut Random) -> [u8; STATE_BYTES] {
+pub fn some_sound_state(random: &mut Random) -> [u8; STATE_BYTES] {
     let (levels, plan) = some_plan(random);
     let passes = random.pick(&[0, 1, 3, 10, 30]);
     match random.below(3) {
@@ -128,7 +137,7 @@ fn states_of_every_length() {
         let twice = [&state[..], &state[..]].concat();
         assert!(!put_state(&mut both, &mut random, &twice));
     }
-    both.saw("states of every length", 14_000);
+    both.saw("states of every length", 22_000);
     both.wants_editions(&[Call::Show], 2);
     both.wants(Call::Pass, 10, 6_000);
     both.wants(Call::Show, 10, 6_000);
@@ -136,28 +145,38 @@ fn states_of_every_length() {
 }
 
 /// Would catch a bit of the state that soundness does not look at though it should, or that it looks
-/// at though it may be either.
+/// at though it may be either. A bit of the plain ticks left is put with the old total, and with the one
+/// that the entries then have.
 #[test]
 fn every_flipped_bit_of_sound_states() {
     let mut both = Both::new(&Levels::base());
     let mut random = Random::new(602);
     let mut sound_still = 0;
+    let mut sound_again = 0;
     let mut fixed = FixedSeen::default();
     for _ in 0..24 {
-        let mut state = some_sound_state(&mut random);
+        let state = some_sound_state(&mut random);
         for place in 0..8 * STATE_BYTES {
-            state[place / 8] ^= 0x80 >> (place % 8);
-            let taken = put_state(&mut both, &mut random, &state);
+            let mut flipped = state;
+            flipped[place / 8] ^= 0x80 >> (place % 8);
+            let taken = put_state(&mut both, &mut random, &flipped);
             sound_still += u32::from(taken);
-            fixed.note(&state, taken);
-            state[place / 8] ^= 0x80 >> (place % 8);
+            fixed.note(&flipped, taken);
+            let mut mended = flipped;
+            put_total(&mut mended);
+            // With a bit of the total itself flipped, this is the state again.
+            if mended != flipped && mended != state {
+                assert!(!taken);
+                sound_again += u32::from(put_state(&mut both, &mut random, &mended));
+            }
         }
     }
-    both.saw("flipped bits of states", 83_000);
+    both.saw("flipped bits of states", 145_000);
     fixed.wants(8);
     both.wants(Call::Pass, 10, 25_000);
     both.wants(Call::Show, 10, 25_000);
     assert!(sound_still > 200, "{sound_still}");
+    assert!(sound_again > 50, "{sound_again}");
 }
 
 /// Would catch an order or a count that is let through though no sound state has it.
@@ -185,7 +204,7 @@ fn every_value_of_the_head() {
             }
         }
     }
-    both.saw("heads of states", 57_000);
+    both.saw("heads of states", 86_000);
     both.wants_editions(&[Call::Show], 20);
     both.wants(Call::Pass, 10, 25_000);
     assert!(sound_still > 120, "{sound_still}");
@@ -208,7 +227,7 @@ fn forged_states() {
             fixed.note(&forged, taken);
         }
     }
-    both.saw("forged states", 40_000);
+    both.saw("forged states", 60_000);
     fixed.wants(200);
     both.wants(Call::Pass, 10, 8_000);
     both.wants(Call::Show, 10, 8_000);
@@ -250,7 +269,7 @@ fn every_value_of_fixed_ticks() {
             fixed.note(&other, taken);
         }
     }
-    both.saw("values of fixed ticks", 150_000);
+    both.saw("values of fixed ticks", 250_000);
     both.wants(Call::Pass, 10, 50_000);
     both.wants(Call::Pass, ACCEPTED, 500);
     fixed.wants(500);
@@ -301,7 +320,7 @@ fn any_work_and_fixed_ticks_left() {
             sound += u32::from(taken);
         }
     }
-    both.saw("any work and fixed ticks left", 48_000);
+    both.saw("any work and fixed ticks left", 72_000);
     both.wants(Call::Pass, 10, 5_000);
     both.wants(Call::Pass, ACCEPTED, 3_000);
     assert!(sound > 8_000, "{sound}");
@@ -326,7 +345,7 @@ fn every_count_of_levels() {
             sound_still += u32::from(taken);
         }
     }
-    both.saw("counts of levels", 20_000);
+    both.saw("counts of levels", 30_000);
     both.wants_editions(&[Call::Show], 5);
     both.wants(Call::Pass, 10, 10_000);
     assert_eq!(sound_still, 40);
@@ -366,7 +385,7 @@ fn every_speed_at_its_edges() {
             }
         }
     }
-    both.saw("speeds at their edges", 64_000);
+    both.saw("speeds at their edges", 97_000);
     both.wants_editions(&[Call::Show], 1_000);
     both.wants(Call::Pass, 10, 20_000);
     assert!(sound_still > 1_000, "{sound_still}");
@@ -387,7 +406,7 @@ fn states_with_damaged_tables() {
             sound_still += u32::from(taken && once != state);
         }
     }
-    both.saw("damaged tables", 40_000);
+    both.saw("damaged tables", 60_000);
     both.wants_editions(&[Call::Show], 300);
     both.wants(Call::Pass, 10, 12_000);
     both.wants(Call::Show, 10, 12_000);
@@ -412,6 +431,7 @@ fn rubbish() {
             COUNT.put(&mut state, ENTRIES as u64);
             HEAD_ZERO.put(&mut state, 0);
             put_table(&mut state, some_or_base_levels(&mut random).speeds());
+            put_total(&mut state);
         }
         if round % 4 == 0 {
             for task in 0..ENTRIES {
@@ -424,7 +444,7 @@ fn rubbish() {
     for filler in 0..=255 {
         assert!(!put_state(&mut both, &mut random, &[filler; STATE_BYTES]));
     }
-    both.saw("rubbish", 8_500);
+    both.saw("rubbish", 12_700);
     both.wants(Call::Pass, 10, 4_000);
     both.wants(Call::Show, 10, 4_000);
 }
@@ -437,8 +457,8 @@ fn soundness_is_asked_first() {
     let mut random = Random::new(606);
     let (good, _) = reached_state(&mut random, &Levels::base(), &bench_plan(), 0);
     // Places where a 1 is wrong: in the head, as fixed ticks of the first task, for which there is no
-    // room, or as ones left of them, past the third entry, in the count of levels, and in the last
-    // speed.
+    // room, or as ones left of them, past the third entry, in the count of levels, in the last speed,
+    // and in the total, which is 14, at either end.
     let bad_places = [
         HEAD_ZERO.at,
         of_task(0, FIXED).at,
@@ -446,6 +466,8 @@ fn soundness_is_asked_first() {
         entry_at(3),
         ENTRIES_END - 1,
         LEVEL_COUNT.at,
+        SPEEDS_END - 1,
+        TOTAL.at,
         STATE_BYTES - 1,
     ];
     for place in bad_places {
@@ -460,7 +482,7 @@ fn soundness_is_asked_first() {
             assert_eq!(both.show(&bad, room), Err(10));
         }
     }
-    both.saw("soundness first", 150);
+    both.saw("soundness first", 198);
     both.wants(Call::Pass, 10, 60);
     both.wants(Call::Show, 10, 50);
 }

@@ -273,7 +273,7 @@ fn ahead_entry(random: &mut Random, task: &Task, nominal: u64) -> Entry {
 }
 
 /// A clock some ticks before an arrival of a task: few, or as many as a job takes, or any.
-fn clock_near_arrival(random: &mut Random, tasks: &[Task]) -> u64 {
+pub(super) fn clock_near_arrival(random: &mut Random, tasks: &[Task]) -> u64 {
     let period = random.pick(tasks).period;
     let before = match random.below(3) {
         0 => random.between(1, period.min(4)),

@@ -4,11 +4,14 @@ use super::blocks::block_of;
 use super::lone::{sound_lone_state, with_another_job_open};
 use super::passes::likely_pass;
 use super::tables::{bad_speeds, some_levels};
+use super::totals::{put_total, replacing_state, with_a_total_changed};
 use super::Random;
 use crate::clock::LARGEST_CLOCK;
 use crate::dispatch::{choose, pass, start, Order};
 use crate::job::{time_needed, Left};
-use crate::layout::{self, ENTRIES, ENTRIES_END, ENTRY_BYTES, HEAD_BYTES, SPEEDS, STATE_BYTES};
+use crate::layout::{
+    self, ENTRIES, ENTRIES_END, ENTRY_BYTES, HEAD_BYTES, SPEEDS, SPEEDS_END, STATE_BYTES,
+};
 use crate::levels::{Levels, FASTEST};
 use crate::plan::{
     judge_list, Judged, Task, LARGEST_COUNT, LARGEST_FIXED, LARGEST_PERIOD, LARGEST_WORST,
@@ -55,14 +58,20 @@ pub fn late_state(random: &mut Random, block: &[u8; STATE_BYTES]) -> [u8; STATE_
 
 /// A sound state with any clock and any progress of the jobs, most likely one that no run from a
 /// start can reach. The level of its order is anything from the lowest that fits to the nominal. One
-/// of four has exactly one open job, often one behind its plain ticks (02, No. 4).
+/// of four has exactly one open job, often one behind its plain ticks (02, No. 4). One of eight, where
+/// the plan has it, has plain ticks left in an entry that is about to be replaced (02, No. 6).
 pub fn invented_state(random: &mut Random, levels: &Levels, tasks: &[Task]) -> [u8; STATE_BYTES] {
-    if random.one_in(4) {
-        return sound_lone_state(random, levels, tasks).0;
+    match random.below(8) {
+        0 | 1 => sound_lone_state(random, levels, tasks).0,
+        2 => replacing_state(random, levels, tasks)
+            .unwrap_or_else(|| any_sound_state(random, levels, tasks)),
+        _ => any_sound_state(random, levels, tasks),
     }
-    let nominal = judge_list(levels, tasks)
-        .expect("the plan is an accepted one")
-        .nominal;
+}
+
+fn any_sound_state(random: &mut Random, levels: &Levels, tasks: &[Task]) -> [u8; STATE_BYTES] {
+    let judged = judge_list(levels, tasks).expect("the plan is an accepted one");
+    let nominal = levels.speed(judged.nominal);
     let mut state = State {
         clock: some_clock(random),
         running: None,
@@ -71,15 +80,20 @@ pub fn invented_state(random: &mut Random, levels: &Levels, tasks: &[Task]) -> [
     };
     let ended = random.between(1, 4);
     for task in tasks {
-        let entry = invented_entry(random, task, levels.speed(nominal), ended);
+        let entry = invented_entry(random, task, nominal, ended);
         state.entries.push(entry);
     }
-    if let Some(mut running) = choose(&state) {
-        // An order is chosen at the lowest level; a sound one may have a higher one.
-        running.level = random.between(running.level as u64, nominal as u64) as usize;
-        state.running = Some(running);
-    }
+    with_some_order(random, &mut state);
     pack(&state)
+}
+
+/// An order is chosen at the lowest level; a sound one may have a higher one, up to the nominal.
+pub(super) fn with_some_order(random: &mut Random, state: &mut State) {
+    let judged = judge_list(&state.levels, &state.tasks()).expect("the plan is an accepted one");
+    state.running = choose(state);
+    if let Some(running) = &mut state.running {
+        running.level = random.between(running.level as u64, judged.nominal as u64) as usize;
+    }
 }
 
 /// An early clock, one near the largest, or any.
@@ -93,7 +107,7 @@ pub(super) fn some_clock(random: &mut Random) -> u64 {
 }
 
 /// An entry whose job has come anywhere; one in so many has not ended.
-fn invented_entry(random: &mut Random, task: &Task, nominal: u64, ended: u64) -> Entry {
+pub(super) fn invented_entry(random: &mut Random, task: &Task, nominal: u64, ended: u64) -> Entry {
     let left = if !random.one_in(ended) {
         Left::NOTHING
     } else {
@@ -128,14 +142,16 @@ pub(super) fn invented_left(random: &mut Random, task: &Task) -> Left {
 }
 
 /// A sound state with something changed: some bytes, one field moved to an edge, its table of speeds,
-/// its length, or a job opened that takes from the running one what a lone job may do. Some of these
-/// are sound all the same.
+/// its total, its length, or a job opened that takes from the running one what a lone job may do. Some
+/// of these are sound all the same. But for the changed total itself, most have the total of their
+/// entries, so that it doesn't decide alone.
 pub fn forged_state(random: &mut Random, block: &[u8; STATE_BYTES]) -> Vec<u8> {
-    match random.below(11) {
+    match random.below(12) {
         0 => with_another_length(random, block),
         1 | 2 => with_bytes_changed(random, block),
         3 | 4 => with_a_table_changed(random, block).to_vec(),
         5 => with_another_job_open(random, block).to_vec(),
+        6 => with_a_total_changed(random, block).to_vec(),
         _ => with_a_field_changed(random, block),
     }
 }
@@ -151,6 +167,9 @@ fn with_another_length(random: &mut Random, block: &[u8]) -> Vec<u8> {
         STATE_BYTES / 2,
         ENTRIES_END,
         ENTRIES_END + 1,
+        SPEEDS_END - 1,
+        SPEEDS_END,
+        SPEEDS_END + 1,
         STATE_BYTES - 2,
         STATE_BYTES - 1,
         STATE_BYTES,
@@ -162,6 +181,7 @@ fn with_another_length(random: &mut Random, block: &[u8]) -> Vec<u8> {
     forged
 }
 
+/// Some bytes changed. Three of four times the total is then made that of the entries again.
 fn with_bytes_changed(random: &mut Random, block: &[u8]) -> Vec<u8> {
     let mut forged = block.to_vec();
     for _ in 0..random.between(1, 4) {
@@ -172,6 +192,9 @@ fn with_bytes_changed(random: &mut Random, block: &[u8]) -> Vec<u8> {
             2 => forged[place] ^= 1 << random.below(8),
             _ => forged[place] = random.number() as u8,
         }
+    }
+    if !random.one_in(4) {
+        put_total(&mut forged);
     }
     forged
 }

@@ -6,7 +6,7 @@ use sim::plan::{Judged, Task};
 
 const EXAMPLE: [u8; 6] = [0x10, 0x80, 0x14, 0x00, 0x09, 0x60];
 
-/// 01's speeds at the end of the state block: their count, then two bytes each.
+/// 01's speeds behind the entries of the state block: their count, then two bytes each.
 const BASE_TABLE: [u8; 17] = [8, 0, 10, 0, 20, 0, 30, 0, 40, 0, 50, 0, 60, 0, 80, 0, 100];
 
 #[test]
@@ -74,18 +74,20 @@ fn entries_past_the_count_are_not_looked_at() {
 }
 
 #[test]
-fn starting_fills_217_bytes_and_no_more() {
-    let mut state = [0xa5; 222];
+fn starting_fills_221_bytes_and_no_more() {
+    let mut state = [0xa5; 226];
     assert_eq!(start(&BENCH_BLOCK, &mut state), Ok(run(0, 7, 4)));
-    let mut expected = [0; 217];
-    // Clock 0, task 0, level 7, count 3, then the entries, and at the end the speeds.
+    let mut expected = [0; 221];
+    // Clock 0, task 0, level 7, count 3, then the entries, behind them the speeds, and at the end the
+    // total of 4 + 4 + 6.
     expected[..8].copy_from_slice(&[0, 0, 0, 0, 0, 7, 3, 0]);
     expected[8..20].copy_from_slice(&[0, 10, 0, 1, 144, 0, 1, 144, 0, 4, 0, 0]);
     expected[20..32].copy_from_slice(&[0, 10, 0, 1, 144, 0, 1, 144, 0, 4, 0, 0]);
     expected[32..44].copy_from_slice(&[0, 30, 0, 2, 88, 0, 2, 88, 0, 6, 0, 0]);
-    expected[200..].copy_from_slice(&BASE_TABLE);
-    assert_eq!(state[..217], expected);
-    assert_eq!(state[217..], [0xa5; 5]);
+    expected[200..217].copy_from_slice(&BASE_TABLE);
+    expected[217..].copy_from_slice(&[0, 0, 0, 14]);
+    assert_eq!(state[..221], expected);
+    assert_eq!(state[221..], [0xa5; 5]);
 }
 
 #[test]
@@ -94,12 +96,13 @@ fn the_state_block_of_an_idle_order() {
         &bench_plan(),
         &[(1, true), (7, true), (2, true), (4, true), (4, true)],
     );
-    let mut expected = [0; 217];
-    // Clock 18, idle, level 0; all finished, and task 2 has 4 plain ticks left.
+    let mut expected = [0; 221];
+    // Clock 18, idle, level 0; all finished, and task 2 has 4 plain ticks left, which are all.
     expected[..8].copy_from_slice(&[0, 0, 0, 18, 255, 0, 3, 0]);
     expected[8..20].copy_from_slice(&[0, 10, 0, 1, 144, 0, 0, 0, 0, 0, 0, 0]);
     expected[20..32].copy_from_slice(&[0, 10, 0, 1, 144, 0, 0, 0, 0, 0, 0, 0]);
     expected[32..44].copy_from_slice(&[0, 30, 0, 2, 88, 0, 0, 0, 0, 4, 0, 0]);
-    expected[200..].copy_from_slice(&BASE_TABLE);
+    expected[200..217].copy_from_slice(&BASE_TABLE);
+    expected[217..].copy_from_slice(&[0, 0, 0, 4]);
     assert_eq!(state, expected);
 }

@@ -4,7 +4,8 @@ use crate::base::{actual_book, plain_book, plain_schedule};
 use crate::common::{bench_plan, idle, run, tasks};
 use sim::books::{
     arrivals_hold, deadlines_hold, demand3_holds, last_finish_holds, last_finish_past_plain,
-    lone_finishes_hold, past_plain_finish, ActualBook, BookJob, Closed, FinishPastPlain, PlainBook,
+    lone_finishes_hold, past_plain_finish, total_holds, ActualBook, BookJob, Closed,
+    FinishPastPlain, PlainBook,
 };
 use sim::plan::Task;
 use sim::schedule::PlainJob;
@@ -429,4 +430,45 @@ fn what_is_said_of_deadlines_can_fail() {
     let late = holds(&shorter, &ended).unwrap_err();
     assert!(late.starts_with("late in the plain"), "{late}");
     assert!(lone_finishes_hold(&shorter, &ended.actual, &ended.plain).is_err());
+}
+
+#[test]
+fn the_plain_schedules_sum() {
+    // The bench plan: 14 ticks at the start, and at 10 and 20 eight more each.
+    let mut book = plain_book(&bench_plan());
+    let mut sums = Vec::new();
+    for _ in 0..=30 {
+        sums.push(book.ticks_left());
+        book.pass(1, Ok(idle(1)));
+    }
+    let first = (5..=14).rev();
+    let second = (3..=4 + 8).rev();
+    let third = (1..=2 + 8).rev();
+    let expected: Vec<u64> = first.chain(second).chain(third).chain([14]).collect();
+    assert_eq!(sums, expected);
+}
+
+#[test]
+fn what_is_said_of_the_total_can_fail() {
+    let mut book = plain_book(&bench_plan());
+    assert_eq!(total_holds(&book, Ok(14)), Ok(()));
+    for answer in [Ok(0), Ok(13), Ok(15), Ok(14 << 8), Ok(u32::MAX), Err(10)] {
+        let verdict = total_holds(&book, answer);
+        assert!(verdict.unwrap_err().starts_with("14 plain ticks queued"));
+    }
+    // A refused pass changes nothing of it, an accepted one does, and forgetting closed jobs doesn't.
+    book.pass(4, Err(14));
+    assert_eq!(total_holds(&book, Ok(14)), Ok(()));
+    book.pass(4, Ok(run(1, 7, 4)));
+    assert_eq!(total_holds(&book, Ok(10)), Ok(()));
+    assert!(total_holds(&book, Ok(14)).is_err());
+    book.forget_closed();
+    assert_eq!(total_holds(&book, Ok(10)), Ok(()));
+    // With nothing queued it is 0, however long: 3 ticks of 10.
+    let mut idling = plain_book(&tasks(&[(10, 30)]));
+    idling.pass(3, Ok(idle(7)));
+    assert_eq!(total_holds(&idling, Ok(0)), Ok(()));
+    idling.pass(6, Ok(idle(1)));
+    assert_eq!(total_holds(&idling, Ok(0)), Ok(()));
+    assert!(total_holds(&idling, Err(10)).is_err());
 }

@@ -23,6 +23,7 @@ use sim::random::tables::{
     bad_level_block, bad_speeds, damaged_level_block, levels_of_count, some_levels,
     some_or_base_levels,
 };
+use sim::random::totals::{put_total, replacing_state, ticks_replaced, with_a_total_changed};
 use sim::random::Random;
 use sim::{read_levels, write_levels};
 use std::collections::{BTreeMap, BTreeSet};
@@ -499,6 +500,7 @@ fn changed_tables_of_states_are_of_every_kind() {
         let forged = with_a_table_changed(&mut random, &state);
         // Nothing but the table has changed.
         assert_eq!(forged[..200], state[..200]);
+        assert_eq!(forged[217..], state[217..]);
         match sim::state::unpack(&forged) {
             None => bad += 1,
             Some(other) if other.levels != levels => another += 1,
@@ -725,7 +727,7 @@ fn invented_and_forged_states_have_lone_jobs_of_every_kind() {
         *invented.entry(kind.unwrap()).or_default() += 1;
         let mut forged = forged_state(&mut random, &block);
         forged.resize(STATE_BYTES, 0);
-        if is_sound(&forged) || forged[200..] != block[200..] {
+        if is_sound(&forged) || forged[200..217] != block[200..217] {
             continue;
         }
         // What just isn't sound any more, where what was changed leaves a plan and an order.
@@ -769,4 +771,150 @@ fn another_job_is_opened_where_there_is_one() {
         }
     }
     assert!(opened > 100 && as_it_was > 100, "{opened} {as_it_was}");
+}
+
+/// What the entries of a block add up to, read from where 01 has them.
+fn sum_of_entries(block: &[u8]) -> u64 {
+    let plain_left = |task: usize| {
+        let at = 8 + 12 * task + 8;
+        256 * u64::from(block[at]) + u64::from(block[at + 1])
+    };
+    (0..16).map(plain_left).sum()
+}
+
+fn total(block: &[u8]) -> u64 {
+    u64::from(sim::queued(block).unwrap())
+}
+
+/// How a changed total differs from the one that was right.
+fn kind_of_total(right: u64, other: u64) -> &'static str {
+    let swapped = u64::from((right as u32).swap_bytes());
+    match other {
+        _ if other == right => "the same",
+        _ if other == right + 1 => "one more",
+        _ if other + 1 == right => "one less",
+        0 => "zero",
+        _ if other == swapped => "swapped",
+        4_294_967_295 => "largest",
+        _ if other > 1 << 20 => "huge",
+        _ => "any",
+    }
+}
+
+#[test]
+fn changed_totals_are_of_every_kind() {
+    let mut random = Random::new(24);
+    let mut kinds: BTreeMap<&str, u32> = BTreeMap::new();
+    for _ in 0..4_000 {
+        let (levels, tasks) = any_plan(&mut random);
+        let state = invented_state(&mut random, &levels, &tasks);
+        let forged = with_a_total_changed(&mut random, &state);
+        // Nothing but the total has changed, and it alone decides.
+        assert_eq!(forged[..217], state[..217]);
+        assert_eq!(is_sound(&forged), forged == state);
+        let kind = kind_of_total(total(&state), total(&forged));
+        *kinds.entry(kind).or_default() += 1;
+        // Put right again it is as it was.
+        let mut again = forged;
+        put_total(&mut again);
+        assert_eq!(again, state);
+    }
+    assert_eq!(kinds.len(), 8, "{kinds:?}");
+    assert!(kinds.values().all(|times| *times > 100), "{kinds:?}");
+}
+
+#[test]
+fn forged_states_mostly_have_the_total_of_their_entries() {
+    let mut random = Random::new(25);
+    let (mut right, mut wrong, mut wrong_alone) = (0, 0, 0);
+    for _ in 0..6_000 {
+        let (levels, tasks) = any_plan(&mut random);
+        let block = invented_state(&mut random, &levels, &tasks);
+        assert_eq!(total(&block), sum_of_entries(&block));
+        let forged = forged_state(&mut random, &block);
+        if forged.len() != STATE_BYTES {
+            assert_eq!(sim::queued(&forged), Err(10));
+            continue;
+        }
+        if total(&forged) == sum_of_entries(&forged) {
+            right += 1;
+            continue;
+        }
+        wrong += 1;
+        assert!(!is_sound(&forged));
+        // With the right total it would be sound.
+        let mut settled = forged;
+        put_total(&mut settled);
+        wrong_alone += u32::from(is_sound(&settled));
+    }
+    assert!(right > 9 * wrong, "{right} {wrong}");
+    assert!(wrong > 300 && wrong_alone > 300, "{wrong} {wrong_alone}");
+}
+
+/// Which tasks' periods end at the next arrival of any, and the ticks up to there.
+fn replaced_next(state: &sim::state::State) -> (Vec<usize>, u64) {
+    let gap_of = |task: &Task| task.period - state.clock % task.period;
+    let gaps: Vec<u64> = state.tasks().iter().map(gap_of).collect();
+    let gap = *gaps.iter().min().unwrap();
+    let next = (0..gaps.len()).filter(|task| gaps[*task] == gap);
+    (next.collect(), gap)
+}
+
+#[test]
+fn replacing_states_are_sound_and_replace_ticks() {
+    let mut random = Random::new(26);
+    let (mut none, mut idle, mut running, mut several) = (0, 0, 0, 0);
+    for _ in 0..3_000 {
+        let (levels, tasks) = any_plan(&mut random);
+        let block = match replacing_state(&mut random, &levels, &tasks) {
+            Some(block) => block,
+            None => {
+                none += 1;
+                continue;
+            }
+        };
+        assert!(is_sound(&block));
+        let state = sim::state::unpack(&block).unwrap();
+        let (next, gap) = replaced_next(&state);
+        // They have finished, and have more plain ticks than will go by.
+        let finished = |task: &usize| state.entries[*task].left.work == 0;
+        assert!(next.iter().all(finished));
+        let plain_left = |task: &usize| state.entries[*task].plain_left;
+        let queued: u64 = next.iter().map(plain_left).sum();
+        assert!(queued > gap);
+        assert_eq!(ticks_replaced(&state), queued - gap);
+        idle += u32::from(state.running.is_none());
+        running += u32::from(state.running.is_some());
+        several += u32::from(next.len() > 1);
+    }
+    assert!(idle > 300 && running > 300, "{idle} {running}");
+    assert!(several > 300 && none < 600, "{several} {none}");
+    // A single plain tick is gone at the arrival.
+    let one_tick = vec![Task {
+        period: 3,
+        worst: 10,
+        fixed: 0,
+    }];
+    let levels = Levels::base();
+    assert_eq!(replacing_state(&mut random, &levels, &one_tick), None);
+}
+
+#[test]
+fn invented_states_replace_ticks_when_led_on() {
+    let mut random = Random::new(27);
+    let (mut replacing, mut replaced) = (0, 0);
+    for _ in 0..3_000 {
+        let (levels, tasks) = any_plan(&mut random);
+        let mut block = invented_state(&mut random, &levels, &tasks);
+        let state = sim::state::unpack(&block).unwrap();
+        let ticks = ticks_replaced(&state);
+        if ticks == 0 {
+            continue;
+        }
+        replacing += 1;
+        let gap = replaced_next(&state).1 as u32;
+        let finished = state.running.is_some() && random.one_in(2);
+        replaced += u32::from(pass(&mut block, gap, finished).is_ok());
+    }
+    assert!(replacing > 600 && replaced > 300, "{replacing} {replaced}");
 }

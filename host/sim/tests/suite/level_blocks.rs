@@ -257,16 +257,16 @@ fn the_state_has_the_table_that_was_loaded() {
     };
     let one = started(&[300]);
     assert_eq!(
-        one[200..],
+        one[200..217],
         [1, 1, 44, 0, 0, 0, 0, 0, 0, 0, 0, 0, 0, 0, 0, 0, 0]
     );
     let three = started(&[1, 255, 1_000]);
     let expected = [3, 0, 1, 0, 255, 3, 232, 0, 0, 0, 0, 0, 0, 0, 0, 0, 0];
-    assert_eq!(three[200..], expected);
+    assert_eq!(three[200..217], expected);
     // Passing leaves it as it was.
     let mut led = three;
     sim::pass(&mut led, 1, true).unwrap();
-    assert_eq!(led[200..], expected);
+    assert_eq!(led[200..217], expected);
     assert_eq!(layout::LEVEL_COUNT.get(&led), 3);
     assert_eq!(layout::speed_of(2).get(&led), 1_000);
 }

@@ -18,3 +18,4 @@ mod refusals;
 mod runs;
 mod soundness;
 mod tables;
+mod total;

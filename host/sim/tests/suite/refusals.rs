@@ -6,6 +6,7 @@ use crate::common::{bench_plan, led, refuses_pass, refuses_show, tasks, BENCH_BL
 use sim::block::{pack_block, Edition};
 use sim::layout::STATE_BYTES;
 use sim::plan::Task;
+use sim::queued;
 use sim::state::{pack, unpack};
 
 /// Reads and starts with the block and wants this refusal of both, with no byte changed. The
@@ -161,6 +162,7 @@ fn numbers_10_to_15() {
     let (state, _) = led(&bench_plan(), &[]);
     refuses_show(&state[1..], 48, 10);
     refuses_pass(&state[1..], 1, false, 10);
+    assert_eq!(queued(&state[1..]), Err(10));
     refuses_pass(&state, 0, false, 11);
     refuses_pass(&state, 11, true, 12);
     let (idle, _) = led(&bench_plan(), &[(1, true), (1, true), (1, true)]);

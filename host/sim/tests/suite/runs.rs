@@ -1,12 +1,12 @@
-//! Random runs: plans led through passes, with demand 3, what 02's No. 4 says of the finishes, the
-//! queue and the order checked after each against what the books alone say.
+//! Random runs: plans led through passes, with demand 3, what 02's No. 4 says of the finishes and No. 6
+//! of the total, the queue and the order checked after each against what the books alone say.
 
 use crate::common::{fixed_tasks, queue};
 use sim::books::{
-    demand3_holds, last_finish_past_plain, lone_finishes_hold, past_plain_finish, ActualBook,
-    BookJob, PlainBook,
+    demand3_holds, last_finish_past_plain, lone_finishes_hold, past_plain_finish, total_holds,
+    ActualBook, BookJob, PlainBook,
 };
-use sim::dispatch::{pass, show, start, Order};
+use sim::dispatch::{pass, queued, show, start, Order};
 use sim::job::{time_needed, Left};
 use sim::layout::STATE_BYTES;
 use sim::levels::Levels;
@@ -38,6 +38,59 @@ struct Tally {
     stayed_in_fixed: u64,
     interrupted_in_fixed: u64,
     lone: LoneTally,
+    total: TotalTally,
+}
+
+/// What 02's No. 6 is about.
+#[derive(Default, Debug)]
+struct TotalTally {
+    /// Accepted passes with some queued before: that leave some, that leave none, and with more ticks
+    /// than were queued.
+    lowered: u64,
+    emptied: u64,
+    ran_dry: u64,
+    /// Accepted passes with nothing queued before, and nothing after.
+    stayed_empty: u64,
+    /// Accepted passes that bring more than they take, and those with some of the older left.
+    raised: u64,
+    added: u64,
+    /// Refused ones with some queued.
+    refused: u64,
+    /// Sums that one byte doesn't hold.
+    long: u64,
+}
+
+impl TotalTally {
+    /// After a pass, from the plain schedule's sums before it and now.
+    fn count(&mut self, before: u64, now: u64, d: u32, accepted: bool) {
+        let (d, left) = (u64::from(d), before.saturating_sub(u64::from(d)));
+        self.long += u64::from(now > 255);
+        if !accepted {
+            self.refused += u64::from(before > 0);
+            return;
+        }
+        self.lowered += u64::from(before > 0 && now == left && now > 0);
+        self.emptied += u64::from(before > 0 && now == 0);
+        self.ran_dry += u64::from(before > 0 && before < d);
+        self.stayed_empty += u64::from(before == 0 && now == 0);
+        self.raised += u64::from(now > left);
+        self.added += u64::from(now > left && left > 0);
+    }
+
+    /// Each of these at least so many times.
+    #[track_caller]
+    fn wants(&self, times: u64) {
+        let seen = [
+            self.lowered,
+            self.emptied,
+            self.ran_dry,
+            self.stayed_empty,
+            self.raised,
+            self.added,
+            self.refused,
+        ];
+        assert!(seen.iter().all(|seen| *seen > times), "{self:?}");
+    }
 }
 
 /// What 02's No. 4 is about.
@@ -132,10 +185,14 @@ impl Run {
 
     /// This pass, with everything checked.
     fn put(&mut self, d: u32, finished: bool, tally: &mut Tally) {
-        let before = self.state;
+        let (before, queued_before) = (self.state, self.plain.ticks_left());
         let reply = pass(&mut self.state, d, finished);
         self.actual.pass(d, finished, reply);
         self.plain.pass(d, reply);
+        let queued_now = self.plain.ticks_left();
+        tally
+            .total
+            .count(queued_before, queued_now, d, reply.is_ok());
         match reply {
             Err(_) => {
                 tally.refused += 1;
@@ -314,6 +371,12 @@ impl Run {
             .map(|job| (job.task, job.left))
             .collect();
         assert_eq!(queue(&self.state), plain, "{:?}", self.plan);
+        assert_eq!(
+            total_holds(&self.plain, queued(&self.state)),
+            Ok(()),
+            "{:?}",
+            self.plan
+        );
         // What the dispatcher's book keeps of the jobs is what the state says of them.
         assert_eq!(self.actual.left(), self.left, "{:?}", self.plan);
         let entries = unpack(&self.state).unwrap().entries;
@@ -394,6 +457,7 @@ fn random_runs_on_small_plans() {
     assert!(tally.idle > 1_000, "{}", tally.idle);
     tally.wants_fixed_ticks(100);
     tally.lone.wants(100);
+    tally.total.wants(10);
 }
 
 #[test]
@@ -409,6 +473,7 @@ fn random_runs_on_large_plans() {
         }
     }
     assert!(tally.accepted > 500 && tally.finished_early > 100);
+    assert!(tally.total.long > 200, "{tally:?}");
 }
 
 /// Demand 3 and the orders don't depend on which speeds there are.
@@ -427,6 +492,7 @@ fn random_runs_with_random_tables() {
     assert!(tally.below_nominal > 500, "{}", tally.below_nominal);
     tally.wants_fixed_ticks(60);
     tally.lone.wants(50);
+    tally.total.wants(4);
 }
 
 /// Plans of one to four tasks, in which a job is often alone; of random tables and 01's.
@@ -451,6 +517,7 @@ fn random_runs_with_lone_jobs() {
     }
     tally.wants_fixed_ticks(300);
     tally.lone.wants(500);
+    tally.total.wants(200);
 }
 
 /// Every pass that may be accepted, and one refused with 14, up to a tick.
@@ -493,4 +560,5 @@ fn every_run_of_small_plans() {
     }
     assert!(tally.runs > 3_000, "{}", tally.runs);
     tally.lone.wants(100);
+    tally.total.wants(60);
 }

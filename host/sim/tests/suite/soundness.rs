@@ -50,7 +50,8 @@ fn length_and_zero_bytes() {
     is_sound(&good);
     unsound(&[]);
     unsound(&good[..200]);
-    unsound(&good[..216]);
+    unsound(&good[..217]);
+    unsound(&good[..220]);
     unsound(&[&good[..], &[0]].concat());
     // The zero byte of the head, and everything past the third entry.
     for place in [7].into_iter().chain(44..200) {
@@ -269,4 +270,18 @@ fn the_rest_of_the_state_is_asked_with_its_own_table() {
     let higher = with_table(&[10, 20, 30, 40, 50, 60, 100, 200]);
     is_sound(&with_order(higher, 1, 6));
     unsound(&with_order(higher, 1, 7));
+}
+
+#[test]
+fn the_total() {
+    // 3 + 4 + 6 plain ticks, and `total` has more on it.
+    let with = |total| {
+        let mut state = changed(|_| {});
+        layout::TOTAL.put(&mut state, total);
+        state
+    };
+    is_sound(&with(13));
+    for total in [0, 12, 14, 4_294_967_295] {
+        unsound(&with(total));
+    }
 }
