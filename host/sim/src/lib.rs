@@ -14,6 +14,7 @@ pub mod books;
 pub mod calls;
 pub mod clock;
 pub mod dispatch;
+pub mod forging;
 pub mod job;
 pub mod layout;
 pub mod level_block;

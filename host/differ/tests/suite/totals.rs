@@ -10,6 +10,7 @@ use crate::sums::{sum_of, Step, Sums};
 use crate::view::{queue_bytes, told, View};
 use differ::dispatcher::Order;
 use sim::dispatch::sound;
+use sim::forging::{every_idle_state, forged};
 use sim::job::Left;
 use sim::layout::{of_task, COUNT, ENTRIES, PLAIN_LEFT};
 use sim::levels::Levels;
@@ -20,7 +21,7 @@ use sim::random::tables::some_or_base_levels;
 use sim::random::totals::{put_total, replacing_state, ticks_replaced, with_a_total_changed};
 use sim::random::Random;
 use sim::schedule::allotment;
-use sim::state::{pack, unpack, Entry, Running, State};
+use sim::state::{pack, unpack, Running};
 use std::collections::BTreeMap;
 
 /// Where the four bytes are, told by 02's own numbers.
@@ -359,31 +360,6 @@ fn totals_changed_and_totals_gone_by() {
     assert!(changed > 3_500 && gone_by > 2_500, "{changed} {gone_by}");
 }
 
-/// A state of this plan at these speeds with this clock and order; of each task the work and the plain
-/// ticks left.
-fn forged(
-    speeds: &[u64],
-    plan: &[Task],
-    clock: u64,
-    running: Option<Running>,
-    progress: &[(u64, u64)],
-) -> [u8; STATE_BYTES] {
-    let entry = |(task, (work, plain_left)): (&Task, &(u64, u64))| Entry {
-        task: *task,
-        left: Left {
-            fixed: 0,
-            work: *work,
-        },
-        plain_left: *plain_left,
-    };
-    pack(&State {
-        clock,
-        running,
-        entries: plan.iter().zip(progress).map(entry).collect(),
-        levels: Levels::new(speeds),
-    })
-}
-
 const fn run(task: u8, level: u8, hold: u32) -> Order {
     Order::Run { task, level, hold }
 }
@@ -399,7 +375,7 @@ fn the_smallest_entry_replaced_with_a_tick_left() {
     wanted[8..20].copy_from_slice(&[0, 2, 0, 0, 2, 0, 0, 0, 0, 2, 0, 0]);
     wanted[200..203].copy_from_slice(&[1, 0, 1]);
     wanted[217..].copy_from_slice(&[0, 0, 0, 2]);
-    let mut state = forged(&[1], &tasks(&[(2, 2)]), 1, None, &[(0, 2)]);
+    let mut state = forged(&[1], &tasks(&[(2, 2)]), 1, None, &[(0, 0, 2)]);
     assert_eq!(state, wanted);
     assert_eq!(both.queued(&state), Ok(2));
     assert_eq!(both.show(&state, 3), Ok(queue_bytes(&[(0, 2)])));
@@ -452,22 +428,23 @@ fn entries_replaced_with_ticks_left_by_hand() {
         standing(&after.expect("the pass is accepted"))
     };
     // Two ticks each at 3 of 4: one is taken from task 0, and 1 + 2 are replaced by 2 + 2.
-    let two = forged(&[1], &tasks(&[(4, 2), (4, 2)]), 3, None, &[(0, 2), (0, 2)]);
+    let twins = tasks(&[(4, 2), (4, 2)]);
+    let two = forged(&[1], &twins, 3, None, &[(0, 0, 2), (0, 0, 2)]);
     assert_eq!(total_after(&two, 1, 0), 4);
     // Task 1 has a period of 8 and keeps its 2. Of task 0's 3 one is taken and 2 are replaced by 3.
     let plan = tasks(&[(4, 3), (8, 2)]);
-    let first = forged(&[1], &plan, 3, None, &[(0, 3), (0, 2)]);
+    let first = forged(&[1], &plan, 3, None, &[(0, 0, 3), (0, 0, 2)]);
     assert_eq!(total_after(&first, 1, 0), 5);
     // The same while task 1 runs, and where it finishes with the tick.
     let running = Some(Running { task: 1, level: 0 });
-    let while_running = forged(&[1], &plan, 3, running, &[(0, 3), (2, 2)]);
+    let while_running = forged(&[1], &plan, 3, running, &[(0, 0, 3), (0, 2, 2)]);
     assert_eq!(total_after(&while_running, 1, 0), 5);
     assert_eq!(total_after(&while_running, 1, 1), 5);
     // At 7 both are replaced: of 3 + 2 one is taken, and 3 + 2 come.
-    let both_replaced = forged(&[1], &plan, 7, None, &[(0, 3), (0, 2)]);
+    let both_replaced = forged(&[1], &plan, 7, None, &[(0, 0, 3), (0, 0, 2)]);
     assert_eq!(total_after(&both_replaced, 1, 0), 5);
     // Nothing is left to be replaced where the ticks are used up.
-    let used_up = forged(&[1], &plan, 1, None, &[(0, 3), (0, 1)]);
+    let used_up = forged(&[1], &plan, 1, None, &[(0, 0, 3), (0, 0, 1)]);
     assert_eq!(total_after(&used_up, 3, 0), 4);
     assert_eq!(
         (sums.replacing, sums.ticks_replaced),
@@ -566,28 +543,9 @@ fn every_idle_state_of_small_plans() {
     sums.wants_replaced(100, 160);
 }
 
-/// All states in the first hyperperiod whose jobs have finished, with any plain ticks left.
-fn every_idle_state(speeds: &[u64], plan: &[Task]) -> Vec<[u8; STATE_BYTES]> {
-    let levels = Levels::new(speeds);
-    let judged = judge_list(&levels, plan).expect("the plan is an accepted one");
-    let mut progress: Vec<Vec<(u64, u64)>> = vec![Vec::new()];
-    for task in plan {
-        let full = allotment(task, levels.speed(judged.nominal));
-        let longer = |before: &Vec<(u64, u64)>| {
-            let before = before.clone();
-            (0..=full).map(move |left| [&before[..], &[(0, left)]].concat())
-        };
-        progress = progress.iter().flat_map(longer).collect();
-    }
-    let at = |clock| progress.iter().map(move |left| (clock, left));
-    let all = (0..judged.hyperperiod).flat_map(at);
-    all.map(|(clock, left)| forged(speeds, plan, clock, None, left))
-        .collect()
-}
-
 /// One task of 5 ticks in 12 has finished, with so many of them left. Each number of ticks goes by.
 fn put_idle_ticks(both: &mut Both, clock: u64, total: u64, sums: &mut Sums) {
-    let state = forged(&[1], &tasks(&[(12, 5)]), clock, None, &[(0, total)]);
+    let state = forged(&[1], &tasks(&[(12, 5)]), clock, None, &[(0, 0, total)]);
     let gap = 12 - clock;
     for d in 1..=gap {
         let after = put_pass(both, &state, (d as u32, 0), sums);

@@ -5,12 +5,13 @@ use crate::common::{
     fixed_tasks, idle, is_sound, queue, refuses_pass, run, sensor_plan, tasks, unsound,
 };
 use sim::dispatch::{choose_with, pass, sound, start, Order, Rule};
-use sim::job::{time_needed, Left};
+use sim::forging::{self, Progress};
+use sim::job::time_needed;
 use sim::layout::{self, STATE_BYTES};
 use sim::plan::{judge_list, Task};
 use sim::random::blocks::block_of;
 use sim::schedule::allotment;
-use sim::state::{pack, unpack, Entry, Running, State};
+use sim::state::{unpack, Entry, Running};
 use sim::Levels;
 
 /// A state started with these speeds and this plan, and led through passes that are all accepted.
@@ -152,32 +153,16 @@ fn the_rule_without_the_gap_is_01s() {
     assert_eq!(state.running, choose_with(&state, Rule::LoneGap));
 }
 
-/// What a forged entry has: the fixed ticks and work left, and the plain ticks left.
-type Progress = (u64, u64, u64);
-
-/// A state of this plan with a clock, an order and the progress of each task.
+/// A state of this plan with a clock, an order to run a task at a level, and the progress of each task.
 fn forged(
     speeds: &[u64],
     plan: &[Task],
     clock: u64,
-    order: (usize, usize),
+    (task, level): (usize, usize),
     progress: &[Progress],
 ) -> [u8; STATE_BYTES] {
-    let entry = |(task, (fixed, work, plain_left)): (&Task, &Progress)| Entry {
-        task: *task,
-        left: Left {
-            fixed: *fixed,
-            work: *work,
-        },
-        plain_left: *plain_left,
-    };
-    let (task, level) = order;
-    pack(&State {
-        clock,
-        running: Some(Running { task, level }),
-        entries: plan.iter().zip(progress).map(entry).collect(),
-        levels: Levels::new(speeds),
-    })
+    let running = Some(Running { task, level });
+    forging::forged(speeds, plan, clock, running, progress)
 }
 
 /// The two tasks' state with task 0 ended, this clock, and task 1 at this level with this work and

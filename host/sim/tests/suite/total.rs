@@ -6,7 +6,7 @@ use crate::common::{
     bench_plan, fixed_tasks, idle, is_sound, led, queue, refuses_pass, refuses_show, run,
     sensor_plan, tasks, unsound, BENCH_BLOCK, BENCH_PASSES,
 };
-use sim::job::Left;
+use sim::forging::{every_idle_state, forged};
 use sim::layout::{self, STATE_BYTES};
 use sim::plan::Task;
 use sim::random::blocks::block_of;
@@ -17,7 +17,7 @@ use sim::random::tables::some_or_base_levels;
 use sim::random::totals::replacing_state;
 use sim::random::Random;
 use sim::schedule::allotment;
-use sim::state::{pack, unpack, Entry, Running, State};
+use sim::state::{pack, unpack, Running, State};
 use sim::{pass, queued, queued_number, Levels, Order};
 
 /// The bench plan's state at tick 1, where the queue is 3, 4 and 6 ticks, with this total.
@@ -25,30 +25,6 @@ fn with_total(total: u32) -> [u8; STATE_BYTES] {
     let (mut state, _) = led(&bench_plan(), &BENCH_PASSES[..1]);
     state[217..].copy_from_slice(&total.to_be_bytes());
     state
-}
-
-/// A state of this plan, its speeds, clock and order; of each task the work and the plain ticks left.
-fn forged(
-    speeds: &[u64],
-    plan: &[Task],
-    clock: u64,
-    running: Option<Running>,
-    progress: &[(u64, u64)],
-) -> [u8; STATE_BYTES] {
-    let entry = |(task, (work, plain_left)): (&Task, &(u64, u64))| Entry {
-        task: *task,
-        left: Left {
-            fixed: 0,
-            work: *work,
-        },
-        plain_left: *plain_left,
-    };
-    pack(&State {
-        clock,
-        running,
-        entries: plan.iter().zip(progress).map(entry).collect(),
-        levels: Levels::new(speeds),
-    })
 }
 
 /// What the entries of a block add up to, read byte by byte from where 01 has them.
@@ -269,7 +245,7 @@ fn the_smallest_entry_replaced_with_ticks_left() {
     // Finished at tick 1 of 2, with both plain ticks left. A tick later one of them is gone, and the
     // other is replaced by two new ones.
     let plan = tasks(&[(2, 2)]);
-    let mut state = forged(&[1], &plan, 1, None, &[(0, 2)]);
+    let mut state = forged(&[1], &plan, 1, None, &[(0, 0, 2)]);
     is_sound(&state);
     assert_eq!(queued(&state), Ok(2));
     assert_eq!(pass(&mut state, 1, false), Ok(run(0, 0, 2)));
@@ -277,7 +253,7 @@ fn the_smallest_entry_replaced_with_ticks_left() {
     assert_eq!(queue(&state), [(0, 2)]);
     is_sound(&state);
     // From a run none is left to be replaced.
-    let mut reached = forged(&[1], &plan, 1, None, &[(0, 1)]);
+    let mut reached = forged(&[1], &plan, 1, None, &[(0, 0, 1)]);
     assert_eq!(pass(&mut reached, 1, false), Ok(run(0, 0, 2)));
     assert_eq!(queued(&reached), Ok(2));
 }
@@ -286,13 +262,14 @@ fn the_smallest_entry_replaced_with_ticks_left() {
 #[test]
 fn entries_of_two_tasks_replaced_with_ticks_left() {
     // At 3 of 4 both have finished, with two ticks each. One is taken from task 0; 1 and 2 go.
-    let mut both = forged(&[1], &tasks(&[(4, 2), (4, 2)]), 3, None, &[(0, 2), (0, 2)]);
+    let twins = tasks(&[(4, 2), (4, 2)]);
+    let mut both = forged(&[1], &twins, 3, None, &[(0, 0, 2), (0, 0, 2)]);
     is_sound(&both);
     assert_eq!(pass(&mut both, 1, false), Ok(run(0, 0, 2)));
     assert_eq!(queued(&both), Ok(4));
     // Task 1, of period 8, keeps its two. Task 0 has 2 of 3 left and gets 3.
     let plan = tasks(&[(4, 3), (8, 2)]);
-    let mut first = forged(&[1], &plan, 3, None, &[(0, 3), (0, 2)]);
+    let mut first = forged(&[1], &plan, 3, None, &[(0, 0, 3), (0, 0, 2)]);
     assert_eq!(queued(&first), Ok(5));
     assert_eq!(pass(&mut first, 1, false), Ok(run(0, 0, 3)));
     // Both have the deadline 8 then, and task 1 came first.
@@ -301,12 +278,12 @@ fn entries_of_two_tasks_replaced_with_ticks_left() {
     // While task 1 runs.
     for (finished, reply) in [(false, run(1, 0, 1)), (true, run(0, 0, 3))] {
         let running = Some(Running { task: 1, level: 0 });
-        let mut state = forged(&[1], &plan, 3, running, &[(0, 3), (2, 2)]);
+        let mut state = forged(&[1], &plan, 3, running, &[(0, 0, 3), (0, 2, 2)]);
         assert_eq!(pass(&mut state, 1, finished), Ok(reply));
         assert_eq!(queued(&state), Ok(5));
     }
     // A tick earlier, in two passes: the first replaces nothing.
-    let mut earlier = forged(&[1], &plan, 2, None, &[(0, 3), (0, 1)]);
+    let mut earlier = forged(&[1], &plan, 2, None, &[(0, 0, 3), (0, 0, 1)]);
     assert_eq!(pass(&mut earlier, 1, false), Ok(idle(1)));
     assert_eq!(queued(&earlier), Ok(3));
     assert_eq!(pass(&mut earlier, 1, false), Ok(run(0, 0, 3)));
@@ -555,9 +532,9 @@ fn the_total_after_every_pass_on_every_idle_state() {
     ];
     let mut tally = Tally::default();
     for (speeds, plan) in plans {
-        every_idle_state(speeds, &tasks(plan), &mut |state| {
+        for state in every_idle_state(speeds, &tasks(plan)) {
             put_every_idle_pass(&state, &mut tally);
-        });
+        }
     }
     assert!(tally.accepted > 500 && tally.replaced > 50, "{tally:?}");
     assert!(tally.ran_dry > 50 && tally.arrived > 50, "{tally:?}");
@@ -571,32 +548,6 @@ fn put_every_idle_pass(state: &[u8; STATE_BYTES], tally: &mut Tally) {
             tally.count(state, &after, u64::from(d));
         }
     }
-}
-
-/// All states in the first hyperperiod whose jobs have finished, with any plain ticks left.
-fn every_idle_state(speeds: &[u64], plan: &[Task], check: &mut impl FnMut([u8; STATE_BYTES])) {
-    let levels = Levels::new(speeds);
-    let judged = sim::plan::judge_list(&levels, plan).unwrap();
-    let every = every_plain_left(plan, levels.speed(judged.nominal));
-    for (clock, progress) in
-        (0..judged.hyperperiod).flat_map(|clock| every.iter().map(move |it| (clock, it)))
-    {
-        check(forged(speeds, plan, clock, None, progress));
-    }
-}
-
-/// No work left, and each number of plain ticks up to the allotments.
-fn every_plain_left(plan: &[Task], nominal: u64) -> Vec<Vec<(u64, u64)>> {
-    let mut progress: Vec<Vec<(u64, u64)>> = vec![Vec::new()];
-    for task in plan {
-        let longer = |before: &Vec<(u64, u64)>| {
-            let before = before.clone();
-            let full = allotment(task, nominal);
-            (0..=full).map(move |left| [&before[..], &[(0, left)]].concat())
-        };
-        progress = progress.iter().flat_map(longer).collect();
-    }
-    progress
 }
 
 /// The layout's own names stand where 02 has them.
