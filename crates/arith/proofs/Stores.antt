@@ -1,12 +1,13 @@
 -- Runs of stores.
 -- Assumes nothing.
-use Prim.Native.Nat.{ℕ, zero, suc, _+_, _-_, _/_, _%_, _<_}
+use Prim.Native.Nat.{ℕ, zero, suc, _+_, _-_, _/_, _%_, _<_, _≤_}
 use mathlib.Core.Path.{_≡_, sym, ap, ap₂, _∙_}
 use mathlib.Core.List.{List, [], _∷_, _++_}
+use mathlib.Core.Logic.{_⊎_, inl, inr}
 use native.Mathlib.Nat.{add-zero}
 use native.Mathlib.Omega.{arith}
-use lib.ListN.{length, set}
-use lib.Seq.{sets, set-comm}
+use lib.ListN.{length, getD, set}
+use lib.Seq.{sets, set-comm, getD-set-other}
 use Rattle.arith.specs.Digits.{digits}
 use Rattle.arith.proofs.DigitLaws.{length-digits}
 
@@ -39,3 +40,9 @@ sets-append l at [] t = ap (λ (k : ℕ). sets l k t) (sym (add-zero at))
 sets-append l at (a ∷ s) t =
     let e : suc at + length s ≡ at + suc (length s) = omega arith in
     sets-append (set l at a) (suc at) s t ∙ ap (λ (k : ℕ). sets (sets (set l at a) (suc at) s) k t) e
+
+-- stores leave what stands before them, and past them
+pub sets-else : (vs l : List ℕ) (i k : ℕ) → (k < i) ⊎ (i + length vs ≤ k) → getD (sets l i vs) k 0 ≡ getD l k 0
+sets-else [] l i k h = λ j. getD l k 0
+sets-else (v ∷ vs) l i k (inl h) = sets-else vs (set l i v) (suc i) k (inl (omega arith)) ∙ getD-set-other l i k v 0 (λ e. omega arith)
+sets-else (v ∷ vs) l i k (inr h) = sets-else vs (set l i v) (suc i) k (inr (omega arith)) ∙ getD-set-other l i k v 0 (λ e. omega arith)

@@ -1,3 +1,2 @@
 pub mod ArriveLaws
-pub mod EntryStores
 pub mod TotalLaws

@@ -6,13 +6,32 @@ use mathlib.Core.List.{List}
 use native.Mathlib.Omega.{arith}
 use lib.ListN.{length}
 use Rattle.arith.proofs.Sums.{sumTo-but, sumTo-term}
-use Rattle.plan.specs.Times.{taskTime}
+use Rattle.plan.specs.declared.Task.{Task}
+use Rattle.plan.specs.Times.{whole, taskTime}
 use Rattle.reclaiming.specs.declared.Entry.{Entry}
-use Rattle.reclaiming.specs.StateBlock.{taskOf, stateLength, places}
-use Rattle.state.specs.Code.{entryIn, queuedTo}
-use Rattle.state.proofs.BlockLaws.{remainingIn}
+use Rattle.reclaiming.specs.StateBlock.{taskOf, workField, remainingField, unspentField, stateLength, places}
+use Rattle.state.specs.Code.{entryIn, entryStored, restStored, queuedTo}
+use Rattle.state.proofs.BlockLaws.{remainingIn, length-restStored}
+use Rattle.state.proofs.EntryStores.{stored-there, stored-else}
 use Rattle.arriving.specs.Code.{renewedBytes, Allots}
-use Rattle.arriving.proofs.EntryStores.{renewed-else, renewed-there}
+
+-- a new job of task i leaves every other entry, and gives it its allotment
+module _ (b : List ℕ) (i speed : ℕ) where
+  abbrev t : Task
+  t = taskOf (entryIn b i)
+
+  renewed-else : (j : ℕ) → (j ≡ i → ⊥) → entryIn (renewedBytes b i speed) j ≡ entryIn b j
+  renewed-else j other =
+      let half : List ℕ = entryStored b workField i (whole t .work) in
+      stored-else (restStored b i (whole t)) remainingField i (taskTime speed t) (omega arith) j other
+      ∙ stored-else half unspentField i (whole t .fixed) (omega arith) j other
+      ∙ stored-else b workField i (whole t .work) (omega arith) j other
+
+  renewed-there :
+      i < places → length b ≡ stateLength → taskTime speed (taskOf (entryIn b i)) ≤ 65535 →
+      entryIn (renewedBytes b i speed) i .remaining ≡ taskTime speed (taskOf (entryIn b i))
+  renewed-there h size fits =
+      stored-there (restStored b i (whole t)) remainingField i (taskTime speed t) (omega arith) h (length-restStored b i (whole t) ∙ size) (omega arith)
 
 -- the tasks below i have had their turn: the total is the block's, and the entries from i on are as they were found
 pub record Counting (count speed : ℕ) (found m : List ℕ) (total i : ℕ) : Type 0 where
