@@ -10,7 +10,7 @@ use lib.ListN.{length, getD, replicate}
 use lib.Seq.{sets, getD-take}
 use Rattle.arith.specs.Choice.{every}
 use Rattle.arith.specs.Sum.{sumTo}
-use Rattle.arith.proofs.Sums.{sumTo-eq, sumOf-places}
+use Rattle.arith.proofs.Sums.{sumTo-eq}
 use Rattle.plan.specs.declared.Task.{Task}
 use Rattle.plan.specs.declared.Rest.{Rest}
 use Rattle.plan.specs.declared.Plan.{Plan}
@@ -27,6 +27,7 @@ use Rattle.state.specs.Code.{entryAt, headStored, withTotal, totalStored}
 use Rattle.tables.specs.Code.{tableBytes}
 use Rattle.fresh_state.specs.Code.{newState}
 use Rattle.reclaiming.proofs.FieldLaws.{sets-over}
+use Rattle.reclaiming.proofs.Soundness.{queued-places}
 use Rattle.arith.proofs.RangeLaws.{length-listTo, getD-listTo}
 use Rattle.state.proofs.BlockLaws.{storedTo, stored-size, stored-more, stored-all, store-total}
 
@@ -142,8 +143,7 @@ module _ {speeds : List ℕ} {speed : ℕ} {p : Plan} {image : List ℕ} {total 
       ∙ ap (λ (n : ℕ). sumTo n (allotmentOf speed p)) (e ∙ sym (count-is (so-far .plan)))
       ∙ sumTo-eq (length ts) (allotmentOf speed p) (λ j. getD es j noEntry .remaining)
       (λ j h. ap (λ (x : Entry). x .remaining) (sym (getD-listTo (length ts) (newEntry (timingAt speed ts) ts) j noEntry h)))
-      ∙ ap (λ (n : ℕ). sumTo n (λ j. getD es j noEntry .remaining)) (sym (length-listTo (length ts) (newEntry (timingAt speed ts) ts)))
-      ∙ sym (sumOf-places (λ (x : Entry). x .remaining) es noEntry)
+      ∙ sym (queued-places (newState speeds speed ts) (length-listTo (length ts) (newEntry (timingAt speed ts) ts)))
 
   pub making-all : p .count ≤ i → {m : List ℕ} → m ≡ totalStored image total → m ≡ encode (newState speeds speed (tasksOf p))
   making-all h {m} e =

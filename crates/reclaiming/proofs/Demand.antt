@@ -13,11 +13,9 @@ use lib.ListN.{length, getD, take, drop}
 use lib.Seq.{take-at, drop-at}
 use Rattle.arith.specs.Choice.{pick, both, every}
 use Rattle.arith.specs.Asking.{firstNo}
-use Rattle.arith.specs.Sum.{sumTo}
 use Rattle.arith.specs.Ranges.{listTo}
 use Rattle.arith.proofs.Tests.{passed, failed, tested}
 use Rattle.arith.proofs.QuestionLaws.{ask-yes}
-use Rattle.arith.proofs.Sums.{sumOf-places}
 use Rattle.arith.proofs.RangeLaws.{getD-listTo}
 use Rattle.plan.specs.declared.Task.{Task}
 use Rattle.plan.specs.Times.{timeOf}
@@ -60,7 +58,7 @@ use Rattle.reclaiming.proofs.Fine.{Ahead, Gap, Fine, Accepted, nominalS
 use Rattle.reclaiming.proofs.Replies.{is-idle, is-run, viewOrder, order-accepted, order-booked, order-runs, order-held, not-refused}
 use Rattle.reclaiming.proofs.Plans.{nominal-positive, plan-fits}
 use Rattle.reclaiming.proofs.StateCodec.{StorableTable, length-encode}
-use Rattle.reclaiming.proofs.Soundness.{fine-length, fine-stored, fine-storable, pass-accepted, pass-yes, Starts, start-facts}
+use Rattle.reclaiming.proofs.Soundness.{queued-places, fine-length, fine-stored, fine-storable, pass-accepted, pass-yes, Starts, start-facts}
 use Rattle.reclaiming.proofs.NextArrival.{next-soonest}
 use Rattle.reclaiming.proofs.PassedStates.{choose-clock, choose-entries, choose-speeds}
 use Rattle.reclaiming.proofs.PassSound.{start-fine, hold-accepted, finish-accepted}
@@ -467,8 +465,7 @@ module _ (speeds : List ℕ) (table : FineTable speeds) where
           let n : length (now .entries) ≡ length ts = fine-length (t .fine .entries) in
           let all : now .total ≡ ticksIn (b .pending) =
           t .fine .entries .total
-          ∙ sumOf-places (λ (e : Entry). e .remaining) (now .entries) noEntry
-          ∙ ap (λ (m : ℕ). sumTo m (remainingOf now)) n
+          ∙ queued-places now n
           ∙ sym (queue-total (timing speeds ts) (now .clock) (remainingOf now) (length ts))
           ∙ sym (ap (λ (x : Book). ticksIn (x .pending)) (plain-is t)) in
           ap (λ (m : ℕ). queuedBy m (totalIn bytes)) (ask-yes 10 (eq-eqb (length bytes) stateLength size) refl)

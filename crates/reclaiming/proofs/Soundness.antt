@@ -14,7 +14,8 @@ use Rattle.arith.specs.Choice.{pick, both, every}
 use Rattle.arith.specs.Asking.{Question, ask, firstNo}
 use Rattle.arith.proofs.Tests.{passed, failed, tested, both-left, both-right, both-true, only-if, if-so, either-second}
 use Rattle.arith.proofs.ListLaws.{every-at, at-every}
-use Rattle.arith.proofs.Sums.{sumOf-most}
+use Rattle.arith.specs.Sum.{sumTo}
+use Rattle.arith.proofs.Sums.{sumOf-places, sumOf-most}
 use Rattle.arith.proofs.QuestionLaws.{Yes, all-yes, yes-all, ask-yes, yes-before, yes-of, yes-after}
 use Rattle.plan.specs.declared.Task.{Task}
 use Rattle.plan.specs.Times.{whole, Within, timeOf, taskTime}
@@ -43,6 +44,10 @@ planIn-at s i = List·getD-map taskOf (s .entries) i noEntry
 
 pub length-planIn : (s : State) → length (planIn s) ≡ length (s .entries)
 length-planIn s = length-map (s .entries) taskOf
+
+-- the plain ticks left in all, task by task
+pub queued-places : (s : State) {n : ℕ} → length (s .entries) ≡ n → queuedIn (s .entries) ≡ sumTo n (remainingOf s)
+queued-places s all = sumOf-places (λ (e : Entry). e .remaining) (s .entries) noEntry ∙ ap (λ (m : ℕ). sumTo m (remainingOf s)) all
 
 -- a fine state has an entry for each task
 pub fine-length : {speeds : List ℕ} {ts : List Task} {s : State} → FineEntries speeds ts s → length (s .entries) ≡ length ts

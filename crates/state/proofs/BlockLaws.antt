@@ -13,8 +13,7 @@ use lib.ListN.{length, getD, take, drop, set, replicate, length-append, length-s
 use lib.Seq.{sets, length-sets, drop-drop, getD-drop, length-take-le, take-all, take-length, take-suc, getD-set-same, getD-set-other, paste, paste-suc}
 use Rattle.arith.specs.Digits.{number, digits}
 use Rattle.arith.specs.Choice.{pick}
-use Rattle.arith.specs.Sum.{sumTo}
-use Rattle.arith.proofs.Sums.{sumTo-eq, sumOf-places}
+use Rattle.arith.proofs.Sums.{sumTo-eq}
 use Rattle.arith.proofs.DigitLaws.{length-digits, number-below}
 use Rattle.reclaiming.specs.declared.Entry.{Entry}
 use Rattle.plan.specs.declared.Rest.{Rest}
@@ -26,6 +25,7 @@ use Rattle.reclaiming.specs.Orders.{withOrder}
 use Rattle.state.specs.Code.{entryAt, entryIn, fieldPlace, fieldIn, numberIn, entryStored, headStored, changed, withJobs, withClock, withTotal, FitTask, FitRest, restStored, totalStored, queuedTo}
 use Rattle.reclaiming.proofs.FieldLaws.{fieldsValues, sets-past, sets-over, length-fields, read-field, fields-same, store-field, store-next}
 use Rattle.reclaiming.proofs.StateCodec.{pastHead, pastEntries, past-head, length-entriesFrom, length-entriesBytes, length-tail, upToPlaces, two-parts, length-places}
+use Rattle.reclaiming.proofs.Soundness.{queued-places}
 use Rattle.arith.proofs.RangeLaws.{length-listTo, getD-listTo, listTo-is, listTo-same}
 
 -- the remaining ticks of a block's tasks
@@ -56,8 +56,7 @@ pub queued-in : (bytes : List ℕ) → queuedTo bytes (stateCount bytes) ≡ que
 queued-in bytes =
     sumTo-eq (stateCount bytes) (remainingIn bytes) (remainingOf (decode bytes))
     (λ i h. ap (λ (e : Entry). e .remaining) (sym (entry-at bytes i h)))
-    ∙ ap (λ (n : ℕ). sumTo n (remainingOf (decode bytes))) (sym (count-in bytes))
-    ∙ sym (sumOf-places (λ (e : Entry). e .remaining) (decode bytes .entries) noEntry)
+    ∙ sym (queued-places (decode bytes) (count-in bytes))
 
 -- a field of one byte is that byte; so the task, the level and the count are
 pub byte-field : (bytes : List ℕ) (at : ℕ) → number 256 1 (drop at bytes) ≡ getD bytes at 0
@@ -278,6 +277,12 @@ module _ (s : State) (i : ℕ) (h : i < length (s .entries)) where
 
   pub encode-remaining : remainingOf s i ≤ 65535 → entryIn (encode s) i .remaining ≡ remainingOf s i
   encode-remaining e = encode-field remainingField (omega arith)
+
+-- the total of a state, read off its block entry by entry, where they fit
+pub queued-encode :
+    (s : State) {count : ℕ} → length (s .entries) ≡ count → ((i : ℕ) → i < count → remainingOf s i ≤ 65535) → queuedTo (encode s) count ≡ queuedIn (s .entries)
+queued-encode s {count} all fits =
+    sumTo-eq count (remainingIn (encode s)) (remainingOf s) (λ i h. encode-remaining s i (omega (arith, all)) (fits i h)) ∙ sym (queued-places s all)
 
 -- a function that is changed at one place: there, and elsewhere
 module _ {ℓ} {A : Type ℓ} (f : ℕ → A) (i : ℕ) (x : A) (j : ℕ) where

@@ -11,7 +11,7 @@ use lib.ListN.{length, getD}
 use Rattle.arith.specs.Choice.{pick}
 use Rattle.arith.specs.Sum.{sumTo}
 use Rattle.arith.proofs.Tests.{passed, failed, tested}
-use Rattle.arith.proofs.Sums.{sumTo-eq, sumTo-most, sumOf-places}
+use Rattle.arith.proofs.Sums.{sumTo-eq, sumTo-most}
 use Rattle.plan.specs.declared.Task.{Task}
 use Rattle.plan.specs.Times.{whole, noRest, worn, taskTime}
 use Rattle.plan.specs.Levels.{Rising, speedOf}
@@ -38,9 +38,9 @@ use Rattle.schedule.proofs.Totals.{drained-total}
 use Rattle.reclaiming.proofs.Fine.{nominalSpeed}
 use Rattle.reclaiming.proofs.Plans.{allotment-short}
 use Rattle.reclaiming.proofs.Worked.{drained-less}
-use Rattle.reclaiming.proofs.Soundness.{planIn-at, length-planIn, sound-state}
+use Rattle.reclaiming.proofs.Soundness.{planIn-at, length-planIn, queued-places, sound-state}
 use Rattle.arith.proofs.RangeLaws.{length-listTo, listTo-same}
-use Rattle.state.proofs.BlockLaws.{count-in, remainingIn, encode-task, encode-remaining, jobs-count, jobs-entry, jobs-rest, jobs-remaining, store-clock, store-total}
+use Rattle.state.proofs.BlockLaws.{count-in, remainingIn, encode-task, encode-remaining, queued-encode, jobs-count, jobs-entry, jobs-rest, jobs-remaining, store-clock, store-total}
 use Rattle.urgency.proofs.OpenJobs.{timing-count}
 use Rattle.urgency.proofs.KeyLaws.{key-below, key-task, due-is, due-none, drained-is}
 use Rattle.soundness.proofs.SoundFacts.{sound-plan, sound-facts, entries-few, nominal-small, remaining-most, runnable, sound-back, ticks-short, task-fits, rest-fits}
@@ -208,14 +208,6 @@ moving-none {held} {levels} {bytes} {keys} {highest} {d} k next a f i h =
     ∙ due-none (timingIn (loaded held levels) bytes) (decode bytes .clock) keys (s .good .keyed) d (s .some) (s .within) (omega (arith, a, s .within, ne)) i
     (task-within (k .moving) i h)
 
--- what is read of the remaining ticks of a state's tasks, where they fit, comes to what they come to
-queued-encode :
-    (s : State) (count : ℕ) → length (s .entries) ≡ count → ((i : ℕ) → i < count → remainingOf s i ≤ 65535) → queuedTo (encode s) count ≡ queuedIn (s .entries)
-queued-encode s count all fits =
-    sumTo-eq count (remainingIn (encode s)) (remainingOf s) (λ i h. encode-remaining s i (omega (arith, all)) (fits i h))
-    ∙ ap (λ (n : ℕ). sumTo n (remainingOf s)) (sym all)
-    ∙ sym (sumOf-places (λ (e : Entry). e .remaining) (s .entries) noEntry)
-
 -- the block after each step up to the arrivals: ticks are taken, work is done, the clock is stored; and what the ticks leave of the total
 pub record Clocked (held : List ℕ) (levels : ℕ) (bytes keys : List ℕ) (highest d : ℕ) (c : Choice) (count clock : ℕ) (finished : Bool) (b1 b2 b3 : List ℕ) (left : ℕ) : Type 0 where
   pub prepared : Prepared held levels bytes keys highest d c count clock
@@ -317,10 +309,7 @@ module _ {held : List ℕ} {levels : ℕ} {bytes keys : List ℕ} {highest d : �
 
   -- and what they come to is what the ticks left of the total
   start-total : start .total ≡ sumTo count (remainingOf start)
-  start-total =
-      sound-facts table-speeds rising start (ok moving) .entries .total
-      ∙ sumOf-places (λ (e : Entry). e .remaining) (start .entries) noEntry
-      ∙ ap (λ (n : ℕ). sumTo n (remainingOf start)) all
+  start-total = sound-facts table-speeds rising start (ok moving) .entries .total ∙ queued-places start all
 
   pub clocked-total : left ≡ queuedTo b3 count
   clocked-total =
@@ -377,7 +366,7 @@ module _ {held : List ℕ} {levels : ℕ} {bytes keys : List ℕ} {highest d : �
       [ passed ↦ allotted (k .clocked) i h | failed ↦ there-short (k .clocked) i h ])
 
   total-is : total ≡ queuedIn (arrived .entries)
-  total-is = k .totalled ∙ ap (λ (l : List ℕ). queuedTo l count) after-arrivals ∙ queued-encode arrived count arrived-count arrived-short
+  total-is = k .totalled ∙ ap (λ (l : List ℕ). queuedTo l count) after-arrivals ∙ queued-encode arrived arrived-count arrived-short
 
   pub moved-on : b5 ≡ encode (movedState (loaded held levels) (timingIn (loaded held levels) bytes) (decode bytes) d finished)
   moved-on =
