@@ -1,2 +1,3 @@
 // The dispatcher: whole runs on lent blocks.
+pub mod passes;
 pub mod play;

@@ -1,7 +1,7 @@
 // A whole list of passes played on lent blocks: the run of demand 3, from its start to its last reply.
+use crate::passes::play_all;
 use answers::reply_number;
 use plan::Written;
-use playing::play_all;
 use reclaiming::Reply;
 use showing::show;
 use starting::start;

@@ -5,7 +5,7 @@ use answers::written_number;
 use passing::pass;
 use showing::show;
 use starting::start;
-use totals::queued;
+use state::totals::queued;
 ghost use mathlib.Core.Path.{_≡_};
 ghost use lib.ListN.{length};
 ghost use Rattle.plan.specs.Numbers.{writtenNumber};

@@ -1,77 +1,47 @@
-// A verdict on a plan whose count is in range, with the plan that stands beside it; a refusal; the empty plan.
-use admission::verdict_of;
+// Judging a plan: over a table of speeds, and over a level block.
+pub mod admission;
+pub mod ranges;
+pub mod verdicts;
+
+use crate::verdicts::judged_with;
+use crate::verdicts::refused;
+use levels::reading::read_levels;
 use plan::Judged;
+use plan::Load;
 use plan::Plan;
-use plan::Task;
-use plan::Verdict;
 ghost use mathlib.Core.Path.{_≡_};
-ghost use mathlib.Core.List.{[]};
-ghost use Prim.Native.Nat.{_≤_};
-ghost use Rattle.plan.specs.Questions.{taskQuestions};
 ghost use Rattle.arith.specs.Asking.{firstNo};
-ghost use Rattle.plan.specs.Blocks.{tasksOf, planOf};
-ghost use Rattle.plan.specs.Answers.{judgedBy, refusedWith};
+ghost use Rattle.plan.specs.Questions.{judging};
+ghost use Rattle.plan.specs.Blocks.{tasksOf};
+ghost use Rattle.plan.specs.Answers.{judgedBy, judgedPlan};
 ghost use Rattle.levels.specs.Code.{loaded, Table};
 
-pub fn empty_plan() -> Plan
-    ensures { λ r. ⌜ r ≡ planOf [] ⌝ }
-{
-    Plan {
-        count: 0,
-        tasks: [Task {
-            period: 0,
-            worst: 0,
-            fixed: 0,
-        }; 16],
-    }
-}
-
-// The same plan with zeros past its count.
-pub fn cleared(p: Plan) -> Plan
-    requires { ⌜ p .count ≤ 16 ⌝ }
-    ensures { λ r. ⌜ r ≡ planOf (tasksOf p) ⌝ }
-{
-    let count = p.count;
-    let mut q = empty_plan();
-    q.count = count;
-    let mut i: usize = 0;
-    while i < count {
-        let t = p.tasks[i];
-        q.tasks[i] = t;
-        i += 1;
-    }
-    q
-}
-
-// A refusal, with a plan that is zero throughout.
-pub fn refused(n: u32) -> Judged
-    ensures { λ r. ⌜ r ≡ refusedWith n ⌝ }
-{
-    Judged {
-        verdict: Verdict::Refused(n),
-        plan: empty_plan(),
-    }
-}
-
-// A verdict with the plan that stands beside it.
-pub fn judged_with(speeds: &[u32; 8], levels: usize, p: Plan) -> Judged
-    requires { ⌜ (p .count ≤ 16) × Table (now speeds) levels ⌝ }
+// A plan judged over a table of speeds: the questions 3, 6, 7, 8.
+pub fn judge_over(speeds: &[u32; 8], levels: usize, p: Plan) -> Judged
+    requires { ⌜ Table (now speeds) levels ⌝ }
     ensures { λ r. ⌜ r ≡ judgedBy
-        (firstNo (taskQuestions (loaded (now (speeds .entry)) levels) (tasksOf p)))
+        (firstNo (judging (loaded (now (speeds .entry)) levels) (p .count) (tasksOf p)))
         (loaded (now (speeds .entry)) levels) (tasksOf p) ⌝ }
 {
-    let v = verdict_of(speeds, levels, p);
-    match v {
-        Verdict::Refused(_) => Judged {
-            verdict: v,
-            plan: empty_plan(),
-        },
-        Verdict::Admitted {
-            nominal: _,
-            hyperperiod: _,
-        } => Judged {
-            verdict: v,
-            plan: cleared(p),
-        },
+    let count = p.count;
+    if count < 1 {
+        return refused(3);
+    }
+    if count > 16 {
+        return refused(3);
+    }
+    judged_with(speeds, levels, p)
+}
+
+// A plan judged over a level block: the questions put to that, then 3, 6, 7, 8.
+pub fn judge(levels: &[u8], p: Plan) -> Judged
+    ensures { λ r. ⌜ r ≡ judgedPlan (now (levels .entry)) p ⌝ }
+{
+    let board = read_levels(levels);
+    let answer = board.answer;
+    let speeds = board.speeds;
+    match answer {
+        Load::Refused(n) => refused(n),
+        Load::Levels(count) => judge_over(&speeds, count, p),
     }
 }

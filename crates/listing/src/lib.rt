@@ -1,10 +1,13 @@
 // The bench program's library: the listing of an input.
-use cutting::level_cut;
-use cutting::plan_cut;
+pub mod cutting;
+pub mod run_lines;
+
+use crate::cutting::level_cut;
+use crate::cutting::plan_cut;
+use crate::run_lines::started_lines;
 use plan::Verdict;
-use plan_lines::plan_line;
-use plan_lines::refused_line;
-use started_lines::started_lines;
+use text::lines::plan_line;
+use text::lines::refused_line;
 ghost use mathlib.Core.Path.{_≡_};
 ghost use mathlib.Core.List.{_++_};
 ghost use Prim.Native.Nat.{_≤_};

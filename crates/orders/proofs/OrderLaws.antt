@@ -33,7 +33,7 @@ use Rattle.reclaiming.proofs.Lone.{allowance-least}
 use Rattle.state.proofs.BlockLaws.{count-in}
 use Rattle.urgency.proofs.KeyLaws as keys
 use Rattle.urgency.proofs.HeadLaws.{rest-is, Looked, none-open, Head, first-open, told-task}
-use Rattle.lone.proofs.LoneLaws.{Read, read-below, read-rest, read-allowed}
+use Rattle.orders.proofs.lone.LoneLaws.{Read, read-below, read-rest, read-allowed}
 use Rattle.urgency.proofs.OpenJobs.{timing-count}
 
 -- the lowest level that meets an allowance is no higher than one that does

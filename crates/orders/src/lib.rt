@@ -1,5 +1,8 @@
 // Choosing an order: the task, the level and the hold.
-use lone::allowance_until;
+pub mod choosing;
+pub mod lone;
+
+use crate::lone::allowance_until;
 use plan::Rest;
 use reclaiming::Reply;
 use state::LEVEL_AT;

@@ -1,4 +1,6 @@
 // The list of pairs that comes with a plan: what question 22 asks.
+pub mod reading;
+
 use plan::Plan;
 ghost use mathlib.Core.Path.{_≡_};
 ghost use mathlib.Core.Bool.{true};

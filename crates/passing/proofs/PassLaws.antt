@@ -19,14 +19,14 @@ use Rattle.reclaiming.specs.Questions.{soundAt, passQuestions}
 use Rattle.reclaiming.specs.Calls.{repliedBy, passNumber, passOrder, passReply, passBytes}
 use Rattle.state.specs.Code.{timingIn}
 use Rattle.levels.specs.Code.{loaded}
-use Rattle.tables.specs.declared.OwnTable.{OwnTable}
-use Rattle.tables.specs.Code.{ownTable, tableBy, Owns}
-use Rattle.tables.proofs.TableLaws.{unowned}
+use Rattle.state.specs.declared.tables.OwnTable.{OwnTable}
+use Rattle.state.specs.Tables.{ownTable, tableBy, Owns}
+use Rattle.state.proofs.tables.TableLaws.{unowned}
 use Rattle.soundness.specs.Code.{testedBy}
 use Rattle.reclaiming.proofs.StateCodec.{length-encode}
 use Rattle.soundness.proofs.SoundLaws.{tested-sound}
 use Rattle.soundness.proofs.SoundFacts.{sound-size}
-use Rattle.accepted_pass.proofs.StepLaws.{Passing, letting, passed-few}
+use Rattle.passing.proofs.accepted.StepLaws.{Passing, letting, passed-few}
 
 -- a reply that is a refusal or an order, and the bytes that go with it
 replied-no : (n : ℕ) (order : Reply) → (n ≡ 0 → ⊥) → reply.Refused n ≡ repliedBy n order

@@ -1,15 +1,18 @@
 // A pass: whether it is accepted, and what it makes of a state, in its bytes.
-use accepted_pass::passed;
-use clock::Clock;
+pub mod accepted;
+pub mod questions;
+
+use crate::accepted::passed;
+use crate::questions::pass_number;
 use orders::standing;
-use pass_questions::pass_number;
 use reclaiming::Reply;
 use soundness::test_block;
+use state::clock::Clock;
 use state::clock_at;
-use tables::own_table;
+use state::tables::own_table;
 ghost use mathlib.Core.Path.{_≡_};
 ghost use Rattle.reclaiming.specs.Calls.{passReply, passBytes};
-ghost use Rattle.tables.specs.Code.{Owns};
+ghost use Rattle.state.specs.Tables.{Owns};
 
 // The number of a state that is not sound.
 const UNSOUND: u32 = 10;

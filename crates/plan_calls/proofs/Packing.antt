@@ -22,7 +22,7 @@ use Rattle.plan.proofs.NumberLaws.{written-most, paired-most}
 use Rattle.plan.proofs.Facts.{FineList, FineBlock, fine-list, fine-block}
 use Rattle.plan.proofs.PairLaws.{pairs-few}
 use Rattle.plan.proofs.BlockBits.{length-planBlock, blockLength-most}
-use Rattle.judged_numbers.proofs.Verdicts.{entered-most}
+use Rattle.plan_calls.proofs.judged.Verdicts.{entered-most}
 use Rattle.arith.proofs.QuestionLaws.{firstNo-most, yes-of, yes-after, all-yes}
 
 -- what reading a level block answers fits: a refusal's number is small, and so is a count of levels

@@ -1,17 +1,19 @@
 // The calls on plans, for C and for tests: on numbers and lent slices, an answer packed into one number.
+pub mod judged;
 pub mod lists;
+pub mod numbers;
 
+use crate::numbers::plan_from;
 use answers::load_number;
 use answers::paired_number;
 use answers::verdict_number;
 use answers::written_number;
-use level_reading::read_levels;
-use paired_reading::ask_pairs;
-use plan_judging::judge;
-use plan_numbers::plan_from;
+use judging::judge;
+use levels::reading::read_levels;
+use pairs::reading::ask_pairs;
 use plan_reading::read;
+use plan_writing::round_trips::copy;
 use plan_writing::write;
-use round_trips::copy;
 ghost use mathlib.Core.Path.{_≡_};
 ghost use lib.ListN.{length};
 ghost use Rattle.plan.specs.LevelBlocks.{readLevels};

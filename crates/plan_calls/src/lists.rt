@@ -1,5 +1,5 @@
 // A list of tasks that C lends, judged.
-use judged_numbers::judged_number;
+use crate::judged::judged_number;
 use plan::Task;
 use task_list::gathered;
 ghost use mathlib.Core.Path.{_≡_};

@@ -19,7 +19,7 @@ use Rattle.plan.specs.Blocks.{sparesFrom, sparesIn, addsNothing, editionOf, tas
 use Rattle.plan.specs.Questions.{countQuestion, rangeQuestion, additionQuestion, spanQuestion, levelQuestion, taskQuestions, reading}
 use Rattle.arith.specs.Asking.{Question, ask, firstNo, within}
 use Rattle.plan.specs.Answers.{judgedBy, refusedWith}
-use Rattle.judging.proofs.Judgements.{refused-as}
+use Rattle.judging.proofs.verdicts.Judgements.{refused-as}
 use Rattle.arith.proofs.Tests.{both-true, both-false, passed, failed, tested}
 use Rattle.arith.proofs.QuestionLaws.{within-true, ask-no, ask-yes, within-over, within-under}
 use Rattle.arith.proofs.BitLaws.{rest-zero}

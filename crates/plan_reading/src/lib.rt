@@ -1,16 +1,18 @@
 // Reading a plan block.
-use judging::judged_with;
-use judging::refused;
-use level_reading::read_levels;
+pub mod fields;
+
+use crate::fields::bit_count;
+use crate::fields::block_length;
+use crate::fields::edition_of;
+use crate::fields::plan_in;
+use crate::fields::spares_clear;
+use judging::ranges::in_range;
+use judging::verdicts::judged_with;
+use judging::verdicts::refused;
+use levels::reading::read_levels;
 use plan::Judged;
 use plan::Load;
 use plan::Plan;
-use plan_fields::bit_count;
-use plan_fields::block_length;
-use plan_fields::edition_of;
-use plan_fields::plan_in;
-use plan_fields::spares_clear;
-use ranges::in_range;
 ghost use mathlib.Core.Path.{_≡_};
 ghost use Prim.Native.Nat.{_≤_};
 ghost use mathlib.Core.Bool.{false};

@@ -17,7 +17,7 @@ use Rattle.plan.specs.Questions.{taskQuestions, judging, writing, roomQuestion}
 use Rattle.arith.specs.Asking.{Question, firstNo}
 use Rattle.plan.specs.Answers.{answered, writeNumber, storedBy}
 use Rattle.plan.specs.Laws.{Bytes}
-use Rattle.judging.proofs.Judgements.{count-low, count-high, count-good}
+use Rattle.judging.proofs.verdicts.Judgements.{count-low, count-high, count-good}
 use Rattle.arith.proofs.QuestionLaws.{ask-no, ask-yes, no-before, yes-before}
 use Rattle.plan.proofs.AnswerLaws.{Refusal, told-refused, told-admitted, Leaves, leaves-refused, leaves-written}
 use Rattle.levels.specs.Code.{loaded}

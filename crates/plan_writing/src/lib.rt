@@ -1,13 +1,16 @@
 // Writing a plan block, bit by bit.
-use admission::verdict_of;
-use level_reading::read_levels;
+pub mod bits;
+pub mod round_trips;
+
+use crate::bits::put_block;
+use judging::admission::verdict_of;
+use levels::reading::read_levels;
 use plan::Load;
 use plan::Plan;
 use plan::Verdict;
 use plan::Written;
-use plan_bits::put_block;
-use plan_fields::block_length;
-use plan_fields::edition_of;
+use plan_reading::fields::block_length;
+use plan_reading::fields::edition_of;
 ghost use mathlib.Core.Path.{_≡_};
 ghost use Prim.Native.Nat.{_/_, _<_};
 ghost use lib.ListN.{length};

@@ -17,24 +17,24 @@ use Rattle.plan.specs.Answers.{roomNumber}
 use Rattle.plan.proofs.AnswerLaws.{Leaves, leaves-refused, leaves-written}
 use Rattle.schedule.specs.PlainSchedule.{Timing, Pending, queueOf}
 use Rattle.schedule.proofs.QueueLaws.{queueOf-cong}
-use Rattle.readying.specs.declared.ReadyList.{ReadyList}
+use Rattle.showing.specs.declared.ready.ReadyList.{ReadyList}
 use Rattle.soundness.specs.declared.Tested.{Tested}
 use Rattle.reclaiming.specs.declared.Entry.{Entry}
 use Rattle.reclaiming.specs.StateBlock.{remainingOf, decode, stateCount}
 use Rattle.reclaiming.specs.Calls.{queueBytes, readyQueue, shownBytes, showNumber}
-use Rattle.readying.specs.Code.{tasksBytes}
+use Rattle.showing.specs.Ready.{tasksBytes}
 use Rattle.state.specs.Code.{timingIn}
 use Rattle.levels.specs.Code.{loaded}
-use Rattle.tables.specs.declared.OwnTable.{OwnTable}
-use Rattle.tables.specs.Code.{ownTable, tableBy, Owns}
-use Rattle.tables.proofs.TableLaws.{unowned}
+use Rattle.state.specs.declared.tables.OwnTable.{OwnTable}
+use Rattle.state.specs.Tables.{ownTable, tableBy, Owns}
+use Rattle.state.proofs.tables.TableLaws.{unowned}
 use Rattle.soundness.specs.Code.{Good, testedBy}
 use Rattle.soundness.proofs.SoundLaws.{tested-sound}
 use Rattle.reclaiming.specs.Questions.{soundAt}
 use Rattle.state.proofs.BlockLaws.{remainingIn, count-in, entry-at}
 use Rattle.urgency.proofs.OpenJobs.{timing-count}
-use Rattle.readying.proofs.ReadyLaws.{ready-bytes}
-use Rattle.readying.proofs.ReadySteps.{Listed, listed-front}
+use Rattle.showing.proofs.ready.ReadyLaws.{ready-bytes}
+use Rattle.showing.proofs.ready.ReadySteps.{Listed, listed-front}
 
 -- how many bytes tasks take
 length-tasksBytes : (left : ℕ → ℕ) (ts : List ℕ) → length (tasksBytes left ts) ≡ 3 * length ts

@@ -1,11 +1,13 @@
 // Showing the queue: the tasks that have remaining ticks, most urgent first.
+pub mod ready;
+
+use crate::ready::ReadyList;
+use crate::ready::ready;
 use plan::Written;
-use readying::ReadyList;
-use readying::ready;
 use soundness::test_block;
 use state::count_at;
 use state::remaining_at;
-use tables::own_table;
+use state::tables::own_table;
 ghost use mathlib.Core.Path.{_≡_};
 ghost use mathlib.Core.List.{_++_};
 ghost use Prim.Native.Nat.{ℕ, _*_, _<_, _≤_};
@@ -13,8 +15,8 @@ ghost use lib.ListN.{length, getD, take, drop};
 ghost use Rattle.reclaiming.specs.StateBlock.{places, stateLength};
 ghost use Rattle.reclaiming.specs.Calls.{showReply, showBuffer};
 ghost use Rattle.state.specs.Code.{entryIn};
-ghost use Rattle.tables.specs.Code.{Owns};
-ghost use Rattle.readying.specs.Code.{tasksBytes};
+ghost use Rattle.state.specs.Tables.{Owns};
+ghost use Rattle.showing.specs.Ready.{tasksBytes};
 
 // The number of a state that is not sound.
 const UNSOUND: u32 = 10;

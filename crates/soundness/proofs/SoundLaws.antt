@@ -25,7 +25,7 @@ use Rattle.plan.proofs.Facts.{InRange, range-at, fine-tasks}
 use Rattle.plan.proofs.RoundTrip.{tasksOf-planOf}
 use Rattle.plan.proofs.TimeLaws.{time-none}
 use Rattle.arith.proofs.ArrayLaws.{value-at}
-use Rattle.judging.proofs.Judgements.{Filled, filled-more, filled-all, count-low, count-high, count-good}
+use Rattle.judging.proofs.verdicts.Judgements.{Filled, filled-more, filled-all, count-low, count-high, count-good}
 use Rattle.arith.proofs.Tests.{both-false, both-yes, both-left}
 use Rattle.arith.proofs.ListLaws.{every-at, at-every}
 use Rattle.soundness.specs.declared.Tested.{Tested}
@@ -37,12 +37,12 @@ use Rattle.state.specs.Code.{Holds, entryIn, timingIn}
 use Rattle.urgency.specs.Code.{Keyed, noKey, deadlineIn, latestKey, keysIn}
 use Rattle.orders.specs.declared.Choice.{Choice}
 use Rattle.orders.specs.Code.{choiceOf, Runnable}
-use Rattle.lone.specs.Code.{otherIn}
-use Rattle.lone.proofs.LoneLaws.{lone-is}
+use Rattle.orders.specs.Lone.{otherIn}
+use Rattle.orders.proofs.lone.LoneLaws.{lone-is}
 use Rattle.orders.proofs.OrderLaws.{Timed, choose-next, choose-when}
-use Rattle.sound_entries.specs.declared.Entries.{Entries}
-use Rattle.sound_entries.specs.Code.{entriesTested}
-use Rattle.sound_order.specs.Code.{orderIn}
+use Rattle.soundness.specs.declared.entries.Entries.{Entries}
+use Rattle.soundness.specs.SoundEntries.{entriesTested}
+use Rattle.soundness.specs.SoundOrder.{orderIn}
 use Rattle.soundness.specs.Code.{Good, timedSound, testedBy}
 use Rattle.levels.specs.Code.{loaded, Table}
 use Rattle.levels.proofs.Tables.{levels-are, speed-is, speed-positive, speed-most}

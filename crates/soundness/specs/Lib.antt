@@ -1,1 +1,3 @@
+pub mod SoundEntries
+pub mod SoundOrder
 pub mod Code

@@ -1,15 +1,18 @@
 // Whether a state block is sound.
-use block_layout::laid_out;
-use clock::Clock;
-use lone::is_lone;
+pub mod entries;
+pub mod order;
+
+use crate::entries::entries_sound;
+use crate::order::order_sound;
+use orders::lone::is_lone;
 use orders::standing;
 use plan::Plan;
 use plan::Verdict;
-use sound_entries::entries_sound;
-use sound_order::order_sound;
 use state::COUNT_AT;
 use state::PLACES;
+use state::clock::Clock;
 use state::clock_at;
+use state::layout::laid_out;
 use state::task_at;
 use urgency::keys_of;
 use urgency::next_arrival;
@@ -44,7 +47,7 @@ fn plan_of(block: &[u8], count: usize) -> Plan
     requires { ⌜ Holds (now block) × (count ≡ stateCount (now block)) ⌝ }
     ensures { λ r. ⌜ r ≡ planOf (planIn (decode (now (block .entry)))) ⌝ }
 {
-    let mut p = judging::empty_plan();
+    let mut p = judging::verdicts::empty_plan();
     p.count = count;
     let mut i: usize = 0;
     while i < count {
@@ -140,7 +143,7 @@ fn test_state(speeds: &[u32; 8], levels: usize, block: &[u8], count: usize) -> T
         return not_sound();
     }
     let p = plan_of(block, count);
-    let v = admission::verdict_of(speeds, levels, p);
+    let v = judging::admission::verdict_of(speeds, levels, p);
     match v {
         Verdict::Refused(_) => not_sound(),
         Verdict::Admitted {

@@ -40,8 +40,8 @@ use Rattle.arith.proofs.ArrayLaws.{value-at}
 use Rattle.orders.specs.Code.{chosenIn, chosenReply, Enough}
 use Rattle.levels.specs.Code.{loaded}
 use Rattle.levels.proofs.Tables.{Loads}
-use Rattle.fresh_state.specs.Code.{newState}
-use Rattle.fresh_state.proofs.MakingLaws.{Listed, count-is}
+use Rattle.starting.specs.Image.{newState}
+use Rattle.starting.proofs.image.MakingLaws.{Listed, count-is}
 use Rattle.starting.specs.Code.{startNo}
 use Rattle.reclaiming.proofs.Fine.{Fine, nominalSpeed}
 use Rattle.reclaiming.proofs.Plans.{task-range}

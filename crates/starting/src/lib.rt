@@ -1,14 +1,16 @@
 // Starting: a state in which every task of a plan has a new job, with an order chosen in it.
-use choosing::choose;
-use fresh_state::fresh;
-use level_reading::read_levels;
-use paired_reading::read_paired;
+pub mod image;
+
+use crate::image::fresh;
+use levels::reading::read_levels;
+use orders::choosing::choose;
+use pairs::reading::read_paired;
 use plan::Load;
 use plan::Plan;
 use plan::Verdict;
 use reclaiming::Reply;
 use state::STATE_LENGTH;
-use storing::store;
+use state::storing::store;
 use urgency::keys_of;
 ghost use mathlib.Core.Path.{_≡_};
 ghost use Prim.Native.Nat.{_<_};

@@ -1,4 +1,10 @@
 // The state block: its fields, and reading them.
+pub mod clock;
+pub mod layout;
+pub mod storing;
+pub mod tables;
+pub mod totals;
+
 use plan::Rest;
 use plan::Task;
 ghost use mathlib.Core.Path.{_≡_};

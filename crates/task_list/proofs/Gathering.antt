@@ -18,7 +18,7 @@ use Rattle.plan.specs.Questions.{judging}
 use Rattle.plan.specs.Answers.{judgedList, judgedPlan}
 use Rattle.task_list.specs.Lists.{putTask, gatheredFrom}
 use Rattle.task_list.proofs.TaskSlices.{taskBytes}
-use Rattle.judging.proofs.Judgements.{count-high, refused-as}
+use Rattle.judging.proofs.verdicts.Judgements.{count-high, refused-as}
 
 -- the two ways out of `put`
 pub put-stored : (p : Plan) (t : Task) → p .count < 16 → _≡_ {A = Plan} (record { count = p .count + 1; tasks = set (p .tasks) (p .count) t }) (putTask p t)

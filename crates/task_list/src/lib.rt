@@ -1,9 +1,9 @@
 // A list of tasks as a host holds it, judged without being packed.
-use judging::empty_plan;
+use judging::judge;
+use judging::verdicts::empty_plan;
 use plan::Judged;
 use plan::Plan;
 use plan::Task;
-use plan_judging::judge;
 ghost use mathlib.Core.Path.{_≡_};
 ghost use mathlib.Core.List.{[]};
 ghost use lib.ListN.{length};

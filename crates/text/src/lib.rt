@@ -1,4 +1,6 @@
 // Words and numbers in decimal stored into a lent buffer: each function returns the place past what it stored.
+pub mod lines;
+
 ghost use mathlib.Core.List.{[], _∷_};
 ghost use Prim.Native.Nat.{_+_, _≤_};
 ghost use lib.ListN.{length};

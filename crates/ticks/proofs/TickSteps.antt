@@ -29,11 +29,11 @@ use Rattle.reclaiming.specs.Questions.{stateSound}
 use Rattle.state.specs.Code.{entryIn, timingIn, withJobs, withClock, withTotal, headStored, totalStored, queuedTo, FitTask, FitRest}
 use Rattle.urgency.specs.Code.{noKey, Keyed, dueAt, drainedBy}
 use Rattle.orders.specs.Code.{choiceOf, Runnable}
-use Rattle.arriving.specs.Code.{Allots, arrivedState}
+use Rattle.ticks.specs.Arriving.{Allots, arrivedState}
 use Rattle.ticks.specs.Code.{Stepping}
-use Rattle.draining.proofs.DrainLaws.{Drains}
-use Rattle.draining.proofs.WorkLaws.{Works}
-use Rattle.arriving.proofs.ArriveLaws.{Arrives}
+use Rattle.ticks.proofs.draining.DrainLaws.{Drains}
+use Rattle.ticks.proofs.draining.WorkLaws.{Works}
+use Rattle.ticks.proofs.arriving.ArriveLaws.{Arrives}
 use Rattle.schedule.proofs.Totals.{drained-total}
 use Rattle.reclaiming.proofs.Fine.{nominalSpeed}
 use Rattle.reclaiming.proofs.Plans.{allotment-short}

@@ -1,18 +1,21 @@
 // What d ticks make of a state, in its bytes.
-use arriving::arrive_if;
-use clock::Clock;
-use draining::drain;
-use draining::work_off;
+pub mod arriving;
+pub mod draining;
+
+use crate::arriving::arrive_if;
+use crate::draining::drain;
+use crate::draining::work_off;
 use orders::Choice;
 use state::CLOCK_AT;
 use state::CLOCK_WIDTH;
 use state::PLACES;
+use state::clock::Clock;
 use state::clock_at;
 use state::count_at;
 use state::period_at;
+use state::storing::put_total;
 use state::total_at;
-use storing::put_total;
-use totals::left_of;
+use state::totals::left_of;
 use urgency::deadline_in;
 use urgency::key_of;
 ghost use mathlib.Core.Path.{_≡_};

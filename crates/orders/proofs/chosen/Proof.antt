@@ -8,7 +8,7 @@ use borrow.Author.Needs.{needs}
 use Rattle.levels.specs.Code.{loaded}
 use Rattle.levels.proofs.Tables.{levels-are}
 use Rattle.urgency.proofs.HeadLaws.{Looked, Told, first-open, told-task}
-use Rattle.lone.proofs.LoneLaws.{Read, next-short}
+use Rattle.orders.proofs.lone.LoneLaws.{Read, next-short}
 use Rattle.orders.proofs.OrderLaws.{Picked, read-enough, chosen-none, chosen-small, chosen-some}
 use Rattle.orders.proofs.chosen.Statement.{statement}
 use Rattle.orders.proofs.chosen.Tie as tie

@@ -1,7 +1,7 @@
 -- `pass` meets its contract: the block has no table of its own, or the pass is made at it.
 -- Assumes nothing.
 use borrow.Author.Needs.{needs}
-use Rattle.tables.proofs.TableLaws.{owns}
+use Rattle.state.proofs.tables.TableLaws.{owns}
 use Rattle.passing.proofs.PassLaws.{no-table}
 use Rattle.passing.proofs.pass.Statement.{statement}
 use Rattle.passing.proofs.pass.Tie as tie

@@ -10,7 +10,7 @@ use Rattle.plan.specs.Levels.{Rising}
 use Rattle.levels.specs.Code.{loaded}
 use Rattle.levels.proofs.Tables.{levels-are}
 use Rattle.plan.proofs.LevelBlockLaws.{few-levels}
-use Rattle.tables.proofs.TableLaws.{owned-fine, owned-stored}
+use Rattle.state.proofs.tables.TableLaws.{owned-fine, owned-stored}
 use Rattle.arith.specs.Asking.{firstNo}
 use Rattle.reclaiming.specs.StateBlock.{decode}
 use Rattle.reclaiming.specs.Orders.{nextArrival}
@@ -24,9 +24,9 @@ use Rattle.reclaiming.proofs.Soundness.{sound-state, sound-clock}
 use Rattle.reclaiming.specs.declared.Reply.{Reply}
 use Rattle.orders.specs.Code.{Runnable}
 use Rattle.soundness.proofs.SoundLaws.{tested-good, tested-next}
-use Rattle.pass_questions.specs.Code.{timeQuestions}
-use Rattle.pass_questions.proofs.QuestionSteps.{asked-is}
-use Rattle.accepted_pass.proofs.StepLaws.{Passing}
+use Rattle.passing.specs.Questions.{timeQuestions}
+use Rattle.passing.proofs.questions.QuestionSteps.{asked-is}
+use Rattle.passing.proofs.accepted.StepLaws.{Passing}
 use Rattle.passing.proofs.PassLaws.{Passes, Answers, number-10, number-is, refused, accepts, over-own}
 use Rattle.passing.proofs.pass_over.Statement.{statement}
 use Rattle.passing.proofs.pass_over.Tie as tie

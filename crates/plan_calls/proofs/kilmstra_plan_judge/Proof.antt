@@ -5,7 +5,7 @@ use Rattle.plan.specs.declared.Plan.{Plan}
 use Rattle.plan.specs.declared.Judged.{Judged}
 use Rattle.plan.specs.Answers.{judgedPlan}
 use Rattle.plan.specs.Numbers.{verdictNumber}
-use Rattle.judged_numbers.proofs.Verdicts.{judged-most}
+use Rattle.plan_calls.proofs.judged.Verdicts.{judged-most}
 use borrow.Author.Needs.{needs}
 use Rattle.plan_calls.proofs.kilmstra_plan_judge.Statement.{statement}
 use Rattle.plan_calls.proofs.kilmstra_plan_judge.Tie as tie

@@ -7,7 +7,7 @@ use Rattle.arith.specs.Asking.{Question}
 use Rattle.plan.specs.Blocks.{tasksIn}
 use Rattle.plan.specs.Questions.{reading}
 use Rattle.levels.proofs.Tables.{Loads, told-loaded, told-unloaded}
-use Rattle.judging.proofs.Judgements.{entered-refused, entered-loaded}
+use Rattle.judging.proofs.verdicts.Judgements.{entered-refused, entered-loaded}
 use Rattle.plan_reading.proofs.read.Statement.{statement}
 use Rattle.plan_reading.proofs.read.Tie as tie
 

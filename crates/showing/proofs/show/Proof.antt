@@ -1,7 +1,7 @@
 -- `show` meets its contract: the block has no table of its own, or its queue is shown at it.
 -- Assumes nothing.
 use borrow.Author.Needs.{needs}
-use Rattle.tables.proofs.TableLaws.{owns}
+use Rattle.state.proofs.tables.TableLaws.{owns}
 use Rattle.showing.proofs.ShowLaws.{no-table}
 use Rattle.showing.proofs.show.Statement.{statement}
 use Rattle.showing.proofs.show.Tie as tie

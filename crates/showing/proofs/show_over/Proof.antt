@@ -9,7 +9,7 @@ use Rattle.plan.specs.declared.Written.{Written}
 use Rattle.levels.specs.Code.{loaded}
 use Rattle.soundness.specs.Code.{Good}
 use Rattle.soundness.proofs.SoundLaws.{tested-good}
-use Rattle.readying.proofs.ReadySteps.{listed-few, listed-below}
+use Rattle.showing.proofs.ready.ReadySteps.{listed-few, listed-below}
 use Rattle.showing.proofs.ShowLaws.{LeftByShow, Shown, over-own, Showing, show-unsound, show-short, show-stored}
 use Rattle.showing.proofs.show_over.Statement.{statement}
 use Rattle.showing.proofs.show_over.Tie as tie

@@ -64,10 +64,10 @@ use Rattle.plan.proofs.Task as K
 use Rattle.plan.proofs.Task.Laws as K′
 use Rattle.plan.proofs.Plan as P
 use Rattle.plan.proofs.Plan.Laws as P′
-use Rattle.judging.proofs.empty_plan as empty
-use Rattle.judging.proofs.empty_plan.Symbol as empty-def
-use Rattle.judging.proofs.empty_plan.Symbol.{name as #empty}
-use Rattle.judging.proofs.empty_plan.Met as empty-thm
+use Rattle.judging.proofs.verdicts.empty_plan as empty
+use Rattle.judging.proofs.verdicts.empty_plan.Symbol as empty-def
+use Rattle.judging.proofs.verdicts.empty_plan.Symbol.{name as #empty}
+use Rattle.judging.proofs.verdicts.empty_plan.Met as empty-thm
 use Rattle.task_list.proofs.put as put
 use Rattle.task_list.proofs.put.Symbol as put-def
 use Rattle.task_list.proofs.put.Symbol.{name as #put}
@@ -385,5 +385,5 @@ gathered-spec 𝓤 H 𝓜 𝓖 𝓡 =
     entered 𝓤 H (tripleOf 𝓤 H (𝓖 .A) gathered.signature (gathered.spec 𝓤 H (𝓖 .A) (𝓜 .mem) (𝓡 .run)))
     (tables 𝓤 H 𝓜 𝓡 code.env .C) (tables 𝓤 H 𝓜 𝓡 code.env .Λ) #gathered code.function (code.unfolded 𝓤 H 𝓜 𝓡)
     (gathered-meets 𝓤 H (𝓖 .A) (givenOf 𝓤 H 𝓜 𝓖) (𝓜 .mem) (𝓡 .run) (tablesOf 𝓤 H 𝓜 (tables 𝓤 H 𝓜 𝓡 code.env))
-    (cited 𝓤 H (Empty 𝓤 H (𝓖 .A) (𝓜 .mem) (𝓡 .run)) 𝓜 𝓡 code.env #empty empty-def.routine code.calls-judging·empty-plan (empty-thm.met 𝓤 H 𝓜 𝓖 𝓡))
+    (cited 𝓤 H (Empty 𝓤 H (𝓖 .A) (𝓜 .mem) (𝓡 .run)) 𝓜 𝓡 code.env #empty empty-def.routine code.calls-judging·verdicts·empty-plan (empty-thm.met 𝓤 H 𝓜 𝓖 𝓡))
     (cited 𝓤 H (Put 𝓤 H (𝓖 .A) (𝓜 .mem) (𝓡 .run)) 𝓜 𝓡 code.env #put put-def.routine code.calls-task-list·put (put-thm.met 𝓤 H 𝓜 𝓖 𝓡)))

@@ -20,9 +20,9 @@ use Rattle.plan.proofs.Judged.Laws as J′
 use Rattle.task_list.proofs.gathered.Symbol as gathered-def
 use Rattle.task_list.proofs.gathered.Symbol.{name as #gathered}
 use Rattle.task_list.proofs.gathered.Met as gathered-thm
-use Rattle.plan_judging.proofs.judge.Symbol as judge-def
-use Rattle.plan_judging.proofs.judge.Symbol.{name as #judge}
-use Rattle.plan_judging.proofs.judge.Met as judge-thm
+use Rattle.judging.proofs.judge.Symbol as judge-def
+use Rattle.judging.proofs.judge.Symbol.{name as #judge}
+use Rattle.judging.proofs.judge.Met as judge-thm
 use Rattle.task_list.proofs.judge_list.Key.{name as #judge-list}
 use Rattle.task_list.proofs.judge_list as judge-list
 use Rattle.task_list.proofs.judge_list.Statement as stated
@@ -47,4 +47,4 @@ judge-list-spec 𝓤 H 𝓜 𝓖 𝓡 =
     (λ r v is. LL.lawful J.the-type J′.the-laws 𝓤 H (𝓖 .A) (givenOf 𝓤 H 𝓜 𝓖) .typed r (v ∷ []) is .0)
     𝓤 H (𝓖 .A) (givenOf 𝓤 H 𝓜 𝓖) (tablesOf 𝓤 H 𝓜 (tables 𝓤 H 𝓜 𝓡 code.env))
     (cited 𝓤 H (Gathered 𝓤 H (𝓖 .A)) 𝓜 𝓡 code.env #gathered gathered-def.routine code.calls-task-list·gathered (gathered-thm.met 𝓤 H 𝓜 𝓖 𝓡))
-    (cited 𝓤 H (OverPlan 𝓤 H (𝓖 .A) J.the-row judgedPlan) 𝓜 𝓡 code.env #judge judge-def.routine code.calls-plan-judging·judge (judge-thm.met 𝓤 H 𝓜 𝓖 𝓡))))
+    (cited 𝓤 H (OverPlan 𝓤 H (𝓖 .A) J.the-row judgedPlan) 𝓜 𝓡 code.env #judge judge-def.routine code.calls-judging·judge (judge-thm.met 𝓤 H 𝓜 𝓖 𝓡))))

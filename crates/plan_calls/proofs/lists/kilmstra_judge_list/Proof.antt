@@ -22,9 +22,9 @@ use Rattle.task_list.proofs.Passing.{spelled, OverPlan, Gathered, passes}
 use Rattle.task_list.proofs.gathered.Symbol as gathered-def
 use Rattle.task_list.proofs.gathered.Symbol.{name as #gathered}
 use Rattle.task_list.proofs.gathered.Met as gathered-thm
-use Rattle.judged_numbers.proofs.judged_number.Symbol as number-def
-use Rattle.judged_numbers.proofs.judged_number.Symbol.{name as #number}
-use Rattle.judged_numbers.proofs.judged_number.Met as number-thm
+use Rattle.plan_calls.proofs.judged.judged_number.Symbol as number-def
+use Rattle.plan_calls.proofs.judged.judged_number.Symbol.{name as #number}
+use Rattle.plan_calls.proofs.judged.judged_number.Met as number-thm
 use Rattle.plan_calls.proofs.lists.kilmstra_judge_list.Key.{name as #entry}
 use Rattle.plan_calls.proofs.lists.kilmstra_judge_list as entry
 use Rattle.plan_calls.proofs.lists.kilmstra_judge_list.Statement as stated
@@ -55,4 +55,4 @@ kilmstra-judge-list-spec 𝓤 H 𝓜 𝓖 𝓡 =
     (λ r v is. uint-lawful 𝓤 H (𝓖 .A) (givenOf 𝓤 H 𝓜 𝓖) w64 .typed r (v ∷ []) is .0)
     𝓤 H (𝓖 .A) (givenOf 𝓤 H 𝓜 𝓖) (tablesOf 𝓤 H 𝓜 (tables 𝓤 H 𝓜 𝓡 code.env))
     (cited 𝓤 H (Gathered 𝓤 H (𝓖 .A)) 𝓜 𝓡 code.env #gathered gathered-def.routine code.calls-task-list·gathered (gathered-thm.met 𝓤 H 𝓜 𝓖 𝓡))
-    (cited 𝓤 H (OverPlan 𝓤 H (𝓖 .A) u64 plan-number) 𝓜 𝓡 code.env #number number-def.routine code.calls-judged-numbers·judged-number (number-thm.met 𝓤 H 𝓜 𝓖 𝓡))))
+    (cited 𝓤 H (OverPlan 𝓤 H (𝓖 .A) u64 plan-number) 𝓜 𝓡 code.env #number number-def.routine code.calls-plan-calls·judged·judged-number (number-thm.met 𝓤 H 𝓜 𝓖 𝓡))))

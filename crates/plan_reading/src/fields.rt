@@ -1,0 +1,122 @@
+// The fields of a plan block: where each stands, and the tasks and spare bits that are read from them.
+use judging::verdicts::empty_plan;
+use plan::Plan;
+use plan::Task;
+ghost use mathlib.Core.Path.{_≡_};
+ghost use Prim.Native.Nat.{_+_, _*_, _<_, _≤_};
+ghost use lib.Dec.{eqb};
+ghost use lib.ListN.{length, drop};
+ghost use Rattle.arith.specs.Bits.{fieldsFrom, unpacked};
+ghost use Rattle.arith.specs.Choice.{every};
+ghost use Rattle.plan.specs.Blocks.{taskWidths, taskWidth, taskFrom, tasksFrom, spareOf, sparesFrom, bitCount, blockLength, editionOf, tasksOf, planOf};
+// How many bits a task takes in an edition.
+pub fn task_width(edition: u32) -> usize
+    ensures { λ r. ⌜ r ≡ taskWidth edition ⌝ }
+{
+    if edition == 2 {
+        return 47;
+    }
+    36
+}
+
+// How many bits a block of so many tasks takes; they are too where the next task stands.
+pub fn bit_count(edition: u32, count: usize) -> usize
+    requires { ⌜ count ≤ 16 ⌝ }
+    ensures { λ r. ⌜ r ≡ bitCount edition count ⌝ }
+{
+    9 + task_width(edition) * count
+}
+
+// The fixed ticks of the task that stands at a place; only edition 2 has a field for them.
+fn fixed_in(block: &[u8], edition: u32, at: usize) -> u32
+    requires { ⌜ (at ≤ 761) × (at + taskWidth edition ≤ 8 * length (now block)) ⌝ }
+    ensures { λ r. ⌜ r ≡ taskFrom edition (drop at (unpacked (now (block .entry)))) .fixed ⌝ }
+{
+    if edition != 2 {
+        return 0;
+    }
+    numeric::bits_at(block, at + 36, 8)
+}
+
+// Task i of a block.
+fn task_in(block: &[u8], edition: u32, i: usize) -> Task
+    requires { ⌜ (i < 16) × (bitCount edition (i + 1) ≤ 8 * length (now block)) ⌝ }
+    ensures { λ r. ⌜ r ≡ taskFrom edition (drop (bitCount edition i) (unpacked (now (block .entry)))) ⌝ }
+{
+    let at = bit_count(edition, i);
+    let period = numeric::bits_at(block, at, 16);
+    let worst = numeric::bits_at(block, at + 16, 20);
+    let fixed = fixed_in(block, edition, at);
+    Task {
+        period,
+        worst,
+        fixed,
+    }
+}
+
+// The plan of a block of so many tasks.
+pub fn plan_in(block: &[u8], edition: u32, count: usize) -> Plan
+    requires { ⌜ (count ≤ 16) × (bitCount edition count ≤ 8 * length (now block)) ⌝ }
+    ensures { λ r. ⌜ r ≡ planOf (tasksFrom edition count (drop 9 (unpacked (now (block .entry))))) ⌝ }
+{
+    let mut q = empty_plan();
+    q.count = count;
+    let mut i: usize = 0;
+    while i < count {
+        let t = task_in(block, edition, i);
+        q.tasks[i] = t;
+        i += 1;
+    }
+    q
+}
+
+// The number in the spare bits of task i; edition 1 has none, and it is 0.
+fn spare_in(block: &[u8], edition: u32, i: usize) -> u32
+    requires { ⌜ (i < 16) × (bitCount edition (i + 1) ≤ 8 * length (now block)) ⌝ }
+    ensures { λ r. ⌜ r ≡ spareOf (fieldsFrom (taskWidths edition) (drop (bitCount edition i) (unpacked (now (block .entry))))) ⌝ }
+{
+    if edition != 2 {
+        return 0;
+    }
+    numeric::bits_at(block, bit_count(edition, i) + 44, 3)
+}
+
+// Whether the spare bits of every task are zero.
+pub fn spares_clear(block: &[u8], edition: u32, count: usize) -> bool
+    requires { ⌜ (count ≤ 16) × (bitCount edition count ≤ 8 * length (now block)) ⌝ }
+    ensures { λ r. ⌜ r ≡ every (eqb 0) (sparesFrom edition count (drop 9 (unpacked (now (block .entry))))) ⌝ }
+{
+    let mut i: usize = 0;
+    while i < count {
+        if spare_in(block, edition, i) != 0 {
+            return false;
+        }
+        i += 1;
+    }
+    true
+}
+
+// The edition that a plan is written in: 2 where a task has fixed ticks.
+pub fn edition_of(p: Plan) -> u32
+    requires { ⌜ p .count ≤ 16 ⌝ }
+    ensures { λ r. ⌜ r ≡ editionOf (tasksOf p) ⌝ }
+{
+    let count = p.count;
+    let mut i: usize = 0;
+    while i < count {
+        let t = p.tasks[i];
+        if t.fixed != 0 {
+            return 2;
+        }
+        i += 1;
+    }
+    1
+}
+
+// How many bytes the block of so many tasks has.
+pub fn block_length(edition: u32, count: usize) -> usize
+    requires { ⌜ count ≤ 16 ⌝ }
+    ensures { λ r. ⌜ r ≡ blockLength edition count ⌝ }
+{
+    (bit_count(edition, count) + 7) / 8
+}
