@@ -1,4 +1,5 @@
 // Runs the cases of document 01 that are not starred, with 01's speeds loaded, and prints what each call gives.
+use crate::telling::tell_order;
 use dispatcher_calls::kilmstra_pass;
 use dispatcher_calls::kilmstra_show;
 use dispatcher_calls::kilmstra_start;
@@ -6,35 +7,15 @@ use plan_calls::kilmstra_plan_copy;
 use plan_calls::kilmstra_plan_read;
 use state::STATE_LENGTH;
 
-// A line: what was asked, and the answer taken apart. A refusal is its number; an order is its kind, task, level and hold.
-fn tell(what: &[u8], answer: u64) {
-    io::write_all(1, what);
-    if answer < 256 {
-        io::write_all(1, b": refused ");
-        io::print_decimal(1, answer);
-        io::write_all(1, b"\n");
-        return;
-    }
-    io::write_all(1, b": ");
-    io::print_decimal(1, answer / 256 % 256);
-    io::write_all(1, b" ");
-    io::print_decimal(1, answer / 65536 % 256);
-    io::write_all(1, b" ");
-    io::print_decimal(1, answer / 16777216 % 256);
-    io::write_all(1, b" ");
-    io::print_decimal(1, answer / 4294967296);
-    io::write_all(1, b"\n");
-}
-
 // "Bench plan at tick 0, passes: 5 finished, 14; 0, 11." A refusal leaves the state, so one state serves both.
 fn at_the_start(levels: &[u8], block: &[u8]) {
     let mut state = [0u8; STATE_LENGTH];
-    tell(b"start", kilmstra_start(levels, block, &[], &mut state));
-    tell(b"tick 0, 5 finished", kilmstra_pass(&mut state, 5, 1));
-    tell(b"tick 0, 0", kilmstra_pass(&mut state, 0, 0));
-    tell(b"tick 0, 1 finished", kilmstra_pass(&mut state, 1, 1));
+    tell_order(b"start", kilmstra_start(levels, block, &[], &mut state));
+    tell_order(b"tick 0, 5 finished", kilmstra_pass(&mut state, 5, 1));
+    tell_order(b"tick 0, 0", kilmstra_pass(&mut state, 0, 0));
+    tell_order(b"tick 0, 1 finished", kilmstra_pass(&mut state, 1, 1));
     let mut small = [0u8; 8];
-    tell(
+    tell_order(
         b"tick 1, queue into 8 bytes",
         kilmstra_show(&state, &mut small),
     );
@@ -44,14 +25,14 @@ fn at_the_start(levels: &[u8], block: &[u8]) {
 // the whole listing's orders.
 fn along_the_listing(levels: &[u8], block: &[u8]) {
     let mut state = [0u8; STATE_LENGTH];
-    tell(b"start", kilmstra_start(levels, block, &[], &mut state));
-    tell(b"tick 1", kilmstra_pass(&mut state, 1, 1));
-    tell(b"tick 8", kilmstra_pass(&mut state, 7, 1));
-    tell(b"tick 10", kilmstra_pass(&mut state, 2, 1));
-    tell(b"tick 14", kilmstra_pass(&mut state, 4, 1));
-    tell(b"tick 19", kilmstra_pass(&mut state, 5, 1));
-    tell(b"tick 19, 1 finished", kilmstra_pass(&mut state, 1, 1));
-    tell(b"tick 20", kilmstra_pass(&mut state, 1, 0));
+    tell_order(b"start", kilmstra_start(levels, block, &[], &mut state));
+    tell_order(b"tick 1", kilmstra_pass(&mut state, 1, 1));
+    tell_order(b"tick 8", kilmstra_pass(&mut state, 7, 1));
+    tell_order(b"tick 10", kilmstra_pass(&mut state, 2, 1));
+    tell_order(b"tick 14", kilmstra_pass(&mut state, 4, 1));
+    tell_order(b"tick 19", kilmstra_pass(&mut state, 5, 1));
+    tell_order(b"tick 19, 1 finished", kilmstra_pass(&mut state, 1, 1));
+    tell_order(b"tick 20", kilmstra_pass(&mut state, 1, 0));
 }
 
 // A byte as two hexadecimal digits.

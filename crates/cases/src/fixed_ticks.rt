@@ -1,15 +1,10 @@
 // Runs cases of fixed ticks (document 02, No. 2), with 01's speeds loaded, and prints what each call gives.
+use crate::telling::tell_order;
+use crate::telling::tell_refusal;
 use dispatcher_calls::kilmstra_pass;
 use dispatcher_calls::kilmstra_start;
 use plan_calls::kilmstra_plan_read;
 use state::STATE_LENGTH;
-
-// The rest of a line about a refusal.
-fn tell_refusal(n: u64) {
-    io::write_all(1, b": refused ");
-    io::print_decimal(1, n);
-    io::write_all(1, b"\n");
-}
 
 // A line of a plan block: its nominal level and hyperperiod, or a refusal.
 fn tell_plan(what: &[u8], answer: u64) {
@@ -22,24 +17,6 @@ fn tell_plan(what: &[u8], answer: u64) {
     io::print_decimal(1, answer / 256 % 256);
     io::write_all(1, b", hyperperiod ");
     io::print_decimal(1, answer / 65536);
-    io::write_all(1, b"\n");
-}
-
-// A line of an order: its kind (1 to run, 2 to stay idle), task, level and hold, or a refusal.
-fn tell_order(what: &[u8], answer: u64) {
-    io::write_all(1, what);
-    if answer < 256 {
-        tell_refusal(answer);
-        return;
-    }
-    io::write_all(1, b": ");
-    io::print_decimal(1, answer / 256 % 256);
-    io::write_all(1, b" ");
-    io::print_decimal(1, answer / 65536 % 256);
-    io::write_all(1, b" ");
-    io::print_decimal(1, answer / 16777216 % 256);
-    io::write_all(1, b" ");
-    io::print_decimal(1, answer / 4294967296);
     io::write_all(1, b"\n");
 }
 

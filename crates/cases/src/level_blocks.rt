@@ -1,15 +1,9 @@
 // Runs cases of level blocks (document 02, No. 1), and prints what each call gives.
+use crate::telling::tell_refusal;
 use dispatcher_calls::kilmstra_pass;
 use dispatcher_calls::kilmstra_start;
 use plan_calls::kilmstra_levels_read;
 use state::STATE_LENGTH;
-
-// The rest of a line about a refusal.
-fn tell_refusal(n: u64) {
-    io::write_all(1, b": refused ");
-    io::print_decimal(1, n);
-    io::write_all(1, b"\n");
-}
 
 // A line of a level block: the count of its levels, or a refusal.
 fn tell_levels(what: &[u8], answer: u64) {

@@ -4,6 +4,7 @@ mod fixed_ticks;
 mod level_blocks;
 mod lone_jobs;
 mod paired_tasks;
+mod telling;
 mod totals;
 
 fn main() {

@@ -1,15 +1,10 @@
 // Runs cases of pairs (document 02, No. 5), with 01's speeds loaded, and prints what each call gives.
+use crate::telling::tell_order;
+use crate::telling::tell_refusal;
 use dispatcher_calls::kilmstra_pass;
 use dispatcher_calls::kilmstra_start;
 use plan_calls::kilmstra_pairs;
 use state::STATE_LENGTH;
-
-// The rest of a line about a refusal.
-fn tell_refusal(n: u64) {
-    io::write_all(1, b": refused ");
-    io::print_decimal(1, n);
-    io::write_all(1, b"\n");
-}
 
 // A line of a list that is asked about: the count of its pairs, or a refusal.
 fn ask(levels: &[u8], block: &[u8], what: &[u8], pairs: &[u8]) {
@@ -21,24 +16,6 @@ fn ask(levels: &[u8], block: &[u8], what: &[u8], pairs: &[u8]) {
     }
     io::write_all(1, b": pairs ");
     io::print_decimal(1, answer / 256);
-    io::write_all(1, b"\n");
-}
-
-// A line of an order: its kind (1 to run, 2 to stay idle), task, level and hold, or a refusal.
-fn tell_order(what: &[u8], answer: u64) {
-    io::write_all(1, what);
-    if answer < 256 {
-        tell_refusal(answer);
-        return;
-    }
-    io::write_all(1, b": ");
-    io::print_decimal(1, answer / 256 % 256);
-    io::write_all(1, b" ");
-    io::print_decimal(1, answer / 65536 % 256);
-    io::write_all(1, b" ");
-    io::print_decimal(1, answer / 16777216 % 256);
-    io::write_all(1, b" ");
-    io::print_decimal(1, answer / 4294967296);
     io::write_all(1, b"\n");
 }
 

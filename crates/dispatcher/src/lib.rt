@@ -1,3 +1,3 @@
-// The dispatcher: whole runs on lent blocks.
-pub mod passes;
+// The dispatcher: whole runs on lent blocks, each from its start on.
+mod passes;
 pub mod play;

@@ -73,7 +73,7 @@ fn slowest_for(speeds: &[u32; 8], levels: usize, work: u64, span: u32) -> usize
 
 // What question 8 asks about: the lowest level that admits a plan of this hyperperiod, or the count of the levels. A level too slow
 // for the plain work is passed over at once.
-pub fn nominal_of(speeds: &[u32; 8], levels: usize, p: Plan, span: u32) -> usize
+fn nominal_of(speeds: &[u32; 8], levels: usize, p: Plan, span: u32) -> usize
     requires { ⌜ Table (now speeds) levels ⌝ }
     requires { ⌜ (p .count ≤ 16) × (every inRange (tasksOf p) ≡ true) ⌝ }
     requires { ⌜ (span ≡ hyperperiod (tasksOf p)) × (span ≤ 1000000) ⌝ }

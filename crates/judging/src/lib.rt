@@ -17,7 +17,7 @@ ghost use Rattle.plan.specs.Answers.{judgedBy, judgedPlan};
 ghost use Rattle.levels.specs.Code.{loaded, Table};
 
 // A plan judged over a table of speeds: the questions 3, 6, 7, 8.
-pub fn judge_over(speeds: &[u32; 8], levels: usize, p: Plan) -> Judged
+fn judge_over(speeds: &[u32; 8], levels: usize, p: Plan) -> Judged
     requires { ⌜ Table (now speeds) levels ⌝ }
     ensures { λ r. ⌜ r ≡ judgedBy
         (firstNo (judging (loaded (now (speeds .entry)) levels) (p .count) (tasksOf p)))

@@ -45,7 +45,7 @@ pub fn in_range(p: Plan) -> bool
 }
 
 // What question 7 asks about: the hyperperiod, or 1,000,001 where it is above 1,000,000.
-pub fn hyperperiod_of(p: Plan) -> u32
+pub(crate) fn hyperperiod_of(p: Plan) -> u32
     requires { ⌜ (p .count ≤ 16) × (every inRange (tasksOf p) ≡ true) ⌝ }
     ensures { λ r. ⌜ r ≡ min (hyperperiod (tasksOf p)) 1000001 ⌝ }
 {

@@ -27,7 +27,7 @@ pub fn empty_plan() -> Plan
 }
 
 // The same plan with zeros past its count.
-pub fn cleared(p: Plan) -> Plan
+fn cleared(p: Plan) -> Plan
     requires { ⌜ p .count ≤ 16 ⌝ }
     ensures { λ r. ⌜ r ≡ planOf (tasksOf p) ⌝ }
 {

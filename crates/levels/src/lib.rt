@@ -38,7 +38,7 @@ pub fn level_length(count: usize) -> usize
 }
 
 // The speeds of a block of so many levels, zeros past them.
-pub fn speeds_in(block: &[u8], count: usize) -> [u32; 8]
+pub(crate) fn speeds_in(block: &[u8], count: usize) -> [u32; 8]
     requires { ⌜ (count ≤ 8) × (levelBitCount count ≤ 8 * length (now block)) ⌝ }
     ensures { λ r. ⌜ r ≡ padded 8 0 (listTo count (speedAt (now (block .entry)))) ⌝ }
 {

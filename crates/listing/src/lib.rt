@@ -1,6 +1,6 @@
 // The bench program's library: the listing of an input.
-pub mod cutting;
-pub mod run_lines;
+mod cutting;
+mod run_lines;
 
 use crate::cutting::level_cut;
 use crate::cutting::plan_cut;

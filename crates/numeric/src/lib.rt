@@ -19,7 +19,7 @@ pub fn time_needed(speed: u32, work: u32) -> u32
 }
 
 // The greatest common divisor, by recursion on a falling remainder.
-pub fn gcd_of(a: u32, b: u32) -> u32
+fn gcd_of(a: u32, b: u32) -> u32
     ensures { λ r. ⌜ r ≡ gcd a b ⌝ }
 {
     if b == 0 {

@@ -23,7 +23,7 @@ ghost use Rattle.urgency.specs.Code.{Keyed};
 ghost use Rattle.orders.specs.Code.{chosenIn, chosenReply, Enough};
 
 // Stores an order.
-pub fn put_order(block: &mut [u8], c: Choice)
+fn put_order(block: &mut [u8], c: Choice)
     requires { ⌜ length (now block) ≡ stateLength ⌝ }
     ensures { λ _. ⌜ now (block .exit) ≡ headStored (headStored (now (block .entry)) taskField (c .task)) levelField (c .level) ⌝ }
 {

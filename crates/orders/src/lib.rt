@@ -1,4 +1,4 @@
-// Choosing an order: the task, the level and the hold.
+// An order: which one is chosen, which one stands, and its hold.
 pub mod choosing;
 pub mod lone;
 
@@ -34,13 +34,7 @@ pub struct Choice {
 
 // The lowest level at which what is left needs no more than is allowed: at which the ticks that are allowed are enough. At the highest
 // they are, and a faster level needs no more, so the levels up to it are halved.
-pub fn level_for(
-    speeds: &[u32; 8],
-    levels: usize,
-    rest: Rest,
-    allowed: u32,
-    highest: usize,
-) -> usize
+fn level_for(speeds: &[u32; 8], levels: usize, rest: Rest, allowed: u32, highest: usize) -> usize
     requires { ⌜ Table (now speeds) levels × (allowed ≤ 1048560) × (highest < levels) ⌝ }
     requires { ⌜ timeOf (speedOf (loaded (now speeds) levels) highest) rest ≤ allowed ⌝ }
     ensures { λ r. ⌜ (r ≡ lowestLevel (loaded (now (speeds .entry)) levels) rest allowed) × (r ≤ highest) ⌝ }
@@ -72,7 +66,7 @@ fn running_order(speeds: &[u32; 8], levels: usize, i: usize, level: usize, rest:
 }
 
 // The order that is chosen in a state, where a level is known at which every job can be done in time, and the ticks to the next arrival.
-pub fn chosen(
+pub(crate) fn chosen(
     speeds: &[u32; 8],
     levels: usize,
     block: &[u8],

@@ -35,7 +35,13 @@ pub fn is_lone(block: &[u8], count: usize, i: usize) -> bool
 
 // The allowance of the most urgent open job, by its key, where the next arrival is so many ticks away. Whether it is alone is looked
 // at only where the gap is the larger.
-pub fn allowance_until(block: &[u8], keys: &[u64; PLACES], count: usize, key: u64, next: u32) -> u32
+pub(crate) fn allowance_until(
+    block: &[u8],
+    keys: &[u64; PLACES],
+    count: usize,
+    key: u64,
+    next: u32,
+) -> u32
     requires { ⌜ (count ≤ places) × (length (now block) ≡ stateLength) × (next ≤ 1048560) ⌝ }
     ensures { λ r. ⌜ (r ≡ allowedUntil (now (block .entry)) (now (keys .entry)) count key next) × (r ≤ 1048560) ⌝ }
 {

@@ -15,7 +15,7 @@ use Rattle.plan.specs.declared.Task.{Task}
 use Rattle.plan.specs.declared.Plan.{Plan}
 use Rattle.plan.specs.Blocks.{noTask, tasksOf}
 use Rattle.plan.specs.Pairs.{Pair, pairsIn, periodOf, periodsGood, goodPair, pairsGood}
-use Rattle.judging.proofs.ranges.TaskRanges.{Held, count-is}
+use Rattle.plan.proofs.Held.{Held, count-is}
 
 -- what the periods tell
 module _ (p : Pair) (first second : ℕ) where

@@ -51,7 +51,7 @@ fn each_good(p: Plan, pairs: &[u8]) -> bool
 }
 
 // Whether a list of pairs is good for a plan whose tasks are in range.
-pub fn pairs_good(p: Plan, pairs: &[u8]) -> bool
+pub(crate) fn pairs_good(p: Plan, pairs: &[u8]) -> bool
     requires { ⌜ (p .count ≤ 16) × (every inRange (tasksOf p) ≡ true) ⌝ }
     ensures { λ r. ⌜ r ≡ pairsGood (tasksOf p) (now (pairs .entry)) ⌝ }
 {

@@ -1,6 +1,6 @@
-// A pass: whether it is accepted, and what it makes of a state, in its bytes.
-pub mod accepted;
-pub mod questions;
+// A pass on a state block: whether it is accepted, what it makes of the state, and the order that stands then.
+mod accepted;
+mod questions;
 
 use crate::accepted::passed;
 use crate::questions::pass_number;

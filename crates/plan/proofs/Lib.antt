@@ -1,5 +1,6 @@
 pub mod BlockBits
 pub mod Facts
+pub mod Held
 pub mod PairLaws
 pub mod LevelLaws
 pub mod LevelBlockLaws

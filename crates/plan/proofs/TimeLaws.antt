@@ -12,9 +12,11 @@ use lib.Dec.{leb}
 use Rattle.arith.specs.Need.{need}
 use Rattle.arith.proofs.Tests.{same-test}
 use Rattle.arith.proofs.Needs.{need-covers, need-least, need-mono, need-faster, need-zero, need-positive, need-after, need-le}
+use Rattle.plan.specs.declared.Task.{Task}
 use Rattle.plan.specs.declared.Rest.{Rest}
-use Rattle.plan.specs.Times.{noRest, Within, timeOf, worn}
+use Rattle.plan.specs.Times.{noRest, Within, whole, taskTime, timeOf, worn}
 use Rattle.plan.specs.Laws.{PlainTimes}
+use Rattle.plan.proofs.Facts.{InRange}
 
 -- 1. what has more left needs no less
 pub time-more : (s : ℕ) (a b : Rest) → 0 < s → Within a b → timeOf s a ≤ timeOf s b
@@ -105,6 +107,10 @@ time-slowed s a h =
 pub time-short : (s : ℕ) (a : Rest) → 0 < s → timeOf s a ≤ a .fixed + a .work
 unfolding timeOf
 time-short s a h = omega (arith, need-le s (a .work) h)
+
+-- so that of a task in range is bounded by the largest worst case and the most fixed ticks
+pub task-short : (s : ℕ) (t : Task) → 0 < s → InRange t → taskTime s t ≤ 1048830
+task-short s t h range = omega (arith, time-short s (whole t) h, range .worst-high, range .fixed-high)
 
 -- without fixed ticks both are what 01 says
 pub plain-times : PlainTimes

@@ -1,4 +1,4 @@
-// A plan judged, with the verdict as one number.
+// What a plan, however it was handed over, is judged as for C.
 use answers::verdict_number;
 use judging::judge;
 use plan::Plan;

@@ -1,14 +1,14 @@
 // The calls on plans, for C and for tests: on numbers and lent slices, an answer packed into one number.
-pub mod judged;
+mod judged;
 pub mod lists;
-pub mod numbers;
+mod numbers;
 
+use crate::judged::judged_number;
 use crate::numbers::plan_from;
 use answers::load_number;
 use answers::paired_number;
 use answers::verdict_number;
 use answers::written_number;
-use judging::judge;
 use levels::reading::read_levels;
 use pairs::reading::ask_pairs;
 use plan_reading::read;
@@ -39,9 +39,7 @@ pub extern "C" fn kilmstra_plan_judge(levels: &[u8], count: usize, numbers: &[u3
         (judgedPlan (now (levels .entry)) (planFrom count (now (numbers .entry))) .verdict) ⌝ }
 {
     let p = plan_from(count, numbers);
-    let j = judge(levels, p);
-    let v = j.verdict;
-    verdict_number(v)
+    judged_number(levels, p)
 }
 
 // Reads a block over a level block, with an answer as judging has.

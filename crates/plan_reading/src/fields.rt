@@ -20,7 +20,7 @@ pub fn task_width(edition: u32) -> usize
 }
 
 // How many bits a block of so many tasks takes; they are too where the next task stands.
-pub fn bit_count(edition: u32, count: usize) -> usize
+pub(crate) fn bit_count(edition: u32, count: usize) -> usize
     requires { ⌜ count ≤ 16 ⌝ }
     ensures { λ r. ⌜ r ≡ bitCount edition count ⌝ }
 {
@@ -55,7 +55,7 @@ fn task_in(block: &[u8], edition: u32, i: usize) -> Task
 }
 
 // The plan of a block of so many tasks.
-pub fn plan_in(block: &[u8], edition: u32, count: usize) -> Plan
+pub(crate) fn plan_in(block: &[u8], edition: u32, count: usize) -> Plan
     requires { ⌜ (count ≤ 16) × (bitCount edition count ≤ 8 * length (now block)) ⌝ }
     ensures { λ r. ⌜ r ≡ planOf (tasksFrom edition count (drop 9 (unpacked (now (block .entry))))) ⌝ }
 {
@@ -82,7 +82,7 @@ fn spare_in(block: &[u8], edition: u32, i: usize) -> u32
 }
 
 // Whether the spare bits of every task are zero.
-pub fn spares_clear(block: &[u8], edition: u32, count: usize) -> bool
+pub(crate) fn spares_clear(block: &[u8], edition: u32, count: usize) -> bool
     requires { ⌜ (count ≤ 16) × (bitCount edition count ≤ 8 * length (now block)) ⌝ }
     ensures { λ r. ⌜ r ≡ every (eqb 0) (sparesFrom edition count (drop 9 (unpacked (now (block .entry))))) ⌝ }
 {

@@ -1,5 +1,5 @@
-// Writing a plan block, bit by bit.
-pub mod bits;
+// Writing a plan block.
+mod bits;
 pub mod round_trips;
 
 use crate::bits::put_block;
@@ -21,7 +21,7 @@ ghost use Rattle.levels.specs.Code.{loaded, Table};
 ghost use Rattle.plan.specs.Answers.{writePlan, writeBuffer, writtenBy, storedBy};
 
 // A plan written over a table of speeds: the questions 3, 6, 7, 8, then 9.
-pub fn write_over(speeds: &[u32; 8], levels: usize, p: Plan, buffer: &mut [u8]) -> Written
+fn write_over(speeds: &[u32; 8], levels: usize, p: Plan, buffer: &mut [u8]) -> Written
     requires { ⌜ Table (now speeds) levels ⌝ }
     ensures { λ r. ⌜ r ≡ writtenBy
         (firstNo (writing (loaded (now (speeds .entry)) levels) p (length (now (buffer .entry)))))

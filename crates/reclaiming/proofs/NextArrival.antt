@@ -3,30 +3,21 @@
 use Prim.Native.Nat.{ℕ, suc, _+_, _-_, _%_, _≤_, _<_}
 use mathlib.Core.Path.{_≡_, sym, ap, _∙_}
 use mathlib.Core.Bool.{true, false, false≢true}
-use native.Mathlib.Nat.{mod-add-div', mod-lt, mod-add-mod, mod-eq-of-lt, mod-self}
+use native.Mathlib.Nat.{mod-add-div', mod-lt}
 use native.Mathlib.Decide.{decLe}
 use native.Mathlib.Omega.{arith}
 use borrow.Author.Tests.{eq-eqb, ne-eqb}
 use Rattle.arith.specs.Ranges.{someTo}
 use Rattle.arith.proofs.RangeLaws.{Attained, least-at, least-le, least-less, none-no, some-yes}
 use Rattle.schedule.specs.PlainSchedule.{Timing}
-use Rattle.schedule.proofs.Periods.{next-multiple}
+use Rattle.schedule.proofs.Periods.{next-multiple, mod-next, mod-on}
 use Rattle.schedule.proofs.Drain.{Quiet}
 use Rattle.reclaiming.specs.Orders.{nextArrival}
 use Rattle.reclaiming.specs.Passes.{arrivesAt}
 
--- one period: its next multiple after t comes p - t % p ticks later
-module _ (p : ℕ) (positive : 0 < p) (t : ℕ) where
-  next-is : (t + (p - t % p)) % p ≡ 0
-  next-is =
-      let e : t % p + (p - t % p) ≡ p = omega (arith, mod-lt t positive) in
-      sym (mod-add-mod t p (p - t % p)) ∙ ap (λ (x : ℕ). x % p) e ∙ mod-self p
-
-  next-least : (k : ℕ) → 0 < k → (t + k) % p ≡ 0 → p - t % p ≤ k
-  next-least k h e = omega (arith, next-multiple p positive t (t + k) (omega arith) e, mod-add-div' t p)
-
-  mod-on : (k : ℕ) → k < p - t % p → (t + k) % p ≡ t % p + k
-  mod-on k h = sym (mod-add-mod t p k) ∙ mod-eq-of-lt (omega arith)
+-- one period: no multiple after t comes sooner than p - t % p ticks later
+next-least : (p : ℕ) → 0 < p → (t k : ℕ) → 0 < k → (t + k) % p ≡ 0 → p - t % p ≤ k
+next-least p positive t k h e = omega (arith, next-multiple p positive t (t + k) (omega arith) e, mod-add-div' t p)
 
 -- the ticks to the next arrival
 module _ (τ : Timing) (some : 0 < τ .count) (periods : (i : ℕ) → i < τ .count → 0 < τ .period i) (t : ℕ) where
@@ -59,7 +50,7 @@ module _ (τ : Timing) (some : 0 < τ .count) (periods : (i : ℕ) → i < τ .c
       let e : d ≡ τ .period (a .number) - t % τ .period (a .number) = h ∙ a .is in
       some-yes (arrivesAt τ (t + d)) (τ .count) (a .number) (a .below)
       (eq-eqb ((t + d) % τ .period (a .number)) 0
-      (ap (λ (x : ℕ). (t + x) % τ .period (a .number)) e ∙ next-is (τ .period (a .number)) (periods (a .number) (a .below)) t))
+      (ap (λ (x : ℕ). (t + x) % τ .period (a .number)) e ∙ mod-next (τ .period (a .number)) (periods (a .number) (a .below)) t))
 
   pub before-next : (d : ℕ) → 0 < d → d < nextArrival τ t → someTo (τ .count) (arrivesAt τ (t + d)) ≡ false
   before-next d pos h =

@@ -1,9 +1,9 @@
 -- Quotients by a period: how many arrivals there have been.
 -- Assumes nothing.
 use Prim.Native.Nat.{ℕ, zero, suc, _+_, _-_, _*_, _/_, _%_, _≤_, _<_}
-use mathlib.Core.Path.{_≡_, refl, ap, _∙_, subst}
+use mathlib.Core.Path.{_≡_, refl, sym, ap, _∙_, subst}
 use mathlib.Core.Logic.{_≢_}
-use native.Mathlib.Nat.{mod-add-div', mod-lt, le-div-iff-mul-le, lt-of-mul-lt-mul-right, le-of-mul-le-mul-right, mul-le-mul-right, add-zero, add-suc}
+use native.Mathlib.Nat.{mod-add-div', mod-lt, mod-add-mod, mod-eq-of-lt, mod-self, le-div-iff-mul-le, lt-of-mul-lt-mul-right, le-of-mul-le-mul-right, mul-le-mul-right, add-zero, add-suc}
 use native.Mathlib.Decide.{decLe}
 use native.Mathlib.Omega.{arith}
 
@@ -50,6 +50,15 @@ module _ (p : ℕ) (positive : 0 < p) where
   -- a multiple is the greatest one up to itself
   pub multiple-last : (t : ℕ) → t % p ≡ 0 → t / p * p ≡ t
   multiple-last t z = let e : t % p + t / p * p ≡ t = mod-add-div' t p in omega arith
+
+  -- the next one after t comes p - t % p ticks later; ticks that stay short of it add to the remainder
+  pub mod-next : (t : ℕ) → (t + (p - t % p)) % p ≡ 0
+  mod-next t =
+      let e : t % p + (p - t % p) ≡ p = omega (arith, mod-lt t positive) in
+      sym (mod-add-mod t p (p - t % p)) ∙ ap (λ (x : ℕ). x % p) e ∙ mod-self p
+
+  pub mod-on : (t k : ℕ) → k < p - t % p → (t + k) % p ≡ t % p + k
+  mod-on t k h = sym (mod-add-mod t p k) ∙ mod-eq-of-lt (omega arith)
 
   -- the next multiple after t comes a period after the last
   pub next-multiple : (t u : ℕ) → t < u → u % p ≡ 0 → t / p * p + p ≤ u

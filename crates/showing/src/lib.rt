@@ -1,5 +1,5 @@
 // Showing the queue: the tasks that have remaining ticks, most urgent first.
-pub mod ready;
+mod ready;
 
 use crate::ready::ReadyList;
 use crate::ready::ready;

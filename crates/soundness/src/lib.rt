@@ -1,6 +1,6 @@
 // Whether a state block is sound.
-pub mod entries;
-pub mod order;
+mod entries;
+mod order;
 
 use crate::entries::entries_sound;
 use crate::order::order_sound;

@@ -41,7 +41,7 @@ use Rattle.orders.specs.Code.{chosenIn, chosenReply, Enough}
 use Rattle.levels.specs.Code.{loaded}
 use Rattle.levels.proofs.Tables.{Loads}
 use Rattle.starting.specs.Image.{newState}
-use Rattle.starting.proofs.image.MakingLaws.{Listed, count-is}
+use Rattle.plan.proofs.Held.{Ranged, count-is}
 use Rattle.starting.specs.Code.{startNo}
 use Rattle.reclaiming.proofs.Fine.{Fine, nominalSpeed}
 use Rattle.reclaiming.proofs.Plans.{task-range}
@@ -54,7 +54,7 @@ use Rattle.state.proofs.BlockLaws.{count-in, entry-at}
 
 -- a plan that was accepted over a table of speeds, with its nominal level
 pub record Planned (speeds : List ℕ) (p : Plan) (level : ℕ) : Type 0 where
-  pub plan : Listed p
+  pub plan : Ranged p
   pub good : FineList speeds (length (tasksOf p)) (tasksOf p)
   pub level-is : level ≡ nominal speeds (tasksOf p)
 
@@ -66,8 +66,8 @@ pub planned :
     Planned speeds p level
 planned speeds p level size ok e =
     let f : FineList speeds (p .count) (tasksOf p) = fine-list speeds (p .count) (tasksOf p) ok in
-    let l : Listed p = record { places = size; most = f .count-high; ranges = f .tasks .ranges } in
-    record { plan = l; good = subst (λ (n : ℕ). FineList speeds n (tasksOf p)) (sym (count-is l)) f; level-is = e }
+    let l : Ranged p = record { held = record { places = size; most = f .count-high }; ranges = f .tasks .ranges } in
+    record { plan = l; good = subst (λ (n : ℕ). FineList speeds n (tasksOf p)) (sym (count-is (l .held))) f; level-is = e }
 
 pub level-below : {speeds : List ℕ} {p : Plan} {level : ℕ} → Planned speeds p level → level < length speeds
 level-below k = omega (arith, k .level-is, k .good .tasks .admitted)

@@ -1,5 +1,5 @@
 // Starting: a state in which every task of a plan has a new job, with an order chosen in it.
-pub mod image;
+mod image;
 
 use crate::image::fresh;
 use levels::reading::read_levels;

@@ -150,7 +150,7 @@ pub fn rest_at(block: &[u8], i: usize) -> Rest
 }
 
 // How many levels a block has.
-pub fn levels_at(block: &[u8]) -> usize
+pub(crate) fn levels_at(block: &[u8]) -> usize
     requires { ⌜ length (now block) ≡ stateLength ⌝ }
     ensures { λ r. ⌜ r ≡ levelCount (now (block .entry)) ⌝ }
 {
@@ -158,7 +158,7 @@ pub fn levels_at(block: &[u8]) -> usize
 }
 
 // The speed at place k of the table.
-pub fn speed_at(block: &[u8], k: usize) -> u32
+pub(crate) fn speed_at(block: &[u8], k: usize) -> u32
     requires { ⌜ (k < levelPlaces) × (length (now block) ≡ stateLength) ⌝ }
     ensures { λ r. ⌜ (r ≡ speedIn (now (block .entry)) k) × (r ≤ 65535) ⌝ }
 {

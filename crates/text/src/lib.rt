@@ -8,7 +8,7 @@ ghost use Rattle.transcript.specs.Text.{decimalWithin, decimal, spaced};
 ghost use Rattle.text.specs.Stores.{Put};
 
 // Stores one byte.
-pub fn put_byte(out: &mut [u8], at: usize, b: u8) -> usize
+pub(crate) fn put_byte(out: &mut [u8], at: usize, b: u8) -> usize
     requires { ⌜ at + 1 ≤ length (now out) ⌝ }
     ensures { λ r. ⌜ Put 1 (now (out .entry)) at (b ∷ []) r (now (out .exit)) ⌝ }
 {
@@ -17,7 +17,7 @@ pub fn put_byte(out: &mut [u8], at: usize, b: u8) -> usize
 }
 
 // Stores a word.
-pub fn put_word(out: &mut [u8], at: usize, word: &[u8]) -> usize
+pub(crate) fn put_word(out: &mut [u8], at: usize, word: &[u8]) -> usize
     requires { ⌜ (length (now word) ≤ 7) × (at + 7 ≤ length (now out)) ⌝ }
     ensures { λ r. ⌜ Put 7 (now (out .entry)) at (now (word .entry)) r (now (out .exit)) ⌝ }
 {
@@ -46,7 +46,7 @@ fn put_digits(out: &mut [u8], at: usize, more: usize, n: u64) -> usize
 }
 
 // Stores a number in decimal.
-pub fn put_decimal(out: &mut [u8], at: usize, n: u64) -> usize
+pub(crate) fn put_decimal(out: &mut [u8], at: usize, n: u64) -> usize
     requires { ⌜ at + 10 ≤ length (now out) ⌝ }
     ensures { λ r. ⌜ Put 10 (now (out .entry)) at (decimal n) r (now (out .exit)) ⌝ }
 {
@@ -54,7 +54,7 @@ pub fn put_decimal(out: &mut [u8], at: usize, n: u64) -> usize
 }
 
 // Stores a number with a space before it.
-pub fn put_spaced(out: &mut [u8], at: usize, n: u64) -> usize
+pub(crate) fn put_spaced(out: &mut [u8], at: usize, n: u64) -> usize
     requires { ⌜ at + 11 ≤ length (now out) ⌝ }
     ensures { λ r. ⌜ Put 11 (now (out .entry)) at (spaced n) r (now (out .exit)) ⌝ }
 {

@@ -1,6 +1,6 @@
 // What d ticks make of a state, in its bytes.
-pub mod arriving;
-pub mod draining;
+mod arriving;
+mod draining;
 
 use crate::arriving::arrive_if;
 use crate::draining::drain;

@@ -5,7 +5,7 @@ use mathlib.Core.Path.{_≡_, refl, sym, ap, subst, _∙_}
 use mathlib.Core.Bool.{Bool, false}
 use mathlib.Core.List.{List, [], _∷_}
 use mathlib.Core.Logic.{inl}
-use native.Mathlib.Nat.{mod-add-div', mod-lt, mod-add-mod, mod-eq-of-lt, mod-self, div-mul-le-self}
+use native.Mathlib.Nat.{mod-add-div', mod-lt, div-mul-le-self}
 use native.Mathlib.Decide.{ℕ-discrete}
 use native.Mathlib.Omega.{arith}
 use borrow.Author.Tests.{lt-ltb, le-ltb, eq-eqb, ne-eqb}
@@ -17,6 +17,7 @@ use Rattle.arith.proofs.Sums.{sumTo-eq}
 use Rattle.arith.proofs.Tests.{passed, failed, tested, le-yes, le-not, testLe, eq-yes, eq-not, testEq, lex-less, lex-same, lex-more, testLex}
 use Rattle.schedule.specs.PlainSchedule.{Timing, Job, Pending, moreUrgent, enqueue, latest, deadline, queueOf}
 use Rattle.schedule.specs.Feasibility.{In}
+use Rattle.schedule.proofs.Periods.{mod-next, mod-on}
 use Rattle.schedule.proofs.QueueLaws.{latestPending, Stands, queueOf-in}
 use Rattle.schedule.proofs.Ahead.{left-drain}
 use Rattle.reclaiming.specs.StateBlock.{State, remainingOf, places}
@@ -78,15 +79,15 @@ module _ (p c d : ℕ) (pos : 0 < p) (some : 1 ≤ d) (le : d ≤ p - c % p) whe
   module _ (e : c / p * p + p ≡ c + d) where
     reach-mod : (c + d) % p ≡ 0
     reach-mod =
-        let k : c % p + d ≡ p = omega (arith, mod-add-div' c p) in
-        sym (mod-add-mod c p d) ∙ ap (λ (x : ℕ). x % p) k ∙ mod-self p
+        let k : d ≡ p - c % p = omega (arith, mod-add-div' c p) in
+        ap (λ (x : ℕ). (c + x) % p) k ∙ mod-next p pos c
 
     reach-last : (c + d) / p * p ≡ c + d
     reach-last = omega (arith, mod-add-div' (c + d) p, reach-mod)
 
   module _ (ne : c / p * p + p ≡ c + d → ⊥) where
     short-mod : (c + d) % p ≡ c % p + d
-    short-mod = sym (mod-add-mod c p d) ∙ mod-eq-of-lt (omega (arith, mod-add-div' c p, mod-lt c pos))
+    short-mod = mod-on p pos c d (omega (arith, mod-add-div' c p))
 
     short-not : (c + d) % p ≡ 0 → ⊥
     short-not z = omega (arith, short-mod)

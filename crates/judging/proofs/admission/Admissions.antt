@@ -29,11 +29,11 @@ use Rattle.arith.proofs.QuestionLaws.{ask-no, ask-yes}
 use Rattle.arith.proofs.Searches.{first-found, first-next, first-none, first-weaker}
 use Rattle.arith.proofs.Sums.{sumTo-eq, sumOf-taken}
 use Rattle.plan.proofs.Facts.{InRange, span-asked, level-asked}
+use Rattle.plan.proofs.Held.{Ranged, listed, task-at}
 use Rattle.plan.proofs.LevelLaws.{admits-covers}
-use Rattle.plan.proofs.TimeLaws.{time-short}
+use Rattle.plan.proofs.TimeLaws.{task-short}
 use Rattle.levels.specs.Code.{loaded, Table}
 use Rattle.levels.proofs.Tables.{levels-are, speed-is}
-use Rattle.judging.proofs.ranges.TaskRanges.{Ranged, listed, task-at}
 
 -- how many jobs task i has within a span, and the time that so many of its jobs take at a speed
 abbrev pub jobsIn : ℕ → Plan → ℕ → ℕ
@@ -73,8 +73,7 @@ module _ {p : Plan} {jobs : List ℕ} {speed i ticks : ℕ} (a : Added p jobs sp
   pub added-small : ticks * getD jobs i 0 ≤ 1048830000000
   added-small =
       let t : Task = getD (p .tasks) i noTask in
-      let range : InRange t = task-at (a .asked .plan) i (a .below) in
-      let short : ticks ≤ 1048830 = omega (arith, a .needed, time-short speed (whole t) (a .asked .positive), range .worst-high, range .fixed-high) in
+      let short : ticks ≤ 1048830 = omega (arith, a .needed, task-short speed t (a .asked .positive) (task-at (a .asked .plan) i (a .below))) in
       mul-le-mul short (a .asked .few i (a .below))
 
   pub summed-more : {total : ℕ} → Summed p jobs speed total i → Summed p jobs speed (total + ticks * getD jobs i 0) (i + 1)

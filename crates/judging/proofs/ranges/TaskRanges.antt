@@ -7,7 +7,7 @@ use mathlib.Core.List.{_∷_}
 use native.Mathlib.Omega.{arith}
 use borrow.Author.Tests.{le-leb, lt-leb}
 use lib.Dec.{leb}
-use lib.ListN.{length, getD, drop}
+use lib.ListN.{getD, drop}
 use Rattle.arith.specs.Choice.{every}
 use Rattle.arith.specs.Divisor.{lcm}
 use Rattle.plan.specs.declared.Task.{Task}
@@ -15,9 +15,9 @@ use Rattle.plan.specs.declared.Plan.{Plan}
 use Rattle.plan.specs.Levels.{hyperperiod}
 use Rattle.plan.specs.Blocks.{noTask, tasksOf}
 use Rattle.plan.specs.Questions.{inRange}
-use Rattle.arith.proofs.Loops.{rest-cons, rest-end, every-taken, every-again, every-not, every-end}
+use Rattle.arith.proofs.Loops.{rest-cons, rest-end, every-again, every-not, every-end}
 use Rattle.arith.proofs.Tests.{both-false}
-use Rattle.plan.proofs.Facts.{InRange, in-range, length-tasksOf}
+use Rattle.plan.proofs.Held.{Held, Ranged, listed}
 use Rattle.plan.proofs.LevelLaws.{hyperperiod-drop, range-positive}
 
 pub period-low : (t : Task) → t .period < 1 → false ≡ inRange t
@@ -37,17 +37,6 @@ pub fixed-high :
 fixed-high t a b l h =
     simp (le-leb 1 (t .period) a, le-leb (t .period) 65535 b, le-leb 1 (t .worst) l, le-leb (t .worst) 1048575 h)
 
--- a plan as the code holds it
-pub record Held (p : Plan) : Type 0 where
-  pub places : length (p .tasks) ≡ 16
-  pub most : p .count ≤ 16
-
-pub listed : {p : Plan} → Held p → p .count ≤ length (p .tasks)
-listed h = omega arith
-
-pub count-is : {p : Plan} → Held p → length (tasksOf p) ≡ p .count
-count-is {p} h = length-tasksOf p (h .places) (h .most)
-
 -- the loop that tests the ranges: the tasks before i are in range
 pub record Scanned (p : Plan) (i : ℕ) : Type 0 where
   pub within : i ≤ p .count
@@ -63,16 +52,6 @@ module _ {p : Plan} {i : ℕ} (held : Held p) (at : Scanned p i) where
 
   pub scanned-all : p .count ≤ i → true ≡ every inRange (tasksOf p)
   scanned-all h = every-end inRange (p .tasks) (p .count) noTask (listed held) i (omega arith) (at .rest)
-
--- a plan whose tasks are in range
-pub record Ranged (p : Plan) : Type 0 where
-  pub held : Held p
-  pub ranges : every inRange (tasksOf p) ≡ true
-
-pub task-at : {p : Plan} → Ranged p → (i : ℕ) → i < p .count → InRange (getD (p .tasks) i noTask)
-task-at {p} plan i h =
-    in-range (getD (p .tasks) i noTask)
-    (every-taken inRange (p .tasks) (p .count) noTask (listed (plan .held)) (plan .ranges) i h)
 
 -- the loop that takes the periods in counts down: h is the hyperperiod of the tasks from i on
 pub record Spanned (p : Plan) (i h : ℕ) : Type 0 where

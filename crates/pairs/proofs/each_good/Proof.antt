@@ -8,7 +8,7 @@ use borrow.Author.Tests.{not-true, not-false}
 use lib.ListN.{length}
 use Rattle.arith.proofs.Loops.{length-mapped}
 use Rattle.plan.specs.Pairs.{Pair}
-use Rattle.judging.proofs.ranges.TaskRanges.{Ranged, task-at}
+use Rattle.plan.proofs.Held.{Ranged, task-at}
 use Rattle.pairs.proofs.PairSteps.{pairAt, Looked, second-there, no-earlier, no-later, by-periods, looked-not, looked-more, looked-all}
 use Rattle.pairs.proofs.each_good.Statement.{statement}
 use Rattle.pairs.proofs.each_good.Tie as tie

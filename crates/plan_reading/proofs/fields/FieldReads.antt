@@ -17,7 +17,7 @@ use Rattle.plan.specs.declared.Plan.{Plan}
 use Rattle.plan.specs.Blocks.{widthsBy, taskWidths, taskOf, spareOf, taskWidth, bitCount, taskFrom, tasksFrom}
 use Rattle.plan.specs.Blocks.{sparesFrom, addsNothing, editionBy, editionOf, tasksOf, planOf, noTask}
 use Rattle.arith.specs.Asking.{within}
-use Rattle.judging.proofs.ranges.TaskRanges.{Held, listed}
+use Rattle.plan.proofs.Held.{Held, listed}
 use Rattle.judging.proofs.verdicts.Judgements.{Filled, filled-all}
 use Rattle.arith.proofs.Loops.{every-again, every-not, every-end}
 use Rattle.plan.proofs.BlockBits.{bitCount-more, length-tasksFrom, tasksFrom-at}

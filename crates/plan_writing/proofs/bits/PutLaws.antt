@@ -13,7 +13,7 @@ use Rattle.plan.specs.declared.Task.{Task}
 use Rattle.plan.specs.declared.Plan.{Plan}
 use Rattle.plan.specs.Blocks.{taskWidth, bitCount, planBits, editionOf, planBlock, blockLength, tasksOf, noTask}
 use Rattle.plan.specs.Answers.{storedBy}
-use Rattle.judging.proofs.ranges.TaskRanges.{Held, count-is}
+use Rattle.plan.proofs.Held.{Held, count-is}
 use Rattle.plan.proofs.BlockBits.{planBits-edition, planBits-count, planBits-period, planBits-worst, planBits-fixed, planBits-spare, planBits-past}
 use Rattle.plan.proofs.BlockBits.{width-least, bitCount-mono, length-planBlock, planBlock-at}
 

@@ -6,7 +6,7 @@ use mathlib.Core.List.{List}
 use borrow.Author.Needs.{needs}
 use Rattle.levels.specs.Code.{loaded}
 use Rattle.arith.proofs.Loops.{length-mapped}
-use Rattle.judging.proofs.ranges.TaskRanges.{Held}
+use Rattle.plan.proofs.Held.{Held}
 use Rattle.plan_writing.proofs.bits.PutLaws.{planBlock-length}
 use Rattle.plan_writing.proofs.WriteLaws.{Rated, Wanted, rated-fine, wrote-low, wrote-high, wrote-refused, wrote-short, wrote-block}
 use Rattle.plan_writing.proofs.write_over.Statement.{statement}

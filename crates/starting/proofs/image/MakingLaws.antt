@@ -1,14 +1,12 @@
 -- The image in which every task has a new job, made entry by entry.
 -- Assumes nothing.
 use Prim.Native.Nat.{ℕ, _+_, _*_, _<_, _≤_}
-use mathlib.Core.Path.{_≡_, refl, sym, subst, ap, ap₂, _∙_}
-use mathlib.Core.Bool.{true}
+use mathlib.Core.Path.{_≡_, refl, sym, ap, ap₂, _∙_}
 use mathlib.Core.List.{List, _++_, append-assoc}
 use native.Mathlib.Numerals.{add-one}
 use native.Mathlib.Omega.{arith}
 use lib.ListN.{length, getD, replicate}
 use lib.Seq.{sets, getD-take}
-use Rattle.arith.specs.Choice.{every}
 use Rattle.arith.specs.Sum.{sumTo}
 use Rattle.arith.proofs.Sums.{sumTo-eq}
 use Rattle.plan.specs.declared.Task.{Task}
@@ -16,9 +14,8 @@ use Rattle.plan.specs.declared.Rest.{Rest}
 use Rattle.plan.specs.declared.Plan.{Plan}
 use Rattle.plan.specs.Times.{whole, taskTime}
 use Rattle.plan.specs.Blocks.{noTask, tasksOf}
-use Rattle.plan.specs.Questions.{inRange}
-use Rattle.plan.proofs.TimeLaws.{time-short}
-use Rattle.plan.proofs.Facts.{InRange, range-at, length-tasksOf}
+use Rattle.plan.proofs.TimeLaws.{task-short}
+use Rattle.plan.proofs.Held.{Ranged, count-is, task-at}
 use Rattle.reclaiming.specs.declared.Entry.{Entry}
 use Rattle.reclaiming.specs.StateBlock.{headFields, tailFields, endFields, tailAt, entryLength, State, noEntry, entryWith, entryBytes, timingAt, taskField, countField, stateLength, encode, places}
 use Rattle.reclaiming.specs.Fields.{fieldsBytes, fieldsLength}
@@ -31,20 +28,6 @@ use Rattle.reclaiming.proofs.Soundness.{queued-places}
 use Rattle.arith.proofs.RangeLaws.{length-listTo, getD-listTo}
 use Rattle.state.proofs.BlockLaws.{storedTo, stored-size, stored-more, stored-all, store-total}
 
--- a plan as the code holds it, its tasks in range
-pub record Listed (p : Plan) : Type 0 where
-  pub places : length (p .tasks) ≡ 16
-  pub most : p .count ≤ 16
-  pub ranges : every inRange (tasksOf p) ≡ true
-
-module _ {p : Plan} (plan : Listed p) where
-  pub count-is : length (tasksOf p) ≡ p .count
-  count-is = length-tasksOf p (plan .places) (plan .most)
-
-  pub task-at : (i : ℕ) → i < p .count → InRange (getD (p .tasks) i noTask)
-  task-at i h =
-      subst InRange (getD-take (p .count) (p .tasks) i noTask h) (range-at (tasksOf p) i (plan .ranges) (omega (arith, count-is)))
-
 -- the state on its way there: its total is not stored yet
 abbrev unsummed : List ℕ → ℕ → Plan → State
 unsummed speeds speed p = withTotal (newState speeds speed (tasksOf p)) 0
@@ -55,19 +38,19 @@ allotmentOf speed p i = taskTime speed (getD (tasksOf p) i noTask)
 
 -- an image on its way: its first i entries are stored, and their allotments summed
 pub record Making (speeds : List ℕ) (speed : ℕ) (p : Plan) (image : List ℕ) (total i : ℕ) : Type 0 where
-  pub plan : Listed p
+  pub plan : Ranged p
   pub below : i ≤ p .count
   pub size : length image ≡ stateLength
   pub bytes : image ≡ storedTo (unsummed speeds speed p) i
   pub sums : total ≡ sumTo i (allotmentOf speed p)
   pub small : total ≤ 1048830 * i
 
-module _ (speeds : List ℕ) (speed : ℕ) {p : Plan} (plan : Listed p) where
+module _ (speeds : List ℕ) (speed : ℕ) {p : Plan} (plan : Ranged p) where
   abbrev made : List Entry
   made = newState speeds speed (tasksOf p) .entries
 
   made-are : length made ≡ p .count
-  made-are = length-listTo (length (tasksOf p)) (newEntry (timingAt speed (tasksOf p)) (tasksOf p)) ∙ count-is plan
+  made-are = length-listTo (length (tasksOf p)) (newEntry (timingAt speed (tasksOf p)) (tasksOf p)) ∙ count-is (plan .held)
 
   making :
       (i : ℕ) (image : List ℕ) (total : ℕ) →
@@ -79,7 +62,7 @@ module _ (speeds : List ℕ) (speed : ℕ) {p : Plan} (plan : Listed p) where
   making i image total h e f small = record {
     plan = plan;
     below = h;
-    size = ap length e ∙ stored-size (unsummed speeds speed p) i (omega (arith, plan .most)) (omega (arith, made-are));
+    size = ap length e ∙ stored-size (unsummed speeds speed p) i (omega (arith, plan .held .most)) (omega (arith, made-are));
     bytes = e;
     sums = f;
     small = small;
@@ -108,8 +91,7 @@ module _ {speeds : List ℕ} {speed : ℕ} {p : Plan} {image : List ℕ} {total 
   -- task i's allotment is short of what is left of a number of 32 bits
   pub ticks-small : i < p .count → 0 < speed → {ticks : ℕ} → ticks ≡ taskTime speed (getD (p .tasks) i noTask) → ticks ≤ 1048830
   ticks-small h fast e =
-      let range : InRange (getD (p .tasks) i noTask) = task-at (so-far .plan) i h in
-      omega (arith, e, time-short speed (whole (getD (p .tasks) i noTask)) fast, range .worst-high, range .fixed-high)
+      omega (arith, e, task-short speed (getD (p .tasks) i noTask) fast (task-at (so-far .plan) i h))
 
   pub making-more :
       {rest : Rest} {ticks : ℕ} {m : List ℕ} →
@@ -127,9 +109,9 @@ module _ {speeds : List ℕ} {speed : ℕ} {p : Plan} {image : List ℕ} {total 
       let rest-is : rest ≡ whole (getD ts i noTask) = full ∙ ap whole same in
       let ticks-is : ticks ≡ taskTime speed (getD ts i noTask) = e ∙ ap (taskTime speed) same in
       let new : entryWith (getD (p .tasks) i noTask) rest ticks ≡ f i = λ j. entryWith (same j) (rest-is j) (ticks-is j) in
-      let at : f i ≡ getD es i noEntry = sym (getD-listTo (length ts) f i noEntry (omega (arith, count-is (so-far .plan)))) in
+      let at : f i ≡ getD es i noEntry = sym (getD-listTo (length ts) f i noEntry (omega (arith, count-is (so-far .plan .held)))) in
       making speeds speed (so-far .plan) (i + 1) m (total + ticks) (omega arith)
-      (stored-more (unsummed speeds speed p) i image m (omega (arith, so-far .plan .most)) (omega (arith, made-are speeds speed (so-far .plan))) (so-far .bytes)
+      (stored-more (unsummed speeds speed p) i image m (omega (arith, so-far .plan .held .most)) (omega (arith, made-are speeds speed (so-far .plan))) (so-far .bytes)
       (s ∙ ap (λ (x : Entry). sets image (entryAt i) (entryBytes x)) (new ∙ at)))
       (ap₂ _+_ (so-far .sums) ticks-is ∙ ap (λ (n : ℕ). sumTo n (allotmentOf speed p)) (sym (add-one i)))
       (omega (arith, so-far .small, ticks-small h fast e))
@@ -140,7 +122,7 @@ module _ {speeds : List ℕ} {speed : ℕ} {p : Plan} {image : List ℕ} {total 
       let ts : List Task = tasksOf p in
       let es : List Entry = made speeds speed (so-far .plan) in
       so-far .sums
-      ∙ ap (λ (n : ℕ). sumTo n (allotmentOf speed p)) (e ∙ sym (count-is (so-far .plan)))
+      ∙ ap (λ (n : ℕ). sumTo n (allotmentOf speed p)) (e ∙ sym (count-is (so-far .plan .held)))
       ∙ sumTo-eq (length ts) (allotmentOf speed p) (λ j. getD es j noEntry .remaining)
       (λ j h. ap (λ (x : Entry). x .remaining) (sym (getD-listTo (length ts) (newEntry (timingAt speed ts) ts) j noEntry h)))
       ∙ sym (queued-places (newState speeds speed ts) (length-listTo (length ts) (newEntry (timingAt speed ts) ts)))
@@ -152,4 +134,4 @@ module _ {speeds : List ℕ} {speed : ℕ} {p : Plan} {image : List ℕ} {total 
       let all : length (N .entries) ≡ p .count = made-are speeds speed (so-far .plan) in
       e
       ∙ ap₂ totalStored (so-far .bytes ∙ stored-all N i (omega (arith, all))) (all-summed n)
-      ∙ store-total N (newState speeds speed (tasksOf p) .total) (omega (arith, all, so-far .plan .most))
+      ∙ store-total N (newState speeds speed (tasksOf p) .total) (omega (arith, all, so-far .plan .held .most))

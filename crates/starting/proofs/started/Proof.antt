@@ -11,7 +11,7 @@ use Rattle.plan.specs.Blocks.{tasksOf}
 use Rattle.levels.specs.Code.{loaded}
 use Rattle.state.proofs.tables.TableLaws.{table-stored}
 use Rattle.levels.proofs.Tables.{levels-are, speed-is, speed-positive, speed-most}
-use Rattle.starting.proofs.image.MakingLaws.{count-is}
+use Rattle.plan.proofs.Held.{count-is}
 use Rattle.starting.proofs.StartLaws.{left-short, Planned, planned, level-below, Newly, newly, new-size, new-periods, new-ready, new-left}
 use Rattle.starting.proofs.started.Statement.{statement}
 use Rattle.starting.proofs.started.Tie as tie
@@ -62,7 +62,7 @@ fresh-requires c κs =
     let k = accepted s in (
       (s .pre .0 .0 .few, s .pre .0 .1),
       (
-        k .plan .most,
+        k .plan .held .most,
         k .plan .ranges,
         speed-positive (s .pre .0 .0) (s .args .highest) (below s),
         speed-most (s .pre .0 .0) (s .args .highest) (below s),
@@ -75,8 +75,8 @@ slice-aggregate-keys-of c = search needs
 keys-of-requires : tie.Need-keys-of-requires
 keys-of-requires c κs =
     let k = accepted (start (c .before)) in (
-      (k .plan .most, new-size (new (c .before)), omega arith),
-      λ i h. new-periods (new (c .before)) i (omega (arith, count-is (k .plan))),
+      (k .plan .held .most, new-size (new (c .before)), omega arith),
+      λ i h. new-periods (new (c .before)) i (omega (arith, count-is (k .plan .held))),
     )
 
 slice-aggregate-choose : tie.Need-slice-aggregate-choose
@@ -85,7 +85,7 @@ slice-aggregate-choose c = search needs
 choose-requires : tie.Need-choose-requires
 choose-requires c κs =
     let s : tie.Start = start (fresh c) in
-    let r = new-ready (new (fresh c)) (sym (count-is (accepted s .plan))) (c .before .before .keys-of .ensures) (s .args .highest) (s .pre .1 .1) in
+    let r = new-ready (new (fresh c)) (sym (count-is (accepted s .plan .held))) (c .before .before .keys-of .ensures) (s .args .highest) (s .pre .1 .1) in
     ((s .pre .0 .0, r .0 .0, r .0 .1, r .0 .2), r .1)
 
 slice-aggregate-store : tie.Need-slice-aggregate-store

@@ -16,7 +16,7 @@ use lib.Seq.{drop-cons, drop-drop, drop-length, drop-at, getD-take, length-take-
 use Rattle.arith.specs.Choice.{both, every}
 use Rattle.arith.specs.Sum.{sumOf}
 use Rattle.arith.specs.Digits.{number, digits}
-use Rattle.arith.proofs.Tests.{same-test}
+use Rattle.arith.proofs.Tests.{same-test, both-yes}
 use Rattle.arith.proofs.DigitLaws.{length-digits, number-digits, digits-number}
 use Rattle.reclaiming.specs.Fields.{Field, field, zeros, fieldsBytes, fieldsLength, offsetOf, readField}
 use Rattle.reclaiming.specs.StateBlock.{State, headFields, zeroField, entryFields, tailFields, endFields, places, headLength, entryLength, tailAt, stateLength}
@@ -26,11 +26,7 @@ use Rattle.reclaiming.proofs.StateCodec.{pastHead, speed-back, length-entriesFr
 use Rattle.state.proofs.TailLaws.{levels-in, speed-small, speeds-same, same-unused}
 use Rattle.state.proofs.BlockLaws.{count-in, byte-field, bytes-past}
 
--- two tests, of which the second passes, or of which there are three
-both-yes : (b : Bool) → both b true ≡ b
-both-yes true = refl
-both-yes false = refl
-
+-- three tests, in two ways
 both-assoc : (a b c : Bool) → both a (both b c) ≡ both (both a b) c
 both-assoc true b c = refl
 both-assoc false b c = refl

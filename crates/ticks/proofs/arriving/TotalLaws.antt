@@ -56,8 +56,8 @@ module _ {count speed : ℕ} {found m : List ℕ} {total i : ℕ} (now : Countin
     old-within = omega (arith, now .sums, sumTo-term count (remainingIn m) i h)
 
     -- and its allotment is short
-    pub time-short : taskTime speed (taskOf (entryIn m i)) ≤ 65535
-    time-short = subst (λ (e : Entry). taskTime speed (taskOf e) ≤ 65535) (sym (now .same i (omega arith))) (now .allots i h)
+    pub allotment-short : taskTime speed (taskOf (entryIn m i)) ≤ 65535
+    allotment-short = subst (λ (e : Entry). taskTime speed (taskOf e) ≤ 65535) (sym (now .same i (omega arith))) (now .allots i h)
 
     -- task i has a new job: its allotment takes the place of what the entry had
     pub count-new :
@@ -69,7 +69,7 @@ module _ {count speed : ℕ} {found m : List ℕ} {total i : ℕ} (now : Countin
         Counting count speed found o r (i + 1)
     count-new few size {o} {r} e f =
         let there : entryIn o i .remaining ≡ taskTime speed (taskOf (entryIn m i)) =
-        ap (λ (l : List ℕ). entryIn l i .remaining) e ∙ renewed-there m i speed few size time-short in
+        ap (λ (l : List ℕ). entryIn l i .remaining) e ∙ renewed-there m i speed few size allotment-short in
         let else : (j : ℕ) → (j ≡ i → ⊥) → entryIn o j ≡ entryIn m j = λ j z. ap (λ (l : List ℕ). entryIn l j) e ∙ renewed-else m i speed j z in
         record {
           allots = now .allots;
@@ -82,6 +82,6 @@ module _ {count speed : ℕ} {found m : List ℕ} {total i : ℕ} (now : Countin
                 there,
                 sumTo-but count (remainingIn m) (remainingIn o) i h (λ j l z. ap (λ (x : Entry). x .remaining) (else j z)),
               );
-          most = omega (arith, f, now .most, time-short);
+          most = omega (arith, f, now .most, allotment-short);
           same = λ j l. else j (λ z. omega (arith, z)) ∙ now .same j (omega arith);
         }

@@ -5,7 +5,7 @@ use mathlib.Core.Path.{refl}
 use native.Mathlib.Omega.{arith}
 use borrow.Author.Needs.{needs}
 use Rattle.arith.proofs.Loops.{length-mapped}
-use Rattle.judging.proofs.ranges.TaskRanges.{task-at}
+use Rattle.plan.proofs.Held.{task-at}
 use Rattle.judging.proofs.admission.Admissions.{Asked, Added, Summed, added-small, summed-more, summed-all}
 use Rattle.judging.proofs.admission.demand.Statement.{statement}
 use Rattle.judging.proofs.admission.demand.Tie as tie

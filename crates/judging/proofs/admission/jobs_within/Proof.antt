@@ -8,7 +8,7 @@ use Rattle.arith.specs.Arrays.{padded}
 use Rattle.arith.specs.Ranges.{listTo}
 use Rattle.arith.proofs.ArrayLaws.{padded-none, values-more}
 use Rattle.arith.proofs.Loops.{length-mapped}
-use Rattle.judging.proofs.ranges.TaskRanges.{Ranged, task-at}
+use Rattle.plan.proofs.Held.{Ranged, task-at}
 use Rattle.judging.proofs.admission.Admissions.{jobsIn}
 use Rattle.judging.proofs.admission.jobs_within.Statement.{statement}
 use Rattle.judging.proofs.admission.jobs_within.Tie as tie

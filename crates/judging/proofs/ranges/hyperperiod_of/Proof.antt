@@ -4,7 +4,8 @@ use Prim.Native.Nat.{_-_}
 use native.Mathlib.Omega.{arith}
 use borrow.Author.Needs.{needs}
 use Rattle.arith.proofs.Loops.{length-mapped}
-use Rattle.judging.proofs.ranges.TaskRanges.{Ranged, Spanned, Widened, task-at, spanned-none, spanned-more, spanned-over, spanned-all}
+use Rattle.plan.proofs.Held.{Ranged, task-at}
+use Rattle.judging.proofs.ranges.TaskRanges.{Spanned, Widened, spanned-none, spanned-more, spanned-over, spanned-all}
 use Rattle.judging.proofs.ranges.hyperperiod_of.Statement.{statement}
 use Rattle.judging.proofs.ranges.hyperperiod_of.Tie as tie
 

@@ -6,7 +6,8 @@ use native.Mathlib.Omega.{arith}
 use borrow.Author.Needs.{needs}
 use borrow.Author.Tests.{not-true, not-false}
 use Rattle.arith.proofs.Loops.{length-mapped}
-use Rattle.judging.proofs.ranges.TaskRanges.{Held, Scanned, scanned-more, scanned-not, scanned-all}
+use Rattle.plan.proofs.Held.{Held}
+use Rattle.judging.proofs.ranges.TaskRanges.{Scanned, scanned-more, scanned-not, scanned-all}
 use Rattle.judging.proofs.ranges.in_range.Statement.{statement}
 use Rattle.judging.proofs.ranges.in_range.Tie as tie
 

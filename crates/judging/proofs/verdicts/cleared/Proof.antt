@@ -6,7 +6,7 @@ use native.Mathlib.Omega.{arith}
 use borrow.Author.Needs.{needs}
 use Rattle.plan.specs.declared.Plan.{Plan}
 use Rattle.arith.proofs.Loops.{length-mapped}
-use Rattle.judging.proofs.ranges.TaskRanges.{Held, listed}
+use Rattle.plan.proofs.Held.{Held, listed}
 use Rattle.judging.proofs.verdicts.Judgements.{Filled, filled-more, filled-all}
 use Rattle.judging.proofs.verdicts.cleared.Statement.{statement}
 use Rattle.judging.proofs.verdicts.cleared.Tie as tie

@@ -1,4 +1,4 @@
--- `list::kilmstra_judge_list` meets its contract, by the walk of `Passing`: the list is gathered, and the plan judged over the level block, with the verdict as one number.
+-- `lists::kilmstra_judge_list` meets its contract, by the walk of `Passing`: the list is gathered, and the plan judged over the level block, with the verdict as one number.
 -- Assumes nothing.
 use Prim.Native.Nat.{ℕ}
 use mathlib.Core.Path.{_≡_, refl, ap, subst}

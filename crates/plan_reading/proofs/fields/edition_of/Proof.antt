@@ -5,7 +5,7 @@ use mathlib.Core.Path.{refl}
 use native.Mathlib.Omega.{arith}
 use borrow.Author.Needs.{needs}
 use Rattle.arith.proofs.Loops.{length-mapped}
-use Rattle.judging.proofs.ranges.TaskRanges.{Held}
+use Rattle.plan.proofs.Held.{Held}
 use Rattle.plan_reading.proofs.fields.FieldReads.{Plain, plain-more, plain-not, plain-all}
 use Rattle.plan_reading.proofs.fields.edition_of.Statement.{statement}
 use Rattle.plan_reading.proofs.fields.edition_of.Tie as tie

@@ -3,7 +3,7 @@
 use borrow.Author.Needs.{needs}
 use Rattle.plan.specs.Blocks.{tasksOf}
 use Rattle.arith.proofs.Loops.{length-mapped}
-use Rattle.judging.proofs.ranges.TaskRanges.{Held}
+use Rattle.plan.proofs.Held.{Held}
 use Rattle.plan_writing.proofs.bits.PutLaws.{bit-edition, bit-count}
 use Rattle.plan_writing.proofs.bits.plan_bit.Statement.{statement}
 use Rattle.plan_writing.proofs.bits.plan_bit.Tie as tie

@@ -8,7 +8,7 @@ use lib.ListN.{length}
 use Rattle.plan.specs.Blocks.{tasksOf, planBlock}
 use Rattle.arith.proofs.Loops.{length-mapped}
 use Rattle.plan.proofs.BlockBits.{blockLength-most}
-use Rattle.judging.proofs.ranges.TaskRanges.{Held}
+use Rattle.plan.proofs.Held.{Held}
 use Rattle.plan_writing.proofs.bits.PutLaws.{Stored, planBlock-length, planBlock-byte, stored-none, stored-more, stored-all}
 use Rattle.plan_writing.proofs.bits.put_block.Statement.{statement}
 use Rattle.plan_writing.proofs.bits.put_block.Tie as tie

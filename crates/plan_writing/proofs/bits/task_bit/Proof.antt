@@ -6,7 +6,7 @@ use borrow.Author.Needs.{needs}
 use Rattle.arith.proofs.Loops.{length-mapped}
 use Rattle.plan.specs.Blocks.{taskWidth}
 use Rattle.plan.proofs.BlockBits.{width-least}
-use Rattle.judging.proofs.ranges.TaskRanges.{Held}
+use Rattle.plan.proofs.Held.{Held}
 use Rattle.plan_writing.proofs.bits.PutLaws.{AtTask, at-task, rest-below, bit-past, bit-period, bit-worst, bit-fixed, bit-spare}
 use Rattle.plan_writing.proofs.bits.task_bit.Statement.{statement}
 use Rattle.plan_writing.proofs.bits.task_bit.Tie as tie

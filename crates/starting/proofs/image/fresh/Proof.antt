@@ -7,7 +7,8 @@ use borrow.Author.Needs.{needs}
 use lib.ListN.{length}
 use Rattle.arith.proofs.Loops.{length-mapped}
 use Rattle.levels.specs.Code.{loaded}
-use Rattle.starting.proofs.image.MakingLaws.{Making, task-at, making-none, ticks-small, making-more, making-all}
+use Rattle.plan.proofs.Held.{task-at}
+use Rattle.starting.proofs.image.MakingLaws.{Making, making-none, ticks-small, making-more, making-all}
 use Rattle.starting.proofs.image.fresh.Statement.{statement}
 use Rattle.starting.proofs.image.fresh.Tie as tie
 
@@ -27,14 +28,14 @@ loop-holds : tie.Need-loop-holds Inv-loop μ-loop
 loop-holds c =
     let s : tie.Start Inv-loop μ-loop = c .before in
     making-none (loaded (s .args .speeds .now) (s .args .levels)) (s .args .speed)
-    (record { places = size s; most = s .pre .1 .0; ranges = s .pre .1 .1 })
+    (record { held = record { places = size s; most = s .pre .1 .0 }; ranges = s .pre .1 .1 })
     (c .blank .ensures)
 
 mul-t : tie.Need-mul-t Inv-loop μ-loop
-mul-t c = omega (arith, c .before .loop .inv .plan .most)
+mul-t c = omega (arith, c .before .loop .inv .plan .held .most)
 
 element-copy-out-t : tie.Need-element-copy-out-t Inv-loop μ-loop
-element-copy-out-t c = omega (arith, c .before .loop .inv .plan .most)
+element-copy-out-t c = omega (arith, c .before .loop .inv .plan .held .most)
 
 whole-of-requires : tie.Need-whole-of-requires Inv-loop μ-loop
 whole-of-requires c κs = search needs
@@ -52,14 +53,14 @@ slice-aggregate-put-entry c = search needs
 put-entry-requires : tie.Need-put-entry-requires Inv-loop μ-loop
 put-entry-requires c κs =
     let turn : tie.In-loop Inv-loop μ-loop = c .before .before .before .before in
-    (omega (arith, turn .before .loop .inv .plan .most), turn .before .loop .inv .size)
+    (omega (arith, turn .before .loop .inv .plan .held .most), turn .before .loop .inv .size)
 
 add-total : tie.Need-add-total Inv-loop μ-loop
 add-total c =
     let timed : tie.After-task-time Inv-loop μ-loop = c .before .before .before in
     let turn : tie.In-loop Inv-loop μ-loop = timed .before .before .before in
     let now = turn .before .loop .inv in
-    omega (arith, now .small, now .plan .most, ticks-small now (turn .loop-test .taken) (turn .before .before .before .pre .1 .2) (timed .task-time .ensures))
+    omega (arith, now .small, now .plan .held .most, ticks-small now (turn .loop-test .taken) (turn .before .before .before .pre .1 .2) (timed .task-time .ensures))
 
 add-i : tie.Need-add-i Inv-loop μ-loop
 add-i c = omega arith

@@ -6,7 +6,7 @@ use mathlib.Core.Logic.{⊎-elim}
 use native.Mathlib.Omega.{arith}
 use borrow.Author.Needs.{needs}
 use Rattle.ticks.proofs.arriving.ArriveLaws.{Arriving, arrive-none, arrive-old, arrive-new, arrive-all}
-use Rattle.ticks.proofs.arriving.TotalLaws.{Counting, count-old, count-new, old-within, time-short}
+use Rattle.ticks.proofs.arriving.TotalLaws.{Counting, count-old, count-new, old-within, allotment-short}
 use Rattle.ticks.proofs.arriving.arrive.Statement.{statement}
 use Rattle.ticks.proofs.arriving.arrive.Tie as tie
 
@@ -39,7 +39,7 @@ renew-requires c κs =
     let now = turn .before .loop .inv in
     let s : tie.Start Inv-loop μ-loop = turn .before .before .before in (
       (omega (arith, now .0 .few, turn .loop-test .taken), now .0 .size, s .pre .0 .2, s .pre .0 .3),
-      (old-within (now .1) (turn .loop-test .taken), omega (arith, now .1 .most, now .0 .few, turn .loop-test .taken), time-short (now .1) (turn .loop-test .taken)),
+      (old-within (now .1) (turn .loop-test .taken), omega (arith, now .1 .most, now .0 .few, turn .loop-test .taken), allotment-short (now .1) (turn .loop-test .taken)),
     )
 
 add-i : tie.Need-add-i Inv-loop μ-loop
