@@ -142,7 +142,7 @@ static void put_bits(uint8_t *block, size_t *bits, uint32_t number, int width)
 
 /* Packs the level block: the count, then the speeds. The bits that fill up its last byte are zero
  * already. Says how many bytes it has. A firmware may as well hold the bytes that are printed. */
-static size_t pack_levels(uint8_t *block)
+static uint64_t pack_levels(uint8_t *block)
 {
     size_t bits = 0;
     put_bits(block, &bits, LEVELS, 4);
@@ -152,7 +152,7 @@ static size_t pack_levels(uint8_t *block)
     return (bits + 7) / 8;
 }
 
-static void print_levels(const uint8_t *block, size_t length)
+static void print_levels(const uint8_t *block, uint64_t length)
 {
     printf("levels %u:", kilmstra_level_count(accepted(kilmstra_levels_read(block, length))));
     for (size_t at = 0; at < length; at++) {
@@ -162,7 +162,7 @@ static void print_levels(const uint8_t *block, size_t length)
 }
 
 /* Asks as a fitter would, who has the plan and its pairs but does not start them. */
-static void print_pairs(const uint8_t *levels, size_t size, const uint8_t *block, size_t length)
+static void print_pairs(const uint8_t *levels, uint64_t size, const uint8_t *block, uint64_t length)
 {
     uint64_t asked = accepted(kilmstra_pairs(levels, size, block, length, pairs, sizeof pairs));
     printf("pairs %u\n", kilmstra_pair_count(asked));
@@ -171,12 +171,12 @@ static void print_pairs(const uint8_t *levels, size_t size, const uint8_t *block
 static uint64_t start(void)
 {
     uint8_t levels[KILMSTRA_LEVEL_BLOCK_BYTES] = {0};
-    size_t size = pack_levels(levels);
+    uint64_t size = pack_levels(levels);
     print_levels(levels, size);
     uint8_t block[KILMSTRA_BLOCK_BYTES];
     uint64_t written = accepted(
         kilmstra_plan_write(levels, size, TASKS, plan, NUMBERS * TASKS, block, sizeof block));
-    size_t length = kilmstra_byte_count(written);
+    uint64_t length = kilmstra_byte_count(written);
     uint64_t judged = accepted(kilmstra_plan_read(levels, size, block, length));
     printf("plan %d %u %lu\n", TASKS, kilmstra_nominal_level(judged),
            (unsigned long)kilmstra_hyperperiod(judged));
@@ -201,7 +201,7 @@ static uint64_t follow(uint64_t order)
 static void print_queue(void)
 {
     uint8_t queue[KILMSTRA_QUEUE_BYTES];
-    size_t length = kilmstra_byte_count(
+    uint64_t length = kilmstra_byte_count(
         accepted(kilmstra_show(state, sizeof state, queue, sizeof queue)));
     printf("queue");
     for (size_t at = 0; at < length; at += 3) {

@@ -43,13 +43,12 @@
  *   what another lends to the same call. Nothing else is asked of the caller: every length and
  *   every content gets an answer.
  *
- * The archive is for x86-64. All that it may want of a C library is memcpy, memmove, memset and
- * memcmp. */
+ * A length or a count has 64 bits on every processor, also where a pointer and size_t have 32. The
+ * archive is for x86-64. All that it may want of a C library is memcpy, memmove, memset and memcmp. */
 
 #ifndef KILMSTRA_H
 #define KILMSTRA_H
 
-#include <stddef.h>
 #include <stdint.h>
 #ifndef __cplusplus
 #include <stdbool.h>
@@ -121,23 +120,25 @@ struct kilmstra_task {
  * Writes the first 221 bytes of state; bytes past them stay as they were.
  * Refuses with 18 to 20, then with 1 to 6, 21, 7, 8, as reading the two blocks does, then with 22 if
  * the list is not good, then with 9 if state has fewer than 221 bytes. */
-uint64_t kilmstra_start(const uint8_t *levels, size_t levels_len,
-                        const uint8_t *block, size_t block_len,
-                        const uint8_t *pairs, size_t pairs_len, uint8_t *state, size_t state_len);
+uint64_t kilmstra_start(const uint8_t *levels, uint64_t levels_len,
+                        const uint8_t *block, uint64_t block_len,
+                        const uint8_t *pairs, uint64_t pairs_len,
+                        uint8_t *state, uint64_t state_len);
 
 /* Says that d ticks went by, and whether the running job finished at their end (0 for no, anything
  * else for yes). Brings the state up to date and answers with the order that stands from then on: a
  * new one if a job finished or arrived, else the old one with what is left of its hold.
  * Writes within the 221 bytes of state.
  * Refuses with 10 if the state is not sound, then with 11 to 15. */
-uint64_t kilmstra_pass(uint8_t *state, size_t state_len, uint32_t d, uint8_t finished);
+uint64_t kilmstra_pass(uint8_t *state, uint64_t state_len, uint32_t d, uint8_t finished);
 
 /* Shows the queue and answers with the count of bytes. For each job with ticks left in the plain
  * schedule, the most urgent first, these are its task (1 byte) and those ticks (2 bytes, the higher
  * one first). A job that is open past its plain finish, as the only open one may be, is not in it.
  * Leaves the state, and the bytes of buffer past those written, as they were.
  * Refuses with 10 if the state is not sound, then with 9 if the queue does not fit. */
-uint64_t kilmstra_show(const uint8_t *state, size_t state_len, uint8_t *buffer, size_t buffer_len);
+uint64_t kilmstra_show(const uint8_t *state, uint64_t state_len,
+                       uint8_t *buffer, uint64_t buffer_len);
 
 /* Answers with the total of the plain ticks queued, which stands in the reply from bit 8 on. After the
  * start and every accepted pass it is the sum over the queue that kilmstra_show shows; ticks that no
@@ -146,39 +147,39 @@ uint64_t kilmstra_show(const uint8_t *state, size_t state_len, uint8_t *buffer, 
  * Leaves the state as it was.
  * Refuses with 10 if state has not exactly 221 bytes, and asks nothing else. Of 221 bytes that passing
  * and showing refuse as not sound, the answer is what stands there, any number of 32 bits. */
-uint64_t kilmstra_queued(const uint8_t *state, size_t state_len);
+uint64_t kilmstra_queued(const uint8_t *state, uint64_t state_len);
 
 /* Reads a level block and answers with the count of its levels. Writes nothing.
  * Refuses with 18 to 20. */
-uint64_t kilmstra_levels_read(const uint8_t *levels, size_t levels_len);
+uint64_t kilmstra_levels_read(const uint8_t *levels, uint64_t levels_len);
 
 /* Judges a list of tasks over the speeds of a level block and answers with the nominal level and the
  * hyperperiod. Writes nothing.
  * Refuses with 18 to 20, then with 3, 6, 7, 8. */
-uint64_t kilmstra_judge_list(const uint8_t *levels, size_t levels_len,
-                             const struct kilmstra_task *tasks, size_t count);
+uint64_t kilmstra_judge_list(const uint8_t *levels, uint64_t levels_len,
+                             const struct kilmstra_task *tasks, uint64_t count);
 
 /* Judges a plan of so many tasks over the speeds of a level block and answers with the nominal level
  * and the hyperperiod. The numbers are three for each task in turn, its period, its worst case and its
  * fixed ticks; one that is not there is 0, and one past the count is not looked at. Writes nothing.
  * Refuses with 18 to 20, then with 3, 6, 7, 8. */
-uint64_t kilmstra_plan_judge(const uint8_t *levels, size_t levels_len,
-                             size_t count, const uint32_t *numbers, size_t numbers_len);
+uint64_t kilmstra_plan_judge(const uint8_t *levels, uint64_t levels_len,
+                             uint64_t count, const uint32_t *numbers, uint64_t numbers_len);
 
 /* Reads a plan block over the speeds of a level block and answers with the nominal level and the
  * hyperperiod. Writes nothing.
  * Refuses with 18 to 20, then with 1 to 6, 21, 7, 8. */
-uint64_t kilmstra_plan_read(const uint8_t *levels, size_t levels_len,
-                            const uint8_t *block, size_t block_len);
+uint64_t kilmstra_plan_read(const uint8_t *levels, uint64_t levels_len,
+                            const uint8_t *block, uint64_t block_len);
 
 /* Says, before a plan is started, whether a list of pairs is good for it, and answers with the count
  * of the pairs. What is accepted here, starting accepts for every state of 221 bytes or more; what is
  * refused here, starting refuses with the same number. Writes nothing.
  * Refuses with 18 to 20, then with 1 to 6, 21, 7, 8, as reading the two blocks does, then with 22 if
  * the list is not good. */
-uint64_t kilmstra_pairs(const uint8_t *levels, size_t levels_len,
-                        const uint8_t *block, size_t block_len,
-                        const uint8_t *pairs, size_t pairs_len);
+uint64_t kilmstra_pairs(const uint8_t *levels, uint64_t levels_len,
+                        const uint8_t *block, uint64_t block_len,
+                        const uint8_t *pairs, uint64_t pairs_len);
 
 /* Writes the block of a plan, which is given as for judging, and answers with the count of bytes.
  * Where no task has fixed ticks, the block is of edition 1: 6 bytes for one task, 74 for sixteen. Else
@@ -186,17 +187,17 @@ uint64_t kilmstra_pairs(const uint8_t *levels, size_t levels_len,
  * to read it with 2. The speeds are not in it: they only say whether the plan is accepted.
  * Leaves the bytes of buffer past those written as they were.
  * Refuses with 18 to 20, then with 3, 6, 7, 8, then with 9 if the block does not fit. */
-uint64_t kilmstra_plan_write(const uint8_t *levels, size_t levels_len,
-                             size_t count, const uint32_t *numbers, size_t numbers_len,
-                             uint8_t *buffer, size_t buffer_len);
+uint64_t kilmstra_plan_write(const uint8_t *levels, uint64_t levels_len,
+                             uint64_t count, const uint32_t *numbers, uint64_t numbers_len,
+                             uint8_t *buffer, uint64_t buffer_len);
 
 /* Reads a plan block, as kilmstra_plan_read does, writes its plan again, which gives the same bytes,
  * and answers with their count.
  * Leaves the bytes of buffer past those written as they were.
  * Refuses with 18 to 20, then with 1 to 6, 21, 7, 8, then with 9 if the block does not fit. */
-uint64_t kilmstra_plan_copy(const uint8_t *levels, size_t levels_len,
-                            const uint8_t *block, size_t block_len,
-                            uint8_t *buffer, size_t buffer_len);
+uint64_t kilmstra_plan_copy(const uint8_t *levels, uint64_t levels_len,
+                            const uint8_t *block, uint64_t block_len,
+                            uint8_t *buffer, uint64_t buffer_len);
 
 /* Any reply. */
 
@@ -243,9 +244,9 @@ static inline uint32_t kilmstra_order_hold(uint64_t reply)
 
 /* A reply of showing, writing or copying that is no refusal. */
 
-static inline size_t kilmstra_byte_count(uint64_t reply)
+static inline uint64_t kilmstra_byte_count(uint64_t reply)
 {
-    return (size_t)(reply >> 8);
+    return reply >> 8;
 }
 
 /* A reply of asking for the total that is no refusal. */

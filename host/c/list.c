@@ -14,7 +14,7 @@ static struct kilmstra_task tasks[MOST];
 static void print_base_speeds(void)
 {
     const uint8_t *levels = kilmstra_base_levels;
-    size_t length = sizeof kilmstra_base_levels;
+    uint64_t length = sizeof kilmstra_base_levels;
     printf("%u levels:", kilmstra_level_count(kilmstra_levels_read(levels, length)));
     uint32_t task[3] = {1, 1, 0};
     uint64_t reply = kilmstra_plan_judge(levels, length, 1, task, 3);
@@ -29,7 +29,7 @@ static void print_base_speeds(void)
     printf(", then refused %u\n", kilmstra_refusal_number(reply));
 }
 
-static void print_judged(const char *what, size_t count)
+static void print_judged(const char *what, uint64_t count)
 {
     uint64_t reply =
         kilmstra_judge_list(kilmstra_base_levels, sizeof kilmstra_base_levels, tasks, count);

@@ -13,7 +13,7 @@ enum { TASKS = 3, UNTOUCHED = 0xa5 };
 static const uint32_t plan[3 * TASKS] = {10, 400, 0, 10, 400, 0, 30, 600, 0};
 
 static uint8_t block[KILMSTRA_BLOCK_BYTES];
-static size_t block_length;
+static uint64_t block_length;
 
 /* Filled before each start, to see whether a refused one leaves it as it is. */
 static uint8_t state[KILMSTRA_STATE_BYTES];
@@ -28,13 +28,13 @@ static void pack_plan(void)
     block_length = kilmstra_byte_count(reply);
 }
 
-static uint64_t ask(const uint8_t *pairs, size_t length)
+static uint64_t ask(const uint8_t *pairs, uint64_t length)
 {
     return kilmstra_pairs(kilmstra_base_levels, sizeof kilmstra_base_levels, block, block_length,
                           pairs, length);
 }
 
-static uint64_t start(const uint8_t *pairs, size_t length, size_t room)
+static uint64_t start(const uint8_t *pairs, uint64_t length, uint64_t room)
 {
     memset(state, UNTOUCHED, sizeof state);
     return kilmstra_start(kilmstra_base_levels, sizeof kilmstra_base_levels, block, block_length,
@@ -62,7 +62,7 @@ static void print_started(uint64_t reply)
     }
 }
 
-static void print_both(const char *what, const uint8_t *pairs, size_t length)
+static void print_both(const char *what, const uint8_t *pairs, uint64_t length)
 {
     uint64_t asked = ask(pairs, length);
     if (kilmstra_is_refused(asked)) {

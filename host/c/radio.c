@@ -92,9 +92,9 @@ static uint64_t accepted(uint64_t reply)
 static uint64_t start(void)
 {
     const uint8_t *levels = kilmstra_base_levels;
-    size_t size = sizeof kilmstra_base_levels;
+    uint64_t size = sizeof kilmstra_base_levels;
     uint8_t block[KILMSTRA_BLOCK_BYTES];
-    size_t length = kilmstra_byte_count(accepted(
+    uint64_t length = kilmstra_byte_count(accepted(
         kilmstra_plan_write(levels, size, TASKS, plan, NUMBERS * TASKS, block, sizeof block)));
     return accepted(kilmstra_start(levels, size, block, length, kilmstra_no_pairs, 0,
                                    state, sizeof state));
@@ -117,7 +117,7 @@ static uint64_t follow(uint64_t order)
 /* The queue takes three bytes an entry. Says how many it has. */
 enum { SHOWN_BYTES = 3 };
 
-static size_t show(uint8_t *queue)
+static uint64_t show(uint8_t *queue)
 {
     return kilmstra_byte_count(
         accepted(kilmstra_show(state, sizeof state, queue, KILMSTRA_QUEUE_BYTES)));
@@ -132,7 +132,7 @@ static uint32_t ticks_shown(const uint8_t *entry)
 static uint32_t sum_shown(void)
 {
     uint8_t queue[KILMSTRA_QUEUE_BYTES];
-    size_t length = show(queue);
+    uint64_t length = show(queue);
     uint32_t sum = 0;
     for (size_t at = 0; at < length; at += SHOWN_BYTES) {
         sum += ticks_shown(&queue[at]);
@@ -165,7 +165,7 @@ static void ask_for_a_burst(void)
 static void print_queue(void)
 {
     uint8_t queue[KILMSTRA_QUEUE_BYTES];
-    size_t length = show(queue);
+    uint64_t length = show(queue);
     printf("queue");
     for (size_t at = 0; at < length; at += SHOWN_BYTES) {
         printf(" (%u, %lu)", queue[at], (unsigned long)ticks_shown(&queue[at]));

@@ -71,14 +71,14 @@ static void fail_safe(unsigned refusal)
 int main(void)
 {
     const uint8_t *levels = kilmstra_base_levels;
-    size_t size = sizeof kilmstra_base_levels;
+    uint64_t size = sizeof kilmstra_base_levels;
     uint8_t block[KILMSTRA_BLOCK_BYTES];
     uint64_t written =
         kilmstra_plan_write(levels, size, TASKS, plan, 3 * TASKS, block, sizeof block);
     if (kilmstra_is_refused(written)) {
         return 1;
     }
-    size_t length = kilmstra_byte_count(written);
+    uint64_t length = kilmstra_byte_count(written);
     dispatch(levels, size, block, length, pairs, sizeof pairs);
     dispatch(levels, size, block, length, turned, sizeof turned);
     dispatch(levels, size, block, length - 1, turned, sizeof turned);

@@ -14,22 +14,8 @@ trap 'rm -rf "$work"' EXIT
 library=(-L "$top/target/staticlib" -ldispatcher_calls -lplan_calls)
 warnings=(-Wall -Wextra -Werror)
 checks=(-g "-fsanitize=address,undefined" -fno-sanitize-recover=all)
-passed=0
-failed=0
-
-# Runs a test, which is a command, and shows what it wrote only if it failed.
-try() { # NAME COMMAND..
-    local name=$1
-    shift
-    if "$@" >"$work/log" 2>&1; then
-        echo "ok: $name"
-        passed=$((passed + 1))
-    else
-        echo "FAILED: $name"
-        cat "$work/log"
-        failed=$((failed + 1))
-    fi
-}
+# shellcheck source=../../tools/trying
+. "$top/tools/trying"
 
 # The README has one block of C.
 takes_the_lines_of_the_readme() {
@@ -73,6 +59,16 @@ as_cpp() { # PROGRAM FLAGS..
 header_alone() { # COMPILER..
     printf '#include "kilmstra.h"\n#include "kilmstra.h"\nint main(void) { return 0; }\n' |
         "$@" "${warnings[@]}" -I . -c -o "$work/header.o" -
+}
+
+# Where a pointer has 32 bits too, a length has 64: with size_t in its place a firmware there would link,
+# run and get wrong answers.
+has_lengths_of_64_bits() {
+    ! grep -w size_t kilmstra.h | grep -v '^ [*]' &&
+        printf '%s\n' '#include "kilmstra.h"' \
+            'uint64_t kilmstra_pass(uint8_t *, uint64_t, uint32_t, uint8_t);' \
+            'uint64_t kilmstra_show(const uint8_t *, uint64_t, uint8_t *, uint64_t);' |
+        gcc -m32 -ffreestanding -std=c99 "${warnings[@]}" -I . -fsyntax-only -x c -
 }
 
 installs() {
@@ -144,6 +140,7 @@ runs_the_bench_program() {
 
 try 'the header alone, as C99' header_alone gcc -std=c99 -pedantic -x c
 try 'the header alone, as C++' header_alone g++ -pedantic -x c++
+try 'the header has lengths of 64 bits where a pointer has 32' has_lengths_of_64_bits
 try 'the lines of the README' takes_the_lines_of_the_readme
 for source in *.c; do
     program=${source%.c}
@@ -162,5 +159,4 @@ try 'the rounding-up division has no branch' rounds_up_without_a_branch
 try 'asking for the total goes through no entry' asks_without_going_through_the_entries
 try './run' runs_the_bench_program
 
-echo "$passed passed, $failed failed"
-[ "$failed" -eq 0 ]
+tried
