@@ -2,6 +2,7 @@
 # make test    ./test: proves every crate, then runs the host tests
 # make prove   the proofs alone
 # make host    the host tests alone, over what of the proved code is missing or older than its source
+# make map     draws the rooms of crates.txt and who uses whom, into docs/rooms.svg
 # make bench   measures the proved calls against ones written by hand, and writes docs/BENCHMARK.md
 # make install PREFIX=..   the header, the archive and the pkg-config file
 # make clean   removes all that was made
@@ -12,7 +13,7 @@ ROUNDING := target/staticlib/libtime_needed.a
 CODE := crates.txt $(shell find crates -name '*.rt')
 PREFIX ?= /usr/local
 
-.PHONY: run test prove host archives programs bench install clean
+.PHONY: run test prove host archives programs map bench install clean
 .NOTPARALLEL:
 
 run test:
@@ -24,11 +25,15 @@ prove:
 host: archives programs
 	cd host && cargo test --release --offline
 	host/c/test.sh
+	docs/test.sh
 
 archives: $(ARCHIVES) $(ROUNDING)
 
 programs:
 	@tools/program bench
+
+map:
+	tools/map > docs/rooms.svg
 
 bench: archives
 	host/benchmark/run
