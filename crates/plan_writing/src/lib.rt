@@ -12,7 +12,7 @@ use plan::Written;
 use plan_reading::fields::block_length;
 use plan_reading::fields::edition_of;
 ghost use mathlib.Core.Path.{_≡_};
-ghost use Prim.Native.Nat.{_/_, _<_};
+ghost use Prim.Native.Nat.{_<_};
 ghost use lib.ListN.{length};
 ghost use Rattle.arith.specs.Asking.{firstNo};
 ghost use Rattle.plan.specs.Blocks.{tasksOf, planBlock};

@@ -7,7 +7,7 @@ use mathlib.Core.Logic.{inl, inr}
 use native.Mathlib.Decide.{decLe}
 use native.Mathlib.Omega.{arith}
 use lib.ListN.{length, getD, take, drop}
-use lib.Seq.{sets, sets-eq, drop-drop, drop-at, getD-drop, length-take-le}
+use lib.Seq.{sets-eq, drop-drop, drop-at, getD-drop, length-take-le}
 use Rattle.arith.specs.Digits.{number, digits}
 use Rattle.arith.proofs.DigitLaws.{length-digits, number-digits, number-same}
 use Rattle.arith.proofs.Stores.{sets-else}

@@ -9,7 +9,7 @@ use plan::Rest;
 use plan::Task;
 ghost use mathlib.Core.Path.{_≡_};
 ghost use Prim.Native.Nat.{_+_, _-_, _^_, _<_, _≤_};
-ghost use lib.ListN.{length, drop};
+ghost use lib.ListN.{length};
 ghost use Rattle.reclaiming.specs.StateBlock.{places, levelPlaces, stateLength, restIn, taskOf, stateCount, levelCount, speedIn, totalIn, decode};
 ghost use Rattle.state.specs.Code.{Holds, entryAt, entryIn, fieldIn};
 

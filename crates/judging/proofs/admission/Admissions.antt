@@ -20,7 +20,7 @@ use Rattle.plan.specs.declared.Plan.{Plan}
 use Rattle.plan.specs.declared.Verdict.{Verdict}
 use Rattle.plan.specs.declared.Verdict.the-variants as verdict
 use Rattle.plan.specs.Answers.{answered}
-use Rattle.plan.specs.Times.{whole, taskTime}
+use Rattle.plan.specs.Times.{taskTime}
 use Rattle.plan.specs.Levels.{Rising, hyperperiod, demandWithin, speedOf, nominal, admits}
 use Rattle.plan.specs.Blocks.{noTask, tasksOf}
 use Rattle.plan.specs.Questions.{rangeQuestion, levelQuestion, taskQuestions}
@@ -28,7 +28,7 @@ use Rattle.arith.proofs.ArrayLaws.{value-at}
 use Rattle.arith.proofs.QuestionLaws.{ask-no, ask-yes}
 use Rattle.arith.proofs.Searches.{first-found, first-next, first-none, first-weaker}
 use Rattle.arith.proofs.Sums.{sumTo-eq, sumOf-taken}
-use Rattle.plan.proofs.Facts.{InRange, span-asked, level-asked}
+use Rattle.plan.proofs.Facts.{span-asked, level-asked}
 use Rattle.plan.proofs.Held.{Ranged, listed, task-at}
 use Rattle.plan.proofs.LevelLaws.{admits-covers}
 use Rattle.plan.proofs.TimeLaws.{task-short}
