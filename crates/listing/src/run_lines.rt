@@ -29,7 +29,7 @@ fn clock_after(clock: u32, d: u32, r: Reply) -> u32
 }
 
 // Stores the lines of all passes from a state on: of a book only its clock is told, so they are those of any book at clock 0.
-pub fn pass_lines(passes: &[u8], state: &mut [u8], out: &mut [u8], from: usize) -> usize
+fn pass_lines(passes: &[u8], state: &mut [u8], out: &mut [u8], from: usize) -> usize
     requires { ⌜ (length (now passes) ≤ 65536) × (from + 1800000 ≤ length (now out)) ⌝ }
     ensures { λ r. ⌜ ((speeds : List ℕ) (ts : List Task) (b : DispatcherBook) → b .clock ≡ 0 →
         Put 1800000 (now (out .entry)) from (passesText speeds ts b (now (state .entry)) (now (passes .entry))) r (now (out .exit))) ⌝ }
