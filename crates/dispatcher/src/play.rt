@@ -8,9 +8,11 @@ use starting::start;
 use state::STATE_LENGTH;
 ghost use mathlib.Core.Path.{_≡_};
 ghost use lib.ListN.{length};
-ghost use Rattle.reclaiming.specs.Calls.{isOrder, startReply};
+ghost use Rattle.reclaiming.specs.Replies.{isOrder};
+ghost use Rattle.reclaiming.specs.Calls.{startReply};
 ghost use Rattle.reclaiming.specs.Numbers.{replyNumber};
 ghost use Rattle.reclaiming.specs.Play.{playedPasses, playedState, playedReplies, PlayedOnTime, PlayedInTime, PlayedMostUrgent, PlayedPairsKept, PlayedTotalTold};
+ghost use Rattle.reclaiming.specs.Play.{PlayedByBooks, PlayedEarliness, PlayedAhead, PlayedWithin, PlayedPlainly};
 ghost use Rattle.reclaiming.specs.Play.{playedShown, playedQueue, PlayedQueueShown};
 
 // Whether a reply is an order, and no refusal.
@@ -45,6 +47,11 @@ pub fn play(
     ensures { λ r. ⌜ PlayedMostUrgent (now (levels .entry)) (now (block .entry)) r (playedPasses (now (passes .entry)) (length (now (replies .entry)))) (now (replies .exit)) ⌝ }
     ensures { λ r. ⌜ PlayedPairsKept (now (levels .entry)) (now (block .entry)) r (playedPasses (now (passes .entry)) (length (now (replies .entry)))) (now (replies .exit)) (now (pairs .entry)) ⌝ }
     ensures { λ r. ⌜ PlayedTotalTold (now (levels .entry)) (now (block .entry)) r (playedPasses (now (passes .entry)) (length (now (replies .entry)))) (now (replies .exit)) (now (state .exit)) ⌝ }
+    ensures { λ r. ⌜ PlayedByBooks (now (levels .entry)) (now (block .entry)) r (playedPasses (now (passes .entry)) (length (now (replies .entry)))) (now (replies .exit)) (now (state .exit)) ⌝ }
+    ensures { λ r. ⌜ PlayedEarliness (now (levels .entry)) (now (block .entry)) r (playedPasses (now (passes .entry)) (length (now (replies .entry)))) (now (replies .exit)) ⌝ }
+    ensures { λ r. ⌜ PlayedAhead (now (levels .entry)) (now (block .entry)) r (playedPasses (now (passes .entry)) (length (now (replies .entry)))) (now (replies .exit)) ⌝ }
+    ensures { λ r. ⌜ PlayedWithin (now (levels .entry)) (now (block .entry)) r (playedPasses (now (passes .entry)) (length (now (replies .entry)))) (now (replies .exit)) ⌝ }
+    ensures { λ r. ⌜ PlayedPlainly (now (levels .entry)) (now (block .entry)) r (playedPasses (now (passes .entry)) (length (now (replies .entry)))) (now (replies .exit)) ⌝ }
 {
     let first = start(levels, block, pairs, state);
     if !is_order(first) {

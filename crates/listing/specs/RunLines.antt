@@ -3,7 +3,8 @@
 use Prim.Native.Nat.{ℕ}
 use mathlib.Core.List.{List, _++_}
 use Rattle.plan.specs.declared.Task.{Task}
-use Rattle.reclaiming.specs.Run.{DispatcherBook, trace, linesFrom}
+use Rattle.reclaiming.specs.Books.{DispatcherBook}
+use Rattle.reclaiming.specs.Run.{trace, linesFrom}
 use Rattle.transcript.specs.Listing.{passesIn, oddLine, linesText}
 
 -- the lines of an input's passes on a state, with a book that stands as the dispatcher's does before them; then the odd byte's

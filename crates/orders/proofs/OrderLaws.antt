@@ -22,8 +22,9 @@ use Rattle.arith.proofs.Searches.{first-le, first-after}
 use Rattle.schedule.specs.PlainSchedule.{Timing, Pending}
 use Rattle.orders.specs.declared.Choice.{Choice}
 use Rattle.reclaiming.specs.declared.Reply.the-variants as reply
+use Rattle.reclaiming.specs.Orders.{nextArrival, allowance, lowestLevel, runningTime, holdOf, orderFor}
 use Rattle.reclaiming.specs.StateBlock.{State, remainingOf, restIn, restOf, decode, stateCount, places}
-use Rattle.reclaiming.specs.Orders.{nextArrival, allowance, lowestLevel, runningTime, holdOf, withOrder, orderFor}
+use Rattle.reclaiming.specs.States.{putOrder, viewOf, takeOrder}
 use Rattle.arith.specs.Ranges.{leastTo}
 use Rattle.state.specs.Code.{Holds, entryIn, timingIn}
 use Rattle.urgency.specs.Code.{Keyed, noKey, deadlineIn}
@@ -108,7 +109,7 @@ pub chosen-none :
     Looked speeds b l count best →
     best ≡ noKey →
     _≡_ {A = Choice} (record { task = 255; level = 0; time = 0 }) (choiceOf speeds (chosenIn speeds b))
-chosen-none {speeds} {b} k e = ap (λ (q : List Pending). choiceOf speeds (orderFor speeds (timingIn speeds b) (decode b) q)) (sym (none-open k e))
+chosen-none {speeds} {b} k e = ap (λ (q : List Pending). choiceOf speeds (takeOrder (decode b) (orderFor speeds (timingIn speeds b) (viewOf (decode b)) q))) (sym (none-open k e))
 
 -- one is: a level at which every job can be done in its own ticks meets the allowance, of which they are a part
 pub read-enough :
@@ -119,7 +120,7 @@ pub read-enough :
 read-enough {speeds} {b} {i = i} {highest = highest} k enough =
     let s : State = decode b in
     let τ : Timing = timingIn speeds b in
-    let own : remainingOf s i ≤ allowance τ s i =
+    let own : remainingOf s i ≤ allowance τ (viewOf s) i =
     omega (arith, allowance-is τ (s .clock) (remainingOf s) (τ .count) i (read-below k), allowance-least τ s i) in
     let can : timeOf (speedOf speeds highest) (restOf s i) ≤ remainingOf s i = enough .each i (omega (arith, read-below k, timing-count b, count-in b)) in
     omega (arith, read-allowed k, ap (timeOf (speedOf speeds highest)) (read-rest k))
@@ -138,16 +139,16 @@ module _ {speeds b l : List ℕ} {count best i : ℕ} {rest : Rest} {next allowe
   τ = timingIn speeds b
 
   abbrev lowest : ℕ
-  lowest = lowestLevel speeds (restOf s i) (allowance τ s i)
+  lowest = lowestLevel speeds (restOf s i) (allowance τ (viewOf s) i)
 
   level-lowest : level ≡ lowest
   level-lowest = k .level-is ∙ ap₂ (lowestLevel speeds) (read-rest (k .read)) (read-allowed (k .read))
 
-  order-is : chosenIn speeds b ≡ withOrder s i lowest
+  order-is : chosenIn speeds b ≡ putOrder s i lowest
   order-is =
       let h : Head speeds b l best i = first-open (k .read .told) in
-      ap (orderFor speeds τ s) (h .queue)
-      ∙ ap (λ (n : ℕ). withOrder s n (lowestLevel speeds (restOf s n) (allowance τ s n))) (h .task)
+      ap (λ (q : List Pending). takeOrder s (orderFor speeds τ (viewOf s) q)) (h .queue)
+      ∙ ap (λ (n : ℕ). putOrder s n (lowestLevel speeds (restOf s n) (allowance τ (viewOf s) n))) (h .task)
 
   pub chosen-small : {r : Choice} → r ≡ runOf speeds i level rest → (r .task < 256) × (r .level < 256)
   chosen-small e =
@@ -159,15 +160,15 @@ module _ {speeds b l : List ℕ} {count best i : ℕ} {rest : Rest} {next allowe
       ap₂ (λ (x : ℕ) (y : Rest). timeOf (speedOf speeds x) y) level-lowest (read-rest (k .read))
       ∙ ap (λ (z : Bool). pick {A = ℕ} z 0 (timeOf (speedOf speeds lowest) (restOf s i)))
       (sym (ne-eqb i 255 (λ e. omega (arith, told-task (k .read .told))))) in
-      let e : runOf speeds i level rest ≡ choiceOf speeds (withOrder s i lowest) = λ x. record { task = i; level = level-lowest x; time = t x } in
+      let e : runOf speeds i level rest ≡ choiceOf speeds (putOrder s i lowest) = λ x. record { task = i; level = level-lowest x; time = t x } in
       e ∙ ap (choiceOf speeds) (sym order-is)
 
 -- the order that stands: to stay idle
 pub standing-idle :
     (speeds b : List ℕ) → decode b .task ≡ 255 → _≡_ {A = Choice} (record { task = 255; level = decode b .level; time = 0 }) (choiceOf speeds (decode b))
 standing-idle speeds b e =
-    let t : 0 ≡ pick (eqb (decode b .task) 255) 0 (runningTime speeds (decode b)) =
-    ap (λ (z : Bool). pick {A = ℕ} z 0 (runningTime speeds (decode b))) (sym (eq-eqb (decode b .task) 255 e)) in
+    let t : 0 ≡ pick (eqb (decode b .task) 255) 0 (runningTime speeds (viewOf (decode b))) =
+    ap (λ (z : Bool). pick {A = ℕ} z 0 (runningTime speeds (viewOf (decode b)))) (sym (eq-eqb (decode b .task) 255 e)) in
     λ x. record { task = sym e x; level = decode b .level; time = t x }
 
 -- or to run a task
@@ -191,18 +192,18 @@ module _ {levels : ℕ} {b : List ℕ} (k : Runs levels b) where
       rest ≡ restIn (entryIn b (decode b .task)) →
       runOf speeds (decode b .task) (decode b .level) rest ≡ choiceOf speeds (decode b)
   standing-run speeds {rest} w =
-      let t : timeOf (speedOf speeds (decode b .level)) rest ≡ pick (eqb (decode b .task) 255) 0 (runningTime speeds (decode b)) =
+      let t : timeOf (speedOf speeds (decode b .level)) rest ≡ pick (eqb (decode b .task) 255) 0 (runningTime speeds (viewOf (decode b))) =
       ap (timeOf (speedOf speeds (decode b .level))) (w ∙ sym (rest-is b (decode b .task) standing-below))
-      ∙ ap (λ (z : Bool). pick {A = ℕ} z 0 (runningTime speeds (decode b))) (sym (ne-eqb (decode b .task) 255 (k .some))) in
+      ∙ ap (λ (z : Bool). pick {A = ℕ} z 0 (runningTime speeds (viewOf (decode b)))) (sym (ne-eqb (decode b .task) 255 (k .some))) in
       λ x. record { task = decode b .task; level = decode b .level; time = t x }
 
 -- the hold of a state's order, from the ticks to the next arrival
 pub hold-is :
-    (speeds : List ℕ) (τ : Timing) (s : State) (next : ℕ) → next ≡ nextArrival τ (s .clock) → holdBy (choiceOf speeds s) next ≡ holdOf speeds τ s
+    (speeds : List ℕ) (τ : Timing) (s : State) (next : ℕ) → next ≡ nextArrival τ (s .clock) → holdBy (choiceOf speeds s) next ≡ holdOf speeds τ (viewOf s)
 hold-is speeds τ s next n =
     elim (tested (eqb (s .task) 255))
-    as (λ b _. pick b next (min (pick b 0 (runningTime speeds s)) next) ≡ pick b (nextArrival τ (s .clock)) (min (runningTime speeds s) (nextArrival τ (s .clock))))
-    [ passed ↦ n | failed ↦ ap (min (runningTime speeds s)) n ]
+    as (λ b _. pick b next (min (pick b 0 (runningTime speeds (viewOf s))) next) ≡ pick b (nextArrival τ (s .clock)) (min (runningTime speeds (viewOf s)) (nextArrival τ (s .clock))))
+    [ passed ↦ n | failed ↦ ap (min (runningTime speeds (viewOf s))) n ]
 
 -- a block of some tasks with its keys, its count and its clock
 pub record Timed (speeds b l : List ℕ) (count clock : ℕ) : Type 0 where

@@ -11,8 +11,9 @@ use Rattle.plan.specs.Times.{timeOf}
 use Rattle.plan.specs.Levels.{speedOf}
 use Rattle.reclaiming.specs.declared.Reply.{Reply}
 use Rattle.reclaiming.specs.declared.Reply.the-variants as reply
+use Rattle.reclaiming.specs.Orders.{runningTime, holdOf, orderWith}
 use Rattle.reclaiming.specs.StateBlock.{State, remainingOf, restOf, decode}
-use Rattle.reclaiming.specs.Orders.{runningTime, holdOf, chooseOrder, orderWith}
+use Rattle.reclaiming.specs.States.{chosenState, viewOf}
 use Rattle.state.specs.Code.{timingIn}
 use Rattle.orders.specs.declared.Choice.{Choice}
 
@@ -21,7 +22,7 @@ abbrev pub choiceOf : List ℕ → State → Choice
 choiceOf speeds s = record {
   task = s .task;
   level = s .level;
-  time = pick (eqb (s .task) 255) 0 (runningTime speeds s);
+  time = pick (eqb (s .task) 255) 0 (runningTime speeds (viewOf s));
 }
 
 -- an order that runs task i at a level, for what is left of its job
@@ -30,10 +31,10 @@ runOf speeds i level rest = record { task = i; level = level; time = timeOf (spe
 
 -- the state with the order that is chosen in a block, and that order as it is answered
 abbrev pub chosenIn : List ℕ → List ℕ → State
-chosenIn speeds bytes = chooseOrder speeds (timingIn speeds bytes) (decode bytes)
+chosenIn speeds bytes = chosenState speeds (timingIn speeds bytes) (decode bytes)
 
 abbrev pub chosenReply : List ℕ → List ℕ → Reply
-chosenReply speeds bytes = orderWith (chosenIn speeds bytes) (holdOf speeds (timingIn speeds bytes) (chosenIn speeds bytes))
+chosenReply speeds bytes = orderWith (viewOf (chosenIn speeds bytes)) (holdOf speeds (timingIn speeds bytes) (viewOf (chosenIn speeds bytes)))
 
 -- the hold of an order, where the next arrival is so many ticks away
 abbrev pub holdBy : Choice → ℕ → ℕ

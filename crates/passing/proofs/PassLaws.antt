@@ -13,10 +13,13 @@ use Rattle.orders.specs.declared.Choice.{Choice}
 use Rattle.soundness.specs.declared.Tested.{Tested}
 use Rattle.reclaiming.specs.declared.Reply.{Reply}
 use Rattle.reclaiming.specs.declared.Reply.the-variants as reply
-use Rattle.reclaiming.specs.StateBlock.{encode, decode}
-use Rattle.reclaiming.specs.Passes.{passedState}
-use Rattle.reclaiming.specs.Questions.{soundAt, passQuestions}
-use Rattle.reclaiming.specs.Calls.{repliedBy, passNumber, passOrder, passReply, passBytes}
+use Rattle.reclaiming.specs.Allotments.{timing}
+use Rattle.reclaiming.specs.Replies.{repliedBy}
+use Rattle.reclaiming.specs.Passes.{passQuestions}
+use Rattle.reclaiming.specs.StateBlock.{encode, decode, planIn}
+use Rattle.reclaiming.specs.States.{passedState, viewOf}
+use Rattle.reclaiming.specs.Questions.{soundAt}
+use Rattle.reclaiming.specs.Calls.{passNumber, passOrder, passReply, passBytes}
 use Rattle.state.specs.Code.{timingIn}
 use Rattle.levels.specs.Code.{loaded}
 use Rattle.state.specs.declared.tables.OwnTable.{OwnTable}
@@ -45,7 +48,7 @@ stored-all bytes buffer e =
 -- the number of a pass at a table of speeds, by whether its block is sound there
 module _ (speeds bytes : List ℕ) (d : ℕ) (finished : Bool) where
   abbrev numbered : Bool → ℕ
-  numbered b = pick b (firstNo (passQuestions speeds (decode bytes) d finished)) 10
+  numbered b = pick b (firstNo (passQuestions speeds (timing speeds (planIn (decode bytes))) (viewOf (decode bytes)) d finished)) 10
 
   pub number-10 : (r : Tested) → r ≡ testedBy speeds (soundAt speeds bytes) bytes → r .sound ≡ false → 10 ≡ numbered (soundAt speeds bytes)
   number-10 r e u = ap numbered (sym u ∙ tested-sound speeds bytes r e)
@@ -53,7 +56,7 @@ module _ (speeds bytes : List ℕ) (d : ℕ) (finished : Bool) where
   pub number-is :
       soundAt speeds bytes ≡ true →
       (n : ℕ) →
-      n ≡ firstNo (passQuestions speeds (decode bytes) d finished) →
+      n ≡ firstNo (passQuestions speeds (timing speeds (planIn (decode bytes))) (viewOf (decode bytes)) d finished) →
       n ≡ numbered (soundAt speeds bytes)
   number-is ok n e = e ∙ ap numbered (sym ok)
 

@@ -6,7 +6,7 @@ use mathlib.Core.List.{List, [], _∷_, _++_}
 use lib.Dec.{leb, ltb, eqb}
 use Rattle.arith.specs.Choice.{pick}
 use Rattle.arith.specs.Asking.{Question, ask}
-use Rattle.reclaiming.specs.Questions.{largestClock}
+use Rattle.reclaiming.specs.Passes.{largestClock}
 use Rattle.orders.specs.declared.Choice.{Choice}
 
 -- whether an order runs a job

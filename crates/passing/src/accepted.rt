@@ -15,10 +15,11 @@ ghost use mathlib.Core.Bool.{true};
 ghost use Prim.Native.Nat.{_≤_};
 ghost use Rattle.levels.specs.Code.{loaded, Table};
 ghost use Rattle.arith.specs.Asking.{firstNo};
-ghost use Rattle.reclaiming.specs.StateBlock.{encode, decode};
 ghost use Rattle.reclaiming.specs.Orders.{nextArrival};
-ghost use Rattle.reclaiming.specs.Passes.{choosesAnew, passedState};
-ghost use Rattle.reclaiming.specs.Questions.{soundAt, passQuestions};
+ghost use Rattle.reclaiming.specs.Passes.{choosesAnew, passQuestions};
+ghost use Rattle.reclaiming.specs.StateBlock.{encode, decode};
+ghost use Rattle.reclaiming.specs.States.{passedState, viewOf};
+ghost use Rattle.reclaiming.specs.Questions.{soundAt};
 ghost use Rattle.reclaiming.specs.Calls.{passOrder};
 ghost use Rattle.state.specs.Code.{timingIn};
 ghost use Rattle.state.specs.Tables.{Owns};
@@ -36,7 +37,7 @@ fn chooses_anew(
 ) -> bool
     requires { ⌜ Table (now speeds) levels × (soundAt (loaded (now speeds) levels) (now block) ≡ true) × (1 ≤ d) × (d ≤ next) ⌝ }
     requires { ⌜ next ≡ nextArrival (timingIn (loaded (now speeds) levels) (now block)) (decode (now block) .clock) ⌝ }
-    ensures { λ r. ⌜ r ≡ choosesAnew (timingIn (loaded (now (speeds .entry)) levels) (now (block .entry))) (decode (now (block .entry))) d finished ⌝ }
+    ensures { λ r. ⌜ r ≡ choosesAnew (timingIn (loaded (now (speeds .entry)) levels) (now (block .entry))) (viewOf (decode (now (block .entry)))) d finished ⌝ }
 {
     if finished {
         return true;
@@ -59,7 +60,7 @@ pub fn passed(
     requires { ⌜ Owns (now block) (now speeds) levels × Good (loaded (now speeds) levels) (now block) (now keys) highest ⌝ }
     requires { ⌜ c ≡ choiceOf (loaded (now speeds) levels) (decode (now block)) ⌝ }
     requires { ⌜ next ≡ nextArrival (timingIn (loaded (now speeds) levels) (now block)) (decode (now block) .clock) ⌝ }
-    requires { ⌜ firstNo (passQuestions (loaded (now speeds) levels) (decode (now block)) d finished) ≡ 0 ⌝ }
+    requires { ⌜ firstNo (passQuestions (loaded (now speeds) levels) (timingIn (loaded (now speeds) levels) (now block)) (viewOf (decode (now block))) d finished) ≡ 0 ⌝ }
     ensures { λ r. ⌜ r ≡ passOrder (loaded (now (speeds .entry)) levels) (decode (now (block .entry))) d finished ⌝ }
     ensures { λ _. ⌜ now (block .exit) ≡ encode (passedState (loaded (now (speeds .entry)) levels)
         (timingIn (loaded (now (speeds .entry)) levels) (now (block .entry)))

@@ -4,7 +4,7 @@ use state::clock::Clock;
 ghost use mathlib.Core.Path.{_≡_};
 ghost use Prim.Native.Nat.{_≤_};
 ghost use Rattle.arith.specs.Asking.{firstNo};
-ghost use Rattle.reclaiming.specs.Questions.{largestClock};
+ghost use Rattle.reclaiming.specs.Passes.{largestClock};
 ghost use Rattle.passing.specs.Questions.{finishQuestions, timeQuestions};
 
 // The first no of the questions 13 and 14, or 0.

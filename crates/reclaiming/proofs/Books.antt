@@ -13,11 +13,11 @@ use Rattle.arith.specs.Choice.{pick}
 use Rattle.arith.proofs.Tests.{passed, failed, tested}
 use Rattle.schedule.specs.PlainSchedule.{Timing, Job, Book, latest, deadline, canonicalAt, queueOf}
 use Rattle.schedule.specs.Feasibility.{In}
+use Rattle.schedule.specs.Served.{Arrived}
 use Rattle.schedule.proofs.Periods.{multiple-last}
 use Rattle.schedule.proofs.Drain.{Quiet, latest-kept}
 use Rattle.schedule.proofs.QueueLaws.{in-queueOf}
 use Rattle.schedule.proofs.Closing.{Entered}
-use Rattle.reclaiming.specs.Run.{Arrived}
 
 -- a job is its task's latest, with work left
 abbrev pub OpenLatest : Timing → ℕ → (ℕ → ℕ) → Job → Type 0

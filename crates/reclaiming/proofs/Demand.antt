@@ -30,30 +30,32 @@ use Rattle.plan.proofs.Facts.{FineList, range-at}
 use Rattle.plan.proofs.PairLaws.{GoodPair, good-pair, each-good}
 use Rattle.schedule.specs.PlainSchedule.{Timing, Job, Pending, Book, latest, deadline, moreUrgent, canonicalAt, queueOf, opened}
 use Rattle.schedule.specs.Feasibility.{In, Fitting}
+use Rattle.schedule.specs.Served.{Arrived, OpenPlain, AllotmentsGiven}
 use Rattle.schedule.proofs.Members.{all-in, every-in}
 use Rattle.schedule.proofs.Urgency.{MoreUrgent, asymmetric, urgent-true}
 use Rattle.schedule.proofs.Together.{Before, arrives-too, urgent-before}
 use Rattle.schedule.proofs.Invariant.{canonical-good}
 use Rattle.schedule.proofs.Invariant as invariant
 use Rattle.schedule.proofs.Feasible.{never-late}
+use Rattle.schedule.proofs.Giving.{allotments-given}
 use Rattle.schedule.proofs.QueueLaws.{queueOf-cong}
 use Rattle.schedule.proofs.Totals.{queue-total}
-use Rattle.schedule.proofs.Closing.{entered-before}
+use Rattle.schedule.proofs.Closing.{entered-new, entered-before}
 use Rattle.schedule.proofs.Span.{canonical-start}
 use Rattle.reclaiming.specs.declared.Reply.{Reply}
 use Rattle.reclaiming.specs.declared.Reply.the-variants as reply
 use Rattle.reclaiming.specs.declared.Queued.the-variants as queued
 use Rattle.reclaiming.specs.declared.Entry.{Entry}
-use Rattle.reclaiming.specs.StateBlock.{State, encode, decode, planIn, timing, workOf, remainingOf, restIn, restOf, noEntry, totalIn, stateLength}
-use Rattle.reclaiming.specs.Orders.{nextArrival, runningTime, holdOf, orderWith}
-use Rattle.reclaiming.specs.Passes.{newEntry, stateWith, startState, passedState, passedHold}
-use Rattle.reclaiming.specs.Questions.{largestClock, running, passQuestions}
-use Rattle.reclaiming.specs.Calls.{repliedBy, isOrder, startReply, startBuffer, startNumber, startOrder, queueBytes, readyQueue, shownBytes, passReply}
-use Rattle.reclaiming.specs.Calls.{showNumber, showReply, showBuffer, queuedBy, queuedReply}
-use Rattle.reclaiming.specs.Run.{Pass, DispatcherBook, Arrived, moved, booked, bookedAll, ranAll, bytesAfter, trace, unopenedBook, openedBook, ordered, startedBytes}
-use Rattle.reclaiming.specs.Promises.{Started, OpenPlain, OpenActual, InGap, OnTime, ClosesByArrival, ClosesInTime, MostUrgent, NamesMostUrgent, Shows}
-use Rattle.reclaiming.specs.Promises.{Demand3, QueueShown, ticksIn, TotalTold, PairsKept, arrivedWith, StaysSound, SameSpeeds, RunsMostUrgent, SameLeft, NoDeadEnd, Open}
-use Rattle.reclaiming.specs.Promises.{timeLeft, isRun, holdIn, lastOrder, stateAfter, actualBook, plainBook, replies}
+use Rattle.reclaiming.specs.Allotments.{timing}
+use Rattle.reclaiming.specs.Orders.{nextArrival, runningTime, holdOf, orderWith, running}
+use Rattle.reclaiming.specs.Replies.{repliedBy, isOrder}
+use Rattle.reclaiming.specs.Passes.{largestClock, passQuestions, Pass}
+use Rattle.reclaiming.specs.Books.{DispatcherBook, moved, booked, bookedAll, ranAll, unopenedBook, openedBook, ordered}
+use Rattle.reclaiming.specs.StateBlock.{State, encode, decode, planIn, workOf, remainingOf, restIn, restOf, noEntry, totalIn, stateLength}
+use Rattle.reclaiming.specs.States.{newEntry, stateWith, startState, passedState, passedHold, viewOf}
+use Rattle.reclaiming.specs.Calls.{startReply, startBuffer, startNumber, startOrder, queueBytes, readyQueue, shownBytes, passReply, showNumber, showReply, showBuffer, queuedBy, queuedReply}
+use Rattle.reclaiming.specs.Run.{bytesAfter, trace, startedBytes}
+use Rattle.reclaiming.specs.Promises.{Started, OpenActual, InGap, OnTime, ClosesByArrival, ClosesInTime, MostUrgent, NamesMostUrgent, Shows, Demand3, QueueShown, ticksIn, TotalTold, PairsKept, arrivedWith, StaysSound, SameSpeeds, RunsMostUrgent, NoDeadEnd, Open, OneSchedule, EveryArrival, timeLeft, isRun, holdIn, lastOrder, stateAfter, actualBook, plainBook, replies}
 use Rattle.reclaiming.proofs.Fine.{Ahead, Gap, Fine, Accepted, nominalSpeed}
 use Rattle.reclaiming.proofs.Replies.{is-idle, is-run, viewOrder, order-accepted, order-booked, order-runs, order-held, not-refused}
 use Rattle.reclaiming.proofs.Plans.{nominal-positive, plan-fits}
@@ -68,7 +70,7 @@ use Rattle.reclaiming.proofs.Worked as worked
 use Rattle.reclaiming.proofs.Runs.{Tied, Kept, idle-level, kept-pass, stored-sound, stored-length, speeds-are, decoded, reply-is}
 
 -- an order leaves a book's clock
-ordered-clock : (b : DispatcherBook) (r : Reply) → ordered b r .clock ≡ b .clock
+pub ordered-clock : (b : DispatcherBook) (r : Reply) → ordered b r .clock ≡ b .clock
 ordered-clock b (reply.Run task level hold) = refl
 ordered-clock b (reply.Idle hold) = refl
 ordered-clock b (reply.Refused n) = refl
@@ -138,7 +140,7 @@ module _ (levels block pairs buffer : List ℕ) (ok : Started levels block pairs
       ∙ drop-at (encode s) (drop (length (encode s)) buffer) stateLength size
       ∙ ap (λ (n : ℕ). drop n buffer) size
 
-  entry : (i : ℕ) → i < length ts → getD (s .entries) i noEntry ≡ newEntry τ ts i
+  pub entry : (i : ℕ) → i < length ts → getD (s .entries) i noEntry ≡ newEntry τ ts i
   entry i h =
       ap (λ (l : List Entry). getD l i noEntry) (choose-entries speeds τ unordered)
       ∙ getD-listTo (length ts) (newEntry τ ts) i noEntry h
@@ -156,9 +158,9 @@ module _ (levels block pairs buffer : List ℕ) (ok : Started levels block pairs
   first = startReply levels block pairs (length buffer)
 
   abbrev hold : ℕ
-  hold = holdOf speeds (timing speeds (planIn s)) s
+  hold = holdOf speeds (timing speeds (planIn s)) (viewOf s)
 
-  replied : first ≡ orderWith s hold
+  replied : first ≡ orderWith (viewOf s) hold
   replied = ap (λ (n : ℕ). repliedBy n (startOrder speeds s)) number
 
   -- the book at the start
@@ -167,32 +169,29 @@ module _ (levels block pairs buffer : List ℕ) (ok : Started levels block pairs
       ≡ record { clock = 0; closed = []; task = s .task; level = s .level; left = unopenedBook ts .left }
   book = ap (ordered (unopenedBook ts)) replied ∙ order-booked s hold (idle-level good fine) (unopenedBook ts)
 
-  kept-start : Kept speeds ts (startedBytes levels block pairs buffer) (openedBook ts first) (opened τ) first
-  kept-start = record {
-    state = s;
-    stored = begun;
-    in-time = in-time;
-    own = own;
-    tied = record {
-      fine = fine;
-      clock = ap (λ (b : DispatcherBook). b .clock) book ∙ sym clock;
-      task = ap (λ (b : DispatcherBook). b .task) book;
-      level = ap (λ (b : DispatcherBook). b .level) book;
-      left = λ i h. ap (λ (b : DispatcherBook). b .left i) book ∙ sym (ap restIn (entry i h));
-      held =
-          subst₂ (λ (c : ℕ) (b : DispatcherBook). Held τ c (workOf s) (b .closed)) (sym clock) (sym book)
-          (held-start τ (workOf s) (fits .periods) open-all);
-      ended =
-          subst₂ (λ (c : ℕ) (b : DispatcherBook). Ended τ c (workOf s) (b .closed)) (sym clock) (sym book) (ended-start τ (workOf s));
-      plainly = ap (canonicalAt τ) (sym clock);
-      queue =
-          subst (λ (c : ℕ). canonicalAt τ c ≡ record { clock = c; pending = queueOf τ c (remainingOf s) (τ .count) }) (sym clock)
-          (canonical-start τ (hyperperiod ts) fits
-          ∙ (λ k. record { clock = 0; pending = queueOf-cong τ 0 (τ .allotment) (remainingOf s) (τ .count) left k }));
-      since = subst (λ (c : ℕ). OpenSince τ c (workOf s)) (sym clock) (since-start τ (workOf s));
-      order-is = replied ∙ ap (λ (l : List Task). orderWith s (holdOf speeds (timing speeds l) s)) (fine .entries .plan);
-    };
+  pub tied-start : Tied speeds ts s (openedBook ts first) (opened τ) first
+  tied-start = record {
+    fine = fine;
+    clock = ap (λ (b : DispatcherBook). b .clock) book ∙ sym clock;
+    task = ap (λ (b : DispatcherBook). b .task) book;
+    level = ap (λ (b : DispatcherBook). b .level) book;
+    left = λ i h. ap (λ (b : DispatcherBook). b .left i) book ∙ sym (ap restIn (entry i h));
+    held =
+        subst₂ (λ (c : ℕ) (b : DispatcherBook). Held τ c (workOf s) (b .closed)) (sym clock) (sym book)
+        (held-start τ (workOf s) (fits .periods) open-all);
+    ended =
+        subst₂ (λ (c : ℕ) (b : DispatcherBook). Ended τ c (workOf s) (b .closed)) (sym clock) (sym book) (ended-start τ (workOf s));
+    plainly = ap (canonicalAt τ) (sym clock);
+    queue =
+        subst (λ (c : ℕ). canonicalAt τ c ≡ record { clock = c; pending = queueOf τ c (remainingOf s) (τ .count) }) (sym clock)
+        (canonical-start τ (hyperperiod ts) fits
+        ∙ (λ k. record { clock = 0; pending = queueOf-cong τ 0 (τ .allotment) (remainingOf s) (τ .count) left k }));
+    since = subst (λ (c : ℕ). OpenSince τ c (workOf s)) (sym clock) (since-start τ (workOf s));
+    order-is = replied ∙ ap (λ (l : List Task). orderWith (viewOf s) (holdOf speeds (timing speeds l) (viewOf s))) (fine .entries .plan);
   }
+
+  pub kept-start : Kept speeds ts (startedBytes levels block pairs buffer) (openedBook ts first) (opened τ) first
+  kept-start = record { state = s; stored = begun; in-time = in-time; own = own; tied = tied-start }
 
 module _ (speeds : List ℕ) (table : FineTable speeds) where
   rising : Rising speeds
@@ -213,7 +212,7 @@ module _ (speeds : List ℕ) (table : FineTable speeds) where
       fits-run : Fitting (timing speeds ts) (hyperperiod ts)
       fits-run = plan-fits speeds ts good rising
 
-      plain-is : b ≡ record { clock = s .clock; pending = queueOf (timing speeds ts) (s .clock) (remainingOf s) (length ts) }
+      pub plain-is : b ≡ record { clock = s .clock; pending = queueOf (timing speeds ts) (s .clock) (remainingOf s) (length ts) }
       plain-is = t .plainly ∙ t .queue
 
       here : (j : Job) → Arrived (timing speeds ts) (a .clock) j → Arrived (timing speeds ts) (s .clock) j
@@ -240,11 +239,11 @@ module _ (speeds : List ℕ) (table : FineTable speeds) where
           record { task = entry .task; arrival = entry .arrived; multiple = entry .multiple }
 
       -- an open job of the dispatcher's book is its task's latest, and has work left
-      open-latest : (j : Job) → OpenActual (timing speeds ts) a j → OpenLatest (timing speeds ts) (s .clock) (workOf s) j
+      pub open-latest : (j : Job) → OpenActual (timing speeds ts) a j → OpenLatest (timing speeds ts) (s .clock) (workOf s) j
       open-latest j o = ⊎-elim (λ m. absurd (o .unclosed m)) (λ e. e) (t .held j (here j (o .arrived)))
 
       -- the running job's time left, by the book
-      time-below : s .task < length ts → timeLeft speeds a ≡ runningTime speeds s
+      time-below : s .task < length ts → timeLeft speeds a ≡ runningTime speeds (viewOf s)
       time-below h =
           ap₂ (λ (l i : ℕ). timeOf (speedOf speeds l) (a .left i)) (t .level) (t .task)
           ∙ ap (timeOf (speedOf speeds (s .level))) (t .left (s .task) h)
@@ -272,7 +271,7 @@ module _ (speeds : List ℕ) (table : FineTable speeds) where
       gap-job : Gap speeds ts s → (j : Job) → OpenActual (timing speeds ts) a j → j ≡ latest (timing speeds ts) (a .clock) (a .task)
       gap-job g j o = open-latest j o .0 ∙ ap₂ (latest (timing speeds ts)) (sym (t .clock)) (gap-task g j o ∙ sym (t .task))
 
-      open-gap : Gap speeds ts s → (j : Job) → OpenActual (timing speeds ts) a j → InGap speeds (timing speeds ts) a j
+      pub open-gap : Gap speeds ts s → (j : Job) → OpenActual (timing speeds ts) a j → InGap speeds (timing speeds ts) a j
       open-gap g j o = record {
         runs = gap-job g j o;
         alone = λ k p. gap-job g k p ∙ sym (gap-job g j o);
@@ -282,7 +281,7 @@ module _ (speeds : List ℕ) (table : FineTable speeds) where
           below : s .task < length ts
           below = subst (λ (i : ℕ). i < length ts) (gap-task g j o) (o .arrived .task)
 
-          book-time : timeLeft speeds a ≡ runningTime speeds s
+          book-time : timeLeft speeds a ≡ runningTime speeds (viewOf s)
           book-time = time-below below
 
       stays-open : (j : Job) → OpenActual (timing speeds ts) a j → OpenPlain b j ⊎ InGap speeds (timing speeds ts) a j
@@ -298,18 +297,24 @@ module _ (speeds : List ℕ) (table : FineTable speeds) where
           OpenPlain (canonicalAt (timing speeds ts) (k .arrival)) j
       open-since j o k r h = t .since j (here j (o .arrived)) (open-latest j o) k r h
 
-      -- so at an arrival it still is
+      -- so at an arrival it still is; and one that arrives there is open
       arrival-open :
           (k : Job) →
           Arrived (timing speeds ts) (a .clock) k →
           k .arrival ≡ a .clock →
           (j : Job) →
           OpenActual (timing speeds ts) a j →
-          j .arrival < a .clock →
           OpenPlain b j
-      arrival-open k r e j o h =
-          subst (λ (x : Book). OpenPlain x j) (ap (canonicalAt (timing speeds ts)) (e ∙ t .clock) ∙ sym (t .plainly))
-          (open-since j o k (here k r) (omega arith))
+      arrival-open k r e j o =
+          elim (decLe (suc (j .arrival)) (a .clock)) [
+            | yes older ↦
+                subst (λ (x : Book). OpenPlain x j) (ap (canonicalAt (timing speeds ts)) (e ∙ t .clock) ∙ sym (t .plainly))
+                (open-since j o k (here k r) (omega arith))
+            | no new ↦
+                let now : j .arrival ≡ s .clock = omega (arith, o .arrived .arrival, t .clock) in
+                subst (λ (x : Book). OpenPlain x j) (ap (canonicalAt (timing speeds ts)) now ∙ sym (t .plainly))
+                (entered-new (timing speeds ts) j (o .arrived .task) (o .arrived .multiple))
+          ]
 
       -- and closed before one, it is not open past it
       open-until :
@@ -361,7 +366,7 @@ module _ (speeds : List ℕ) (table : FineTable speeds) where
       names-most-urgent : NamesMostUrgent (timing speeds ts) a last
       names-most-urgent =
           subst (NamesMostUrgent (timing speeds ts) a) (sym (t .order-is))
-          (elim (viewOrder s (holdOf speeds (timing speeds ts) s)) as (λ r _. NamesMostUrgent (timing speeds ts) a r) [
+          (elim (viewOrder s (holdOf speeds (timing speeds ts) (viewOf s))) as (λ r _. NamesMostUrgent (timing speeds ts) a r) [
             | is-idle e ↦ λ j o. nothing-open e j o
             | is-run e ↦ runs-first (running-facts e)
           ])
@@ -434,13 +439,13 @@ module _ (speeds : List ℕ) (table : FineTable speeds) where
               (subst₂ (MoreUrgent (timing speeds ts)) (ap₂ (latest (timing speeds ts)) (sym (t .clock)) (sym (t .task))) (sym (o .0))
               (r .urgent (p .earlier) (q .earlier-below) (o .1) other))
 
-      held-is : holdIn last ≡ holdOf speeds (timing speeds ts) s
-      held-is = ap holdIn (t .order-is) ∙ order-held s (holdOf speeds (timing speeds ts) s)
+      held-is : holdIn last ≡ holdOf speeds (timing speeds ts) (viewOf s)
+      held-is = ap holdIn (t .order-is) ∙ order-held s (holdOf speeds (timing speeds ts) (viewOf s))
 
-      runs-is : isRun last ≡ running s
-      runs-is = ap isRun (t .order-is) ∙ order-runs s (holdOf speeds (timing speeds ts) s)
+      runs-is : isRun last ≡ running (viewOf s)
+      runs-is = ap isRun (t .order-is) ∙ order-runs s (holdOf speeds (timing speeds ts) (viewOf s))
 
-      time-is : running s ≡ true → timeLeft speeds a ≡ runningTime speeds s
+      time-is : running (viewOf s) ≡ true → timeLeft speeds a ≡ runningTime speeds (viewOf s)
       time-is r =
           elim (worked.ordered speeds ts s (t .fine)) [
             | idles e l z ↦ absurd (true≢false (sym r ∙ ap not (eq-eqb (s .task) 255 e)))
@@ -455,7 +460,7 @@ module _ (speeds : List ℕ) (table : FineTable speeds) where
       abbrev t : Tied speeds ts (k .state) a b last
       t = k .tied
 
-      is-state : decode bytes ≡ now
+      pub is-state : decode bytes ≡ now
       is-state = decoded speeds table ts good (k .stored) (k .in-time) (k .own) (t .fine)
 
       -- what is told of the total is the sum over the plain schedule's ready queue
@@ -494,7 +499,7 @@ module _ (speeds : List ℕ) (table : FineTable speeds) where
           isOrder (passReply bytes d finished) ≡ true
       answered d finished ok late =
           ap isOrder (reply-is speeds table ts good (k .stored) (k .in-time) (k .own) (t .fine) d finished)
-          ∙ ap (λ (n : ℕ). isOrder (repliedBy n (orderWith next hold)))
+          ∙ ap (λ (n : ℕ). isOrder (repliedBy n (orderWith (viewOf next) hold)))
           (pass-yes speeds now d finished (subst (λ (l : List Task). Accepted speeds (timing speeds l) now d finished) (sym (t .fine .entries .plan)) ok)
           (subst (λ (c : ℕ). c + d ≤ largestClock) (t .clock) late))
           ∙ order-accepted next hold
@@ -508,16 +513,16 @@ module _ (speeds : List ℕ) (table : FineTable speeds) where
       -- whether the pass that the order suggests says finished, by the book and by the state
       says-finished :
           both (isRun last) (eqb (holdIn last) (timeLeft speeds a))
-          ≡ both (running now) (eqb (holdOf speeds (timing speeds ts) now) (runningTime speeds now))
+          ≡ both (running (viewOf now)) (eqb (holdOf speeds (timing speeds ts) (viewOf now)) (runningTime speeds (viewOf now)))
       says-finished =
           ap₂ (λ (r : Bool) (h : ℕ). both r (eqb h (timeLeft speeds a))) (runs-is t) (held-is t)
-          ∙ elim (tested (running now))
-          as (λ r _. running now ≡ r → both r (eqb hold (timeLeft speeds a)) ≡ both r (eqb hold (runningTime speeds now)))
+          ∙ elim (tested (running (viewOf now)))
+          as (λ r _. running (viewOf now) ≡ r → both r (eqb hold (timeLeft speeds a)) ≡ both r (eqb hold (runningTime speeds (viewOf now))))
           [ passed ↦ λ e. ap (eqb hold) (time-is t e) | failed ↦ λ e. refl ]
           refl
         where
           hold : ℕ
-          hold = holdOf speeds (timing speeds ts) now
+          hold = holdOf speeds (timing speeds ts) (viewOf now)
 
       -- so neither the suggested pass nor an early finish is refused
       not-dead : Open speeds bytes last a
@@ -538,7 +543,7 @@ module _ (speeds : List ℕ) (table : FineTable speeds) where
       given = passReply bytes (p .d) (p .finished)
 
       abbrev asked : ℕ
-      asked = firstNo (passQuestions speeds (k .state) (p .d) (p .finished))
+      asked = firstNo (passQuestions speeds (timing speeds (planIn (k .state))) (viewOf (k .state)) (p .d) (p .finished))
 
       pass-within : isOrder given ≡ true → p .d ≤ nextArrival (timing speeds ts) (k .state .clock)
       pass-within e =
@@ -546,7 +551,7 @@ module _ (speeds : List ℕ) (table : FineTable speeds) where
           let next : State = passedState speeds (timing speeds ts) s (p .d) (p .finished) in
           let hold : ℕ = passedHold speeds (timing speeds ts) s (p .d) (p .finished) in
           let replied = reply-is speeds table ts good (k .stored) (k .in-time) (k .own) (k .tied .fine) (p .d) (p .finished) in
-          let zero-no : asked ≡ 0 = not-refused asked (orderWith next hold) (sym (ap isOrder replied) ∙ e) in
+          let zero-no : asked ≡ 0 = not-refused asked (orderWith (viewOf next) hold) (sym (ap isOrder replied) ∙ e) in
           subst (λ (l : List Task). p .d ≤ nextArrival (timing speeds l) (s .clock)) (k .tied .fine .entries .plan)
           (pass-accepted speeds s (p .d) (p .finished) zero-no .0 .within)
 
@@ -586,7 +591,7 @@ module _ (speeds : List ℕ) (table : FineTable speeds) where
     closes-run (p ∷ ps) (suc n) {bytes} {a} {b} {last} k = closes-run ps n (kept-pass speeds table ts good p bytes a b last k)
 
 -- a run: an accepted start, then any list of passes
-after-run :
+pub after-run :
     (levels block pairs buffer : List ℕ) (passes : List Pass) →
     Started levels block pairs buffer →
     Kept (speedsIn levels) (tasksIn block) (stateAfter levels block pairs buffer passes) (actualBook levels block pairs buffer passes)
@@ -642,12 +647,19 @@ same-speeds levels block pairs buffer passes ok =
     speeds-are (speedsIn levels) (table levels block pairs buffer ok) (tasksIn block) (good levels block pairs buffer ok) (k .stored) (k .in-time) (k .own)
     (k .tied .fine)
 
-pub same-left : SameLeft
-same-left levels block pairs buffer passes ok i h =
-    let k = after-run levels block pairs buffer passes ok in
-    k .tied .left i h
-    ∙ sym (ap (λ (s : State). restOf s i) (is-state (speedsIn levels) (table levels block pairs buffer ok) (tasksIn block) (good levels block pairs buffer ok) k))
-
 pub no-dead-end : NoDeadEnd
 no-dead-end levels block pairs buffer passes ok =
     not-dead (speedsIn levels) (table levels block pairs buffer ok) (tasksIn block) (good levels block pairs buffer ok) (after-run levels block pairs buffer passes ok)
+
+pub one-schedule : OneSchedule
+one-schedule levels block pairs buffer passes ok =
+    let t = after-run levels block pairs buffer passes ok .tied in
+    t .plainly ∙ ap (canonicalAt (timing (speedsIn levels) (tasksIn block))) (sym (t .clock))
+
+pub every-arrival : EveryArrival
+every-arrival levels block pairs buffer passes ok =
+    subst (AllotmentsGiven plan) (sym (one-schedule levels block pairs buffer passes ok))
+    (allotments-given plan (fits levels block pairs buffer ok .allotments) (actualBook levels block pairs buffer passes .clock))
+  where
+    plan : Timing
+    plan = timing (speedsIn levels) (tasksIn block)

@@ -11,9 +11,11 @@ use Rattle.plan.specs.Times.{whole, Within, timeOf}
 use Rattle.plan.specs.Levels.{speedOf, nominal}
 use Rattle.plan.specs.Blocks.{noTask}
 use Rattle.schedule.specs.PlainSchedule.{Timing}
-use Rattle.reclaiming.specs.StateBlock.{State, queuedIn, workOf, remainingOf, restOf, planIn, timing}
-use Rattle.reclaiming.specs.Orders.{nextArrival, openJobs, runningTime}
-use Rattle.reclaiming.specs.Questions.{orderSound, running}
+use Rattle.reclaiming.specs.Allotments.{timing}
+use Rattle.reclaiming.specs.Orders.{nextArrival, openJobs, runningTime, running}
+use Rattle.reclaiming.specs.StateBlock.{State, queuedIn, workOf, remainingOf, restOf, planIn}
+use Rattle.reclaiming.specs.States.{viewOf}
+use Rattle.reclaiming.specs.Questions.{orderSound}
 
 -- the nominal speed of a plan
 abbrev pub nominalSpeed : List ℕ → List Task → ℕ
@@ -34,18 +36,18 @@ Ahead speeds ts s = (i : ℕ) → i < length ts → timeOf (nominalSpeed speeds 
 -- no job but the order's is open, and its time is at most the ticks to the next arrival
 pub record Gap (speeds : List ℕ) (ts : List Task) (s : State) : Type 0 where
   pub others : (i : ℕ) → i < length ts → i ≢ s .task → workOf s i ≡ 0
-  pub time : runningTime speeds s ≤ nextArrival (timing speeds ts) (s .clock)
+  pub time : runningTime speeds (viewOf s) ≤ nextArrival (timing speeds ts) (s .clock)
 
 -- a sound state of a plan
 pub record Fine (speeds : List ℕ) (ts : List Task) (s : State) : Type 0 where
   pub entries : FineEntries speeds ts s
-  pub order : orderSound speeds (timing speeds ts) (nominal speeds ts) s (openJobs (timing speeds ts) s) ≡ true
+  pub order : orderSound speeds (timing speeds ts) (nominal speeds ts) (viewOf s) (openJobs (timing speeds ts) (viewOf s)) ≡ true
   pub pace : Ahead speeds ts s ⊎ Gap speeds ts s
 
 -- a pass that the questions 11 to 14 let through
 pub record Accepted (speeds : List ℕ) (τ : Timing) (s : State) (d : ℕ) (finished : Bool) : Type 0 where
   pub some : 1 ≤ d
   pub within : d ≤ nextArrival τ (s .clock)
-  pub runs : finished ≡ true → running s ≡ true
-  pub time : running s ≡ true → d ≤ runningTime speeds s
-  pub unfinished : running s ≡ true → finished ≡ false → d < runningTime speeds s
+  pub runs : finished ≡ true → running (viewOf s) ≡ true
+  pub time : running (viewOf s) ≡ true → d ≤ runningTime speeds (viewOf s)
+  pub unfinished : running (viewOf s) ≡ true → finished ≡ false → d < runningTime speeds (viewOf s)

@@ -14,6 +14,9 @@ pub mod PassSound
 pub mod Books
 pub mod Runs
 pub mod Demand
+pub mod Ideal
+pub mod Bounds
+pub mod Earliness
 pub mod Asked
 pub mod PlayLaws
 pub mod PlayShown

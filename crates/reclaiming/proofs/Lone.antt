@@ -13,11 +13,12 @@ use Rattle.arith.specs.Ranges.{someTo}
 use Rattle.arith.proofs.Tests.{le-yes, le-not, testLe, eq-yes, eq-not, testEq, both-false}
 use Rattle.arith.proofs.RangeLaws.{none-no, no-none}
 use Rattle.schedule.specs.PlainSchedule.{Timing}
-use Rattle.reclaiming.specs.StateBlock.{State, workOf}
 use Rattle.reclaiming.specs.Orders.{nextArrival, plainAllowance, isLone, withGap, allowance}
+use Rattle.reclaiming.specs.StateBlock.{State, workOf}
+use Rattle.reclaiming.specs.States.{viewOf}
 
 -- an allowance is at least 01's, a lone job's is at least the gap, and it is no more than one of them
-gap-least : (alone : Bool) (plain gap : ℕ) → plain ≤ withGap alone plain gap
+pub gap-least : (alone : Bool) (plain gap : ℕ) → plain ≤ withGap alone plain gap
 gap-least true plain gap = omega arith
 gap-least false plain gap = omega arith
 
@@ -63,19 +64,19 @@ module _ (τ : Timing) (s : State) (x : ℕ) where
             elim (testEq (workOf s i) 0) as (λ b _. not b ≡ false) [ eq-yes z ↦ refl | eq-not z ↦ absurd (z (h e)) ]
       ]
 
-  pub lone-closed : isLone τ s x ≡ true → (i : ℕ) → i < τ .count → i ≢ x → workOf s i ≡ 0
+  pub lone-closed : isLone τ (viewOf s) x ≡ true → (i : ℕ) → i < τ .count → i ≢ x → workOf s i ≡ 0
   lone-closed l i h = other-closed i (no-none other (τ .count) (not-true (someTo (τ .count) other) l) i h)
 
-  pub closed-lone : ((i : ℕ) → i < τ .count → i ≢ x → workOf s i ≡ 0) → isLone τ s x ≡ true
+  pub closed-lone : ((i : ℕ) → i < τ .count → i ≢ x → workOf s i ≡ 0) → isLone τ (viewOf s) x ≡ true
   closed-lone h = ap not (none-no other (τ .count) (λ i k. closed-other i (h i k)))
 
   -- so of its allowance
-  pub allowance-least : plainAllowance τ s x ≤ allowance τ s x
-  allowance-least = gap-least (isLone τ s x) (plainAllowance τ s x) (nextArrival τ (s .clock))
+  pub allowance-least : plainAllowance τ (viewOf s) x ≤ allowance τ (viewOf s) x
+  allowance-least = gap-least (isLone τ (viewOf s) x) (plainAllowance τ (viewOf s) x) (nextArrival τ (s .clock))
 
-  pub allowance-gap : isLone τ s x ≡ true → nextArrival τ (s .clock) ≤ allowance τ s x
-  allowance-gap = gap-taken (isLone τ s x) (plainAllowance τ s x) (nextArrival τ (s .clock))
+  pub allowance-gap : isLone τ (viewOf s) x ≡ true → nextArrival τ (s .clock) ≤ allowance τ (viewOf s) x
+  allowance-gap = gap-taken (isLone τ (viewOf s) x) (plainAllowance τ (viewOf s) x) (nextArrival τ (s .clock))
 
   pub allowance-which :
-      (t : ℕ) → t ≤ allowance τ s x → (t ≤ plainAllowance τ s x) ⊎ ((isLone τ s x ≡ true) × (t ≤ nextArrival τ (s .clock)))
-  allowance-which = gap-which (isLone τ s x) (plainAllowance τ s x) (nextArrival τ (s .clock))
+      (t : ℕ) → t ≤ allowance τ (viewOf s) x → (t ≤ plainAllowance τ (viewOf s) x) ⊎ ((isLone τ (viewOf s) x ≡ true) × (t ≤ nextArrival τ (s .clock)))
+  allowance-which = gap-which (isLone τ (viewOf s) x) (plainAllowance τ (viewOf s) x) (nextArrival τ (s .clock))

@@ -18,12 +18,14 @@ use Rattle.arith.proofs.QuestionLaws.{Yes, all-yes, yes-all, firstNo-most}
 use Rattle.schedule.specs.PlainSchedule.{Timing, Pending}
 use Rattle.schedule.proofs.QueueLaws.{queueOf-length}
 use Rattle.reclaiming.specs.declared.Reply.{Reply}
-use Rattle.reclaiming.specs.StateBlock.{State, planIn, timing, decode, remainingOf}
+use Rattle.reclaiming.specs.Allotments.{timing}
 use Rattle.reclaiming.specs.Orders.{nextArrival, holdOf, orderWith}
-use Rattle.reclaiming.specs.Passes.{startState, passedState}
-use Rattle.reclaiming.specs.Questions.{sound, passQuestions, passing, showing, starting}
-use Rattle.reclaiming.specs.Calls.{repliedBy, startNumber, startOrder, startReply, passNumber, passOrder, passReply}
-use Rattle.reclaiming.specs.Calls.{queueBytes, readyQueue, shownBytes, showNumber, showReply}
+use Rattle.reclaiming.specs.Replies.{repliedBy}
+use Rattle.reclaiming.specs.Passes.{passQuestions}
+use Rattle.reclaiming.specs.StateBlock.{State, planIn, decode, remainingOf}
+use Rattle.reclaiming.specs.States.{startState, passedState, viewOf}
+use Rattle.reclaiming.specs.Questions.{sound, passing, showing, starting}
+use Rattle.reclaiming.specs.Calls.{startNumber, startOrder, startReply, passNumber, passOrder, passReply, queueBytes, readyQueue, shownBytes, showNumber, showReply}
 use Rattle.reclaiming.specs.Numbers.{replyNumber}
 use Rattle.reclaiming.proofs.Fine.{Fine}
 use Rattle.reclaiming.proofs.Replies.{is-idle, is-run, viewOrder}
@@ -33,7 +35,7 @@ use Rattle.arith.proofs.RangeLaws.{least-le}
 use Rattle.reclaiming.proofs.PassSound.{start-fine, pass-fine, pass-hold, hold-next}
 
 -- refusals have small numbers, and so do replies: an order's task and level fit a byte each, and its hold is at most a period
-order-most : (s : State) (hold : ℕ) → s .task < 256 → s .level < 256 → hold ≤ 65535 → replyNumber (orderWith s hold) < 2 ^ 64
+order-most : (s : State) (hold : ℕ) → s .task < 256 → s .level < 256 → hold ≤ 65535 → replyNumber (orderWith (viewOf s) hold) < 2 ^ 64
 order-most s hold t l h =
     elim (viewOrder s hold) as (λ r _. replyNumber r < 2 ^ 64) [ is-idle e ↦ omega arith | is-run e ↦ omega arith ]
 
@@ -52,13 +54,13 @@ module _ (speeds : List ℕ) (table : FineTable speeds) where
       (ts : List Task) (s : State) →
       FineList speeds (length ts) ts →
       Fine speeds ts s →
-      replyNumber (orderWith s (holdOf speeds (timing speeds ts) s)) < 2 ^ 64
+      replyNumber (orderWith (viewOf s) (holdOf speeds (timing speeds ts) (viewOf s))) < 2 ^ 64
   fine-most ts s plan fine =
       let τ : Timing = timing speeds ts in
       let fits = fine-small speeds ts s plan (few-levels table) fine in
       let first : nextArrival τ (s .clock) ≤ τ .period 0 - s .clock % τ .period 0 =
       least-le (length ts) (λ i. τ .period i - s .clock % τ .period i) 0 (plan .count-low) in
-      order-most s (holdOf speeds τ s) (fits .0) (fits .1)
+      order-most s (holdOf speeds τ (viewOf s)) (fits .0) (fits .1)
       (omega (arith, hold-next speeds (table .rising) ts plan s fine, task-range speeds ts plan (table .rising) 0 (plan .count-low) .period-high))
 
 pub start-most : (levels block pairs : List ℕ) (room : ℕ) (r : Reply) → r ≡ startReply levels block pairs room → replyNumber r < 2 ^ 64
@@ -76,7 +78,7 @@ start-most levels block pairs room r e =
         let s : State = startState speeds ts in
         let k : Starts levels block pairs room = start-facts levels block pairs room z in
         let fine : Fine speeds ts s = start-fine speeds ts (k .good) (k .table .rising) in
-        subst (λ (us : List Task). replyNumber (orderWith s (holdOf speeds (timing speeds us) s)) < 2 ^ 64) (sym (fine .entries .plan))
+        subst (λ (us : List Task). replyNumber (orderWith (viewOf s) (holdOf speeds (timing speeds us) (viewOf s))) < 2 ^ 64) (sym (fine .entries .plan))
         (fine-most speeds (k .table) ts s (k .good) fine)
 
 pub pass-most : (bytes : List ℕ) (d : ℕ) (finished : Bool) (r : Reply) → r ≡ passReply bytes d finished → replyNumber r < 2 ^ 64
@@ -96,8 +98,8 @@ pass-most bytes d finished r e =
         let yes : Yes (passing bytes d finished) = all-yes (passing bytes d finished) refl z in
         let table : FineTable speeds = sound-table bytes (yes .0) in
         let f = sound-fine speeds s (sound-state speeds bytes (sound-own bytes (yes .0))) in
-        let ok = pass-accepted speeds s d finished (yes-all (passQuestions speeds s d finished) (yes .1)) .0 in
-        subst (λ (hold : ℕ). replyNumber (orderWith next hold) < 2 ^ 64) (sym (pass-hold speeds (table .rising) ts (f .0) s (f .1) d finished ok))
+        let ok = pass-accepted speeds s d finished (yes-all (passQuestions speeds (timing speeds (planIn s)) (viewOf s) d finished) (yes .1)) .0 in
+        subst (λ (hold : ℕ). replyNumber (orderWith (viewOf next) hold) < 2 ^ 64) (sym (pass-hold speeds (table .rising) ts (f .0) s (f .1) d finished ok))
         (fine-most speeds table ts next (f .0) (pass-fine speeds (table .rising) ts (f .0) s (f .1) d finished ok))
 
 pub show-most : (bytes : List ℕ) (room : ℕ) (w : Written) → w ≡ showReply bytes room → writtenNumber w < 2 ^ 36

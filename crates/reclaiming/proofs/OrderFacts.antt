@@ -16,8 +16,9 @@ use Rattle.schedule.specs.Feasibility.{In}
 use Rattle.schedule.proofs.Urgency.{MoreUrgent, asymmetric}
 use Rattle.schedule.proofs.Queue.{Sorted, leads-in}
 use Rattle.schedule.proofs.QueueLaws.{latestPending, Stands, queueOf-in, in-queueOf, queueOf-sorted}
-use Rattle.reclaiming.specs.StateBlock.{State, workOf}
 use Rattle.reclaiming.specs.Orders.{allowance, openJobs, runningTime}
+use Rattle.reclaiming.specs.StateBlock.{State, workOf}
+use Rattle.reclaiming.specs.States.{viewOf}
 use Rattle.reclaiming.specs.Questions.{orderSound}
 
 -- the order runs the most urgent open job, at a level that meets its allowance
@@ -25,7 +26,7 @@ pub record Runs (speeds : List ℕ) (τ : Timing) (highest : ℕ) (s : State) : 
   pub below : s .task < τ .count
   pub work : 0 < workOf s (s .task)
   pub level : s .level ≤ highest
-  pub meets : runningTime speeds s ≤ allowance τ s (s .task)
+  pub meets : runningTime speeds (viewOf s) ≤ allowance τ (viewOf s) (s .task)
   pub urgent :
       (i : ℕ) → i < τ .count → 0 < workOf s i → i ≢ s .task → MoreUrgent τ (latest τ (s .clock) (s .task)) (latest τ (s .clock) i)
 
@@ -80,16 +81,16 @@ module _ (τ : Timing) (t : ℕ) (left : ℕ → ℕ) (n : ℕ) where
       subst (λ (p : Pending). 0 < left (p .job .task)) (sym (w .is)) (w .some)
 
 module _ (speeds : List ℕ) (τ : Timing) (highest : ℕ) (s : State) where
-  pub order-facts : orderSound speeds τ highest s (openJobs τ s) ≡ true → Ordered speeds τ highest s
-  order-facts = go (openJobs τ s) refl
+  pub order-facts : orderSound speeds τ highest (viewOf s) (openJobs τ (viewOf s)) ≡ true → Ordered speeds τ highest s
+  order-facts = go (openJobs τ (viewOf s)) refl
     where
-      go : (q : List Pending) → openJobs τ s ≡ q → orderSound speeds τ highest s q ≡ true → Ordered speeds τ highest s
+      go : (q : List Pending) → openJobs τ (viewOf s) ≡ q → orderSound speeds τ highest (viewOf s) q ≡ true → Ordered speeds τ highest s
       go [] e h =
           idles (eqb-true (s .task) 255 (both-left (eqb (s .task) 255) (eqb (s .level) 0) h))
           (eqb-true (s .level) 0 (both-right (eqb (s .task) 255) (eqb (s .level) 0) h)) (none-left τ (s .clock) (workOf s) (τ .count) e)
       go (f ∷ q) e h =
           let a : Bool = leb (s .level) highest in
-          let b : Bool = leb (runningTime speeds s) (allowance τ s (s .task)) in
+          let b : Bool = leb (runningTime speeds (viewOf s)) (allowance τ (viewOf s) (s .task)) in
           let x : f .job .task ≡ s .task = sym (eqb-true (s .task) (f .job .task) (both-left (eqb (s .task) (f .job .task)) (both a b) h)) in
           let r : both a b ≡ true = both-right (eqb (s .task) (f .job .task)) (both a b) h in
           let j : f .job ≡ latest τ (s .clock) (s .task) =
@@ -99,16 +100,16 @@ module _ (speeds : List ℕ) (τ : Timing) (highest : ℕ) (s : State) where
             below = subst (λ (k : ℕ). k < τ .count) x (head-below τ (s .clock) (workOf s) (τ .count) f q e);
             work = subst (λ (k : ℕ). 0 < workOf s k) x (head-left τ (s .clock) (workOf s) (τ .count) f q e);
             level = leb-true (s .level) highest (both-left a b r);
-            meets = leb-true (runningTime speeds s) (allowance τ s (s .task)) (both-right a b r);
+            meets = leb-true (runningTime speeds (viewOf s)) (allowance τ (viewOf s) (s .task)) (both-right a b r);
             urgent = λ i k w ne.
                 subst (λ (y : Job). MoreUrgent τ y (latest τ (s .clock) i)) j
                 (head-leads τ (s .clock) (workOf s) (τ .count) f q e i k w (λ y. ne (y ∙ x)));
           })
 
-  pub facts-order : Ordered speeds τ highest s → orderSound speeds τ highest s (openJobs τ s) ≡ true
-  facts-order = go (openJobs τ s) refl
+  pub facts-order : Ordered speeds τ highest s → orderSound speeds τ highest (viewOf s) (openJobs τ (viewOf s)) ≡ true
+  facts-order = go (openJobs τ (viewOf s)) refl
     where
-      go : (q : List Pending) → openJobs τ s ≡ q → Ordered speeds τ highest s → orderSound speeds τ highest s q ≡ true
+      go : (q : List Pending) → openJobs τ (viewOf s) ≡ q → Ordered speeds τ highest s → orderSound speeds τ highest (viewOf s) q ≡ true
       go [] e (idles t l z) = both-true (eq-eqb (s .task) 255 t) (eq-eqb (s .level) 0 l)
       go [] e (runs r) = absurd (entry-in τ (s .clock) (workOf s) (τ .count) [] e (s .task) (r .below) (r .work))
       go (f ∷ q) e (idles t l z) =
@@ -116,7 +117,7 @@ module _ (speeds : List ℕ) (τ : Timing) (highest : ℕ) (s : State) where
           (omega (arith, head-left τ (s .clock) (workOf s) (τ .count) f q e, z (f .job .task) (head-below τ (s .clock) (workOf s) (τ .count) f q e)))
       go (f ∷ q) e (runs r) =
           both-true (eq-eqb (s .task) (f .job .task) (head (ℕ-discrete (s .task) (f .job .task))))
-          (both-true (le-leb (s .level) highest (r .level)) (le-leb (runningTime speeds s) (allowance τ s (s .task)) (r .meets)))
+          (both-true (le-leb (s .level) highest (r .level)) (le-leb (runningTime speeds (viewOf s)) (allowance τ (viewOf s) (s .task)) (r .meets)))
         where
           -- if the head were another job, each would be more urgent than the other
           head : Dec (s .task ≡ f .job .task) → s .task ≡ f .job .task

@@ -30,10 +30,12 @@ use Rattle.schedule.specs.PlainSchedule.{Timing, Job, Pending, moreUrgent, late
 use Rattle.schedule.proofs.Urgency.{MoreUrgent}
 use Rattle.schedule.proofs.Drain.{latest-kept}
 use Rattle.reclaiming.specs.declared.Entry.{Entry}
-use Rattle.reclaiming.specs.StateBlock.{State, noEntry, taskOf, workOf, remainingOf, restIn, restOf, planIn, timing}
-use Rattle.reclaiming.specs.Orders.{nextArrival, plainAllowance, allowance, openJobs, lowestLevel, runningTime, holdOf, withOrder, orderFor, chooseOrder}
-use Rattle.reclaiming.specs.Passes.{newEntry, stateWith, startState, drainedOf, workedOf, arrivesAt, agedEntry, entryAfter, movedState, choosesAnew, passedState, passedHold}
-use Rattle.reclaiming.specs.Questions.{orderSound, running}
+use Rattle.reclaiming.specs.Allotments.{timing}
+use Rattle.reclaiming.specs.Orders.{nextArrival, plainAllowance, allowance, openJobs, lowestLevel, runningTime, holdOf, orderFor, running}
+use Rattle.reclaiming.specs.Passes.{arrivesAt, choosesAnew}
+use Rattle.reclaiming.specs.StateBlock.{State, noEntry, taskOf, workOf, remainingOf, restIn, restOf, planIn}
+use Rattle.reclaiming.specs.States.{putOrder, chosenState, newEntry, stateWith, startState, drainedOf, workedOf, agedEntry, entryAfter, movedState, passedState, passedHold, viewOf, takeOrder}
+use Rattle.reclaiming.specs.Questions.{orderSound}
 use Rattle.reclaiming.proofs.Fine.{nominalSpeed, FineEntries, Ahead, Gap, Fine, Accepted}
 use Rattle.reclaiming.proofs.PassedStates.{passed-entries}
 use Rattle.reclaiming.proofs.OrderFacts.{Runs, Ordered, idles, runs, facts-order, head-below}
@@ -48,10 +50,10 @@ use Rattle.reclaiming.proofs.Lone.{closed-lone, allowance-least, allowa
 module _ (speeds : List ℕ) (ts : List Task) (admitted : nominal speeds ts < length speeds) (s : State)
     (ahead : Ahead speeds ts s) where
   -- the nominal level meets an allowance, so the lowest that does is no higher
-  chosen-level : (x : ℕ) → x < length ts → lowestLevel speeds (restOf s x) (allowance (timing speeds ts) s x) ≤ nominal speeds ts
+  chosen-level : (x : ℕ) → x < length ts → lowestLevel speeds (restOf s x) (allowance (timing speeds ts) (viewOf s) x) ≤ nominal speeds ts
   chosen-level x h =
-      first-le (λ (speed : ℕ). leb (timeOf speed (restOf s x)) (allowance (timing speeds ts) s x)) speeds (nominal speeds ts) 0 admitted
-      (le-leb (timeOf (nominalSpeed speeds ts) (restOf s x)) (allowance (timing speeds ts) s x)
+      first-le (λ (speed : ℕ). leb (timeOf speed (restOf s x)) (allowance (timing speeds ts) (viewOf s) x)) speeds (nominal speeds ts) 0 admitted
+      (le-leb (timeOf (nominalSpeed speeds ts) (restOf s x)) (allowance (timing speeds ts) (viewOf s) x)
       (omega (
         arith,
         ahead x h,
@@ -59,29 +61,29 @@ module _ (speeds : List ℕ) (ts : List Task) (admitted : nominal speeds ts < le
         allowance-least (timing speeds ts) s x,
       )))
 
-  order-for : (q : List Pending) → openJobs (timing speeds ts) s ≡ q →
-      orderSound speeds (timing speeds ts) (nominal speeds ts) (orderFor speeds (timing speeds ts) s q)
-      (openJobs (timing speeds ts) (orderFor speeds (timing speeds ts) s q))
+  order-for : (q : List Pending) → openJobs (timing speeds ts) (viewOf s) ≡ q →
+      orderSound speeds (timing speeds ts) (nominal speeds ts) (viewOf (takeOrder s (orderFor speeds (timing speeds ts) (viewOf s) q)))
+      (openJobs (timing speeds ts) (viewOf (takeOrder s (orderFor speeds (timing speeds ts) (viewOf s) q))))
       ≡ true
   order-for [] e =
-      subst (λ (l : List Pending). orderSound speeds (timing speeds ts) (nominal speeds ts) (withOrder s 255 0) l ≡ true) (sym e) refl
+      subst (λ (l : List Pending). orderSound speeds (timing speeds ts) (nominal speeds ts) (viewOf (putOrder s 255 0)) l ≡ true) (sym e) refl
   order-for (f ∷ q) e =
       let x : ℕ = f .job .task in
-      let l : ℕ = lowestLevel speeds (restOf s x) (allowance (timing speeds ts) s x) in
+      let l : ℕ = lowestLevel speeds (restOf s x) (allowance (timing speeds ts) (viewOf s) x) in
       let low : l ≤ nominal speeds ts = chosen-level x (head-below (timing speeds ts) (s .clock) (workOf s) (length ts) f q e) in
-      subst (λ (k : List Pending). orderSound speeds (timing speeds ts) (nominal speeds ts) (withOrder s x l) k ≡ true) (sym e)
+      subst (λ (k : List Pending). orderSound speeds (timing speeds ts) (nominal speeds ts) (viewOf (putOrder s x l)) k ≡ true) (sym e)
       (both-true (eq-eqb x x refl)
       (both-true (le-leb l (nominal speeds ts) low)
-      (first-passes (λ (speed : ℕ). leb (timeOf speed (restOf s x)) (allowance (timing speeds ts) s x)) speeds 0 (omega arith))))
+      (first-passes (λ (speed : ℕ). leb (timeOf speed (restOf s x)) (allowance (timing speeds ts) (viewOf s) x)) speeds 0 (omega arith))))
 
   pub order-chosen :
-      orderSound speeds (timing speeds ts) (nominal speeds ts) (chooseOrder speeds (timing speeds ts) s)
-      (openJobs (timing speeds ts) (chooseOrder speeds (timing speeds ts) s))
+      orderSound speeds (timing speeds ts) (nominal speeds ts) (viewOf (chosenState speeds (timing speeds ts) s))
+      (openJobs (timing speeds ts) (viewOf (chosenState speeds (timing speeds ts) s)))
       ≡ true
-  order-chosen = order-for (openJobs (timing speeds ts) s) refl
+  order-chosen = order-for (openJobs (timing speeds ts) (viewOf s)) refl
 
 -- another order leaves the entries as they are
-with-order : {speeds : List ℕ} {ts : List Task} {s : State} (task level : ℕ) → FineEntries speeds ts s → FineEntries speeds ts (withOrder s task level)
+with-order : {speeds : List ℕ} {ts : List Task} {s : State} (task level : ℕ) → FineEntries speeds ts s → FineEntries speeds ts (putOrder s task level)
 with-order task level f = record { plan = f .plan; left = f .left; closed = f .closed; remaining = f .remaining; total = f .total }
 
 -- so choosing an order makes a sound state, where every task is ahead
@@ -91,13 +93,13 @@ pub fine-chosen :
     (s : State) →
     FineEntries speeds ts s →
     Ahead speeds ts s →
-    Fine speeds ts (chooseOrder speeds (timing speeds ts) s)
-fine-chosen speeds ts admitted s f ahead = go (openJobs (timing speeds ts) s) refl
+    Fine speeds ts (chosenState speeds (timing speeds ts) s)
+fine-chosen speeds ts admitted s f ahead = go (openJobs (timing speeds ts) (viewOf s)) refl
   where
-    go : (q : List Pending) → openJobs (timing speeds ts) s ≡ q → Fine speeds ts (orderFor speeds (timing speeds ts) s q)
+    go : (q : List Pending) → openJobs (timing speeds ts) (viewOf s) ≡ q → Fine speeds ts (takeOrder s (orderFor speeds (timing speeds ts) (viewOf s) q))
     go [] e = record { entries = with-order 255 0 f; order = order-for speeds ts admitted s ahead [] e; pace = inl ahead }
     go (g ∷ q) e = record {
-      entries = with-order (g .job .task) (lowestLevel speeds (restOf s (g .job .task)) (allowance (timing speeds ts) s (g .job .task))) f;
+      entries = with-order (g .job .task) (lowestLevel speeds (restOf s (g .job .task)) (allowance (timing speeds ts) (viewOf s) (g .job .task))) f;
       order = order-for speeds ts admitted s ahead (g ∷ q) e;
       pace = inl ahead;
     }
@@ -149,7 +151,7 @@ module _ (speeds : List ℕ) (rising : Rising speeds) (ts : List Task) (plan : F
     arrives = someTo (length ts) (arrivesAt τ (s .clock + d))
 
     abbrev anew : Bool
-    anew = choosesAnew τ s d finished
+    anew = choosesAnew τ (viewOf s) d finished
 
     -- a task's entry in that state, and what it is where no job of the task arrives
     abbrev entry : ℕ → Entry
@@ -238,13 +240,13 @@ module _ (speeds : List ℕ) (rising : Rising speeds) (ts : List Task) (plan : F
 
       -- 01's allowance after the pass, from what the pass left
       allowance-kept :
-          (x : ℕ) → x < length ts → plainAllowance τ moved x ≡ sumTo (length ts) (allowed τ (s .clock) (drainedOf τ s d) x)
+          (x : ℕ) → x < length ts → plainAllowance τ (viewOf moved) x ≡ sumTo (length ts) (allowed τ (s .clock) (drainedOf τ s d) x)
       allowance-kept x h =
           sumTo-eq (length ts) (allowed τ (s .clock + d) (remainingOf moved) x) (allowed τ (s .clock) (drainedOf τ s d) x)
           (λ j k m. pick {A = ℕ} (moreUrgent τ (job-kept x h m) (job-kept j k m)) 0 (kept-at j k m .remaining))
 
       -- the running job's time falls by d
-      pub time-kept : Runs speeds τ (nominal speeds ts) s → runningTime speeds moved ≡ runningTime speeds s - d
+      pub time-kept : Runs speeds τ (nominal speeds ts) s → runningTime speeds (viewOf moved) ≡ runningTime speeds (viewOf s) - d
       time-kept r =
           ap (λ (e : Entry). timeOf (speedOf speeds (s .level)) (restIn e)) (kept-at (s .task) (r .below))
           ∙ ap (timeOf (speedOf speeds (s .level)))
@@ -266,10 +268,10 @@ module _ (speeds : List ℕ) (rising : Rising speeds) (ts : List Task) (plan : F
       }
 
       -- the order still meets the allowance, each part of which falls by at most d
-      meets-kept : Runs speeds τ (nominal speeds ts) s → runningTime speeds moved ≤ allowance τ moved (s .task)
+      meets-kept : Runs speeds τ (nominal speeds ts) s → runningTime speeds (viewOf moved) ≤ allowance τ (viewOf moved) (s .task)
       meets-kept r = ⊎-elim by-plan by-gap (paced speeds ts s fine)
         where
-          by-plan : Reclaims speeds ts s → runningTime speeds moved ≤ allowance τ moved (s .task)
+          by-plan : Reclaims speeds ts s → runningTime speeds (viewOf moved) ≤ allowance τ (viewOf moved) (s .task)
           by-plan k =
               omega (
                 arith,
@@ -280,7 +282,7 @@ module _ (speeds : List ℕ) (rising : Rising speeds) (ts : List Task) (plan : F
                 allowance-least τ moved (s .task),
               )
 
-          by-gap : Gap speeds ts s → runningTime speeds moved ≤ allowance τ moved (s .task)
+          by-gap : Gap speeds ts s → runningTime speeds (viewOf moved) ≤ allowance τ (viewOf moved) (s .task)
           by-gap g =
               let after : Gap speeds ts moved = gap-kept r g in
               omega (arith, after .time, allowance-gap τ moved (s .task) (closed-lone τ moved (s .task) (after .others)))
@@ -322,7 +324,7 @@ module _ (speeds : List ℕ) (rising : Rising speeds) (ts : List Task) (plan : F
 
     pub pass-fine : Fine speeds ts (passedState speeds τ s d finished)
     pass-fine =
-        elim (tested anew) as (λ b _. anew ≡ b → Fine speeds ts (pick b (chooseOrder speeds τ moved) moved)) [
+        elim (tested anew) as (λ b _. anew ≡ b → Fine speeds ts (pick b (chosenState speeds τ moved) moved)) [
           | passed ↦ λ e. fine-chosen speeds ts (plan .tasks .admitted) moved moved-fine (anew-ahead e)
           | failed ↦ λ e. record {
             entries = moved-fine;
@@ -338,79 +340,79 @@ module _ (speeds : List ℕ) (rising : Rising speeds) (ts : List Task) (plan : F
         (sym (passed-entries speeds τ s d finished)) (anew-ahead (either-second finished a))
 
     -- where the order stays its hold falls by d, and that is the hold of the new state
-    hold-kept : anew ≡ false → holdOf speeds τ s - d ≡ holdOf speeds τ moved
+    hold-kept : anew ≡ false → holdOf speeds τ (viewOf s) - d ≡ holdOf speeds τ (viewOf moved)
     hold-kept e = go (ordered speeds ts s fine)
       where
         next : nextArrival τ (s .clock + d) ≡ nextArrival τ (s .clock) - d
         next = next-kept (goes-on e) (none-arrives e)
 
-        go : Ordered speeds τ (nominal speeds ts) s → holdOf speeds τ s - d ≡ holdOf speeds τ moved
+        go : Ordered speeds τ (nominal speeds ts) s → holdOf speeds τ (viewOf s) - d ≡ holdOf speeds τ (viewOf moved)
         go (idles t l z) = rw (eq-eqb (s .task) 255 t) (sym next)
         go (runs r) =
             let x : eqb (s .task) 255 ≡ false = not-true (eqb (s .task) 255) (runs-running speeds rising ts plan s r) in
             rw x (omega (arith, next, time-kept (goes-on e) (none-arrives e) r))
 
-    pub pass-hold : passedHold speeds τ s d finished ≡ holdOf speeds τ (passedState speeds τ s d finished)
+    pub pass-hold : passedHold speeds τ s d finished ≡ holdOf speeds τ (viewOf (passedState speeds τ s d finished))
     pass-hold =
         elim (tested anew)
         as (λ b _.
         anew ≡ b →
-        pick {A = ℕ} b (holdOf speeds τ (pick b (chooseOrder speeds τ moved) moved)) (holdOf speeds τ s - d)
-        ≡ holdOf speeds τ (pick b (chooseOrder speeds τ moved) moved))
+        pick {A = ℕ} b (holdOf speeds τ (viewOf (pick b (chosenState speeds τ moved) moved))) (holdOf speeds τ (viewOf s) - d)
+        ≡ holdOf speeds τ (viewOf (pick b (chosenState speeds τ moved) moved)))
         [ passed ↦ λ e. refl | failed ↦ hold-kept ]
         refl
 
   -- the hold of a sound state's order
   module _ (s : State) (fine : Fine speeds ts s) where
-    pub hold-next : holdOf speeds τ s ≤ nextArrival τ (s .clock)
+    pub hold-next : holdOf speeds τ (viewOf s) ≤ nextArrival τ (s .clock)
     hold-next =
         elim (tested (eqb (s .task) 255))
         as (λ b _.
-        pick {A = ℕ} b (nextArrival τ (s .clock)) (min (runningTime speeds s) (nextArrival τ (s .clock)))
+        pick {A = ℕ} b (nextArrival τ (s .clock)) (min (runningTime speeds (viewOf s)) (nextArrival τ (s .clock)))
         ≤ nextArrival τ (s .clock))
         [ passed ↦ omega arith | failed ↦ omega arith ]
 
-    pub hold-time : running s ≡ true → holdOf speeds τ s ≤ runningTime speeds s
+    pub hold-time : running (viewOf s) ≡ true → holdOf speeds τ (viewOf s) ≤ runningTime speeds (viewOf s)
     hold-time h = rw (not-true (eqb (s .task) 255) h) (omega arith)
 
-    pub hold-positive : 1 ≤ holdOf speeds τ s
+    pub hold-positive : 1 ≤ holdOf speeds τ (viewOf s)
     hold-positive = go (ordered speeds ts s fine)
       where
         next : 1 ≤ nextArrival τ (s .clock)
         next = next-positive τ (plan .count-low) periods (s .clock)
 
-        go : Ordered speeds τ (nominal speeds ts) s → 1 ≤ holdOf speeds τ s
+        go : Ordered speeds τ (nominal speeds ts) s → 1 ≤ holdOf speeds τ (viewOf s)
         go (idles t l z) = rw (eq-eqb (s .task) 255 t) next
         go (runs r) =
             rw (not-true (eqb (s .task) 255) (runs-running speeds rising ts plan s r)) (omega (arith, next, time-positive speeds rising ts plan s r))
 
     -- a pass of that hold is accepted, finished exactly if it is the whole time needed
     pub hold-accepted :
-        Accepted speeds τ s (holdOf speeds τ s)
-        (both (running s) (eqb (holdOf speeds τ s) (runningTime speeds s)))
+        Accepted speeds τ s (holdOf speeds τ (viewOf s))
+        (both (running (viewOf s)) (eqb (holdOf speeds τ (viewOf s)) (runningTime speeds (viewOf s))))
     hold-accepted = record {
       some = hold-positive;
       within = hold-next;
-      runs = both-left (running s) (eqb (holdOf speeds τ s) (runningTime speeds s));
+      runs = both-left (running (viewOf s)) (eqb (holdOf speeds τ (viewOf s)) (runningTime speeds (viewOf s)));
       time = hold-time;
       unfinished = less;
     }
       where
         less :
-            running s ≡ true →
-            both (running s) (eqb (holdOf speeds τ s) (runningTime speeds s)) ≡ false →
-            holdOf speeds τ s < runningTime speeds s
+            running (viewOf s) ≡ true →
+            both (running (viewOf s)) (eqb (holdOf speeds τ (viewOf s)) (runningTime speeds (viewOf s))) ≡ false →
+            holdOf speeds τ (viewOf s) < runningTime speeds (viewOf s)
         less h e =
-            let ne : holdOf speeds τ s ≡ runningTime speeds s → ⊥ =
-            λ x. true≢false (sym (both-true h (eq-eqb (holdOf speeds τ s) (runningTime speeds s) x)) ∙ e) in
+            let ne : holdOf speeds τ (viewOf s) ≡ runningTime speeds (viewOf s) → ⊥ =
+            λ x. true≢false (sym (both-true h (eq-eqb (holdOf speeds τ (viewOf s)) (runningTime speeds (viewOf s)) x)) ∙ e) in
             omega (arith, hold-time h)
 
     -- and so is an earlier finish
     pub finish-accepted :
         (d : ℕ) →
         1 ≤ d →
-        d ≤ holdOf speeds τ s →
-        running s ≡ true →
+        d ≤ holdOf speeds τ (viewOf s) →
+        running (viewOf s) ≡ true →
         Accepted speeds τ s d true
     finish-accepted d some most h = record {
       some = some;

@@ -3,7 +3,7 @@
 use Prim.Native.Nat.{ℕ, _+_, _%_, _<_}
 use mathlib.Core.Path.{_≡_, refl, ap, _∙_}
 use mathlib.Core.Bool.{Bool}
-use mathlib.Core.List.{List, [], _∷_}
+use mathlib.Core.List.{List}
 use mathlib.Core.Logic.{_≢_}
 use lib.Dec.{eqb}
 use lib.ListN.{getD}
@@ -13,41 +13,25 @@ use Rattle.arith.proofs.Tests.{eq-yes, eq-not, testEq, passed, failed, tested}
 use Rattle.arith.proofs.RangeLaws.{getD-listTo}
 use Rattle.plan.specs.Times.{whole}
 use Rattle.plan.specs.Blocks.{noTask}
-use Rattle.schedule.specs.PlainSchedule.{Timing, Pending}
+use Rattle.schedule.specs.PlainSchedule.{Timing}
 use Rattle.reclaiming.specs.declared.Entry.{Entry}
+use Rattle.reclaiming.specs.Passes.{choosesAnew}
 use Rattle.reclaiming.specs.StateBlock.{State, noEntry, remainingOf, restIn, restOf, planIn}
-use Rattle.reclaiming.specs.Orders.{chooseOrder, orderFor, openJobs}
-use Rattle.reclaiming.specs.Passes.{passedState, movedState, choosesAnew, newEntry, agedEntry, entryAfter, workedOf, drainedOf}
+use Rattle.reclaiming.specs.States.{chosenState, passedState, movedState, newEntry, agedEntry, entryAfter, workedOf, drainedOf, viewOf}
 
 -- choosing an order leaves the clock, the entries, the speeds and the total
-chosen-clock : (speeds : List ℕ) (τ : Timing) (s : State) (q : List Pending) → orderFor speeds τ s q .clock ≡ s .clock
-chosen-clock speeds τ s [] = refl
-chosen-clock speeds τ s (e ∷ q) = refl
-
-chosen-entries : (speeds : List ℕ) (τ : Timing) (s : State) (q : List Pending) → orderFor speeds τ s q .entries ≡ s .entries
-chosen-entries speeds τ s [] = refl
-chosen-entries speeds τ s (e ∷ q) = refl
-
-chosen-speeds : (speeds : List ℕ) (τ : Timing) (s : State) (q : List Pending) → orderFor speeds τ s q .speeds ≡ s .speeds
-chosen-speeds speeds τ s [] = refl
-chosen-speeds speeds τ s (e ∷ q) = refl
-
-chosen-total : (speeds : List ℕ) (τ : Timing) (s : State) (q : List Pending) → orderFor speeds τ s q .total ≡ s .total
-chosen-total speeds τ s [] = refl
-chosen-total speeds τ s (e ∷ q) = refl
-
 module _ (speeds : List ℕ) (τ : Timing) where
-  pub choose-clock : (s : State) → chooseOrder speeds τ s .clock ≡ s .clock
-  choose-clock s = chosen-clock speeds τ s (openJobs τ s)
+  pub choose-clock : (s : State) → chosenState speeds τ s .clock ≡ s .clock
+  choose-clock s = refl
 
-  pub choose-entries : (s : State) → chooseOrder speeds τ s .entries ≡ s .entries
-  choose-entries s = chosen-entries speeds τ s (openJobs τ s)
+  pub choose-entries : (s : State) → chosenState speeds τ s .entries ≡ s .entries
+  choose-entries s = refl
 
-  pub choose-speeds : (s : State) → chooseOrder speeds τ s .speeds ≡ s .speeds
-  choose-speeds s = chosen-speeds speeds τ s (openJobs τ s)
+  pub choose-speeds : (s : State) → chosenState speeds τ s .speeds ≡ s .speeds
+  choose-speeds s = refl
 
-  pub choose-total : (s : State) → chooseOrder speeds τ s .total ≡ s .total
-  choose-total s = chosen-total speeds τ s (openJobs τ s)
+  pub choose-total : (s : State) → chosenState speeds τ s .total ≡ s .total
+  choose-total s = refl
 
   module _ (s : State) (d : ℕ) (finished : Bool) where
     abbrev next : State
@@ -58,17 +42,17 @@ module _ (speeds : List ℕ) (τ : Timing) where
 
     pub passed-clock : next .clock ≡ s .clock + d
     passed-clock =
-        elim (tested (choosesAnew τ s d finished)) as (λ b _. pick b (chooseOrder speeds τ moved) moved .clock ≡ s .clock + d)
+        elim (tested (choosesAnew τ (viewOf s) d finished)) as (λ b _. pick b (chosenState speeds τ moved) moved .clock ≡ s .clock + d)
         [ passed ↦ choose-clock moved | failed ↦ refl ]
 
     pub passed-entries : next .entries ≡ listTo (τ .count) (entryAfter speeds τ s d finished)
     passed-entries =
-        elim (tested (choosesAnew τ s d finished)) as (λ b _. pick b (chooseOrder speeds τ moved) moved .entries ≡ listTo (τ .count) (entryAfter speeds τ s d finished))
+        elim (tested (choosesAnew τ (viewOf s) d finished)) as (λ b _. pick b (chosenState speeds τ moved) moved .entries ≡ listTo (τ .count) (entryAfter speeds τ s d finished))
         [ passed ↦ choose-entries moved | failed ↦ refl ]
 
     pub passed-speeds : next .speeds ≡ s .speeds
     passed-speeds =
-        elim (tested (choosesAnew τ s d finished)) as (λ b _. pick b (chooseOrder speeds τ moved) moved .speeds ≡ s .speeds)
+        elim (tested (choosesAnew τ (viewOf s) d finished)) as (λ b _. pick b (chosenState speeds τ moved) moved .speeds ≡ s .speeds)
         [ passed ↦ choose-speeds moved | failed ↦ refl ]
 
     module _ (i : ℕ) (h : i < τ .count) where

@@ -21,7 +21,7 @@ use Rattle.plan.proofs.LevelLaws.{Positive, range-positive, hyperperiod-is-leas
 use Rattle.schedule.specs.PlainSchedule.{Timing}
 use Rattle.schedule.specs.Feasibility.{Fitting}
 use Rattle.schedule.proofs.Demand.{demand-fits}
-use Rattle.reclaiming.specs.StateBlock.{timing}
+use Rattle.reclaiming.specs.Allotments.{timing}
 use Rattle.reclaiming.proofs.Fine.{nominalSpeed}
 
 module _ (speeds : List ℕ) (ts : List Task) (fine : FineList speeds (length ts) ts) (rising : Rising speeds) where

@@ -12,30 +12,39 @@ use lib.ListN.{length, take, drop}
 use lib.Seq.{take-at, take-length}
 use Rattle.arith.specs.Choice.{pick}
 use Rattle.arith.proofs.QuestionLaws.{Yes, all-yes, yes-all, firstNo-most}
+use Rattle.plan.specs.declared.Task.{Task}
 use Rattle.plan.specs.LevelBlocks.{speedsIn}
 use Rattle.plan.specs.Blocks.{tasksIn}
 use Rattle.plan.specs.Pairs.{pairsIn}
 use Rattle.plan.specs.Answers.{storedBy}
 use Rattle.plan.proofs.LevelBlockLaws.{FineTable, few-levels}
 use Rattle.plan.proofs.Facts.{FineList}
-use Rattle.schedule.specs.PlainSchedule.{Timing, opened}
+use Rattle.schedule.specs.PlainSchedule.{Timing, Book, canonicalAt}
+use Rattle.schedule.specs.Served.{AllotmentsGiven}
 use Rattle.reclaiming.specs.declared.Reply.{Reply}
 use Rattle.reclaiming.specs.declared.Reply.the-variants as reply
 use Rattle.reclaiming.specs.declared.Queued.the-variants as queued
-use Rattle.reclaiming.specs.StateBlock.{State, encode, decode, planIn, timing, stateLength}
+use Rattle.reclaiming.specs.Allotments.{timing}
 use Rattle.reclaiming.specs.Orders.{orderWith, holdOf}
-use Rattle.reclaiming.specs.Passes.{startState, passedState, passedHold}
-use Rattle.reclaiming.specs.Questions.{passing, starting, passQuestions}
-use Rattle.reclaiming.specs.Calls.{repliedBy, isOrder, startNumber, startReply, startBuffer, startOrder, passNumber, passReply, passBytes, passOrder, queuedReply}
-use Rattle.reclaiming.specs.Run.{Pass, Answered, trace, bytesAfter, startedBytes, openedBook, bookedAll, ranAll}
-use Rattle.reclaiming.specs.Promises.{Started, OnTime, ClosesByArrival, EarlierClosed, NamesMostUrgent, ticksIn, lastOrder, actualBook, stateAfter}
+use Rattle.reclaiming.specs.Replies.{repliedBy, isOrder}
+use Rattle.reclaiming.specs.Passes.{passQuestions, Pass}
+use Rattle.reclaiming.specs.Books.{Answered, DispatcherBook, actualOf, plainOf}
+use Rattle.reclaiming.specs.StateBlock.{State, encode, decode, planIn, stateLength}
+use Rattle.reclaiming.specs.States.{startState, passedState, passedHold, viewOf}
+use Rattle.reclaiming.specs.Questions.{passing, starting}
+use Rattle.reclaiming.specs.Calls.{startNumber, startReply, startBuffer, startOrder, passNumber, passReply, passBytes, passOrder, queuedReply}
+use Rattle.reclaiming.specs.Run.{trace, bytesAfter, startedBytes}
+use Rattle.reclaiming.specs.Promises.{Started, OnTime, ClosesByArrival, EarlierClosed, NamesMostUrgent, ticksIn, lastOrder, actualBook, stateAfter, FollowsBooks, PassWithin, replies, OfNewOrders, AllAhead, TakesEarliness}
 use Rattle.reclaiming.specs.Numbers.{replyNumber}
-use Rattle.reclaiming.specs.Play.{replyFrom, replyNumbers, answersFrom, leftBy, playedState, playedReplies, PlayedOnTime, PlayedInTime, PlayedMostUrgent, PlayedPairsKept, PlayedTotalTold, actualTo}
+use Rattle.reclaiming.specs.Play.{replyFrom, replyNumbers, answersFrom, leftBy, playedState, playedReplies, PlayedOnTime, PlayedInTime, PlayedMostUrgent, PlayedPairsKept, PlayedTotalTold, PlayedByBooks, PlayedWithin, playedActual, PlayedEarliness, PlayedAhead, PlayedPlainly}
 use Rattle.reclaiming.proofs.Fine.{Fine, Accepted}
 use Rattle.reclaiming.proofs.Replies.{is-idle, is-run, viewOrder, order-accepted, not-refused}
 use Rattle.reclaiming.proofs.Soundness.{sound-state, sound-fine, sound-table, sound-own, pass-accepted, fine-small, Starts, start-facts}
 use Rattle.reclaiming.proofs.PassSound.{start-fine, pass-fine}
-use Rattle.reclaiming.proofs.Demand.{demand-3, closes-in-time, runs-most-urgent, pairs-kept, total-told, room, after-length, untouched}
+use Rattle.reclaiming.proofs.Ideal.{ideal-run, trace-take}
+use Rattle.reclaiming.proofs.Bounds.{passes-within}
+use Rattle.reclaiming.proofs.Earliness.{theorem-1, with-full-earliness}
+use Rattle.reclaiming.proofs.Demand.{demand-3, closes-in-time, runs-most-urgent, pairs-kept, total-told, room, after-length, untouched, one-schedule, every-arrival}
 
 -- a reply whose parts each fit their place in the number
 abbrev pub Small : Reply → Type 0
@@ -72,7 +81,7 @@ from-number (reply.Refused n) small =
     let c : n % 256 ≡ n = omega arith in
     ap₂ (kinds n) (ne-eqb (n / 256 % 256) 1 (λ e. omega arith)) (ne-eqb (n / 256 % 256) 2 (λ e. omega arith)) ∙ ap (λ (y : ℕ). reply.Refused y) c
 
-order-small : (s : State) (hold : ℕ) → (s .task < 256) × (s .level < 256) → Small (orderWith s hold)
+order-small : (s : State) (hold : ℕ) → (s .task < 256) × (s .level < 256) → Small (orderWith (viewOf s) hold)
 order-small s hold fits = elim (viewOrder s hold) as (λ r _. Small r) [ is-idle e ↦ tt | is-run e ↦ fits ]
 
 replied-small : (n : ℕ) (order : Reply) → n < 256 → (n ≡ 0 → Small order) → Small (repliedBy n order)
@@ -104,7 +113,7 @@ module _ (bytes : List ℕ) (d : ℕ) (finished : Bool) where
       let fine : FineList held (length (planIn before)) (planIn before) × Fine held (planIn before) before =
       sound-fine held before (sound-state held bytes (sound-own bytes (yes .0))) in
       let ok : Accepted held (timing held (planIn before)) before d finished =
-      pass-accepted held before d finished (yes-all (passQuestions held before d finished) (yes .1)) .0 in
+      pass-accepted held before d finished (yes-all (passQuestions held (timing held (planIn before)) (viewOf before) d finished) (yes .1)) .0 in
       fine-small held (planIn before) next (fine .0) (few-levels table)
       (pass-fine held (table .rising) (planIn before) (fine .0) before (fine .1) d finished ok)
 
@@ -123,14 +132,6 @@ answers-same (p ∷ ps) bytes rest =
     (from-number (passReply bytes (p .d) (p .finished)) (pass-small bytes (p .d) (p .finished)))
     (answers-same ps (passBytes bytes (p .d) (p .finished)) rest)
 
--- a run of the first n passes
-trace-take : (n : ℕ) (bytes : List ℕ) (passes : List Pass) → take n (trace bytes passes) ≡ trace bytes (take n passes)
-trace-take zero bytes passes = refl
-trace-take (suc n) bytes [] = refl
-trace-take (suc n) bytes (p ∷ ps) =
-    ap (λ (l : List Answered). record { pass = p; reply = passReply bytes (p .d) (p .finished) } ∷ l)
-    (trace-take n (passBytes bytes (p .d) (p .finished)) ps)
-
 -- over any level block
 module _ (levels : List ℕ) where
   abbrev speeds : List ℕ
@@ -142,14 +143,14 @@ module _ (levels : List ℕ) where
     begun = startState speeds (tasksIn block)
 
     abbrev begun-hold : ℕ
-    begun-hold = holdOf speeds (timing speeds (planIn begun)) begun
+    begun-hold = holdOf speeds (timing speeds (planIn begun)) (viewOf begun)
 
     -- a start is answered with an order exactly if no question is answered no
     pub started-number : Started levels block pairs buffer → startNumber levels block pairs (length buffer) ≡ 0
     started-number = not-refused (startNumber levels block pairs (length buffer)) (startOrder speeds begun)
 
     pub number-started : startNumber levels block pairs (length buffer) ≡ 0 → Started levels block pairs buffer
-    number-started e = ap (λ (n : ℕ). isOrder (repliedBy n (orderWith begun begun-hold))) e ∙ order-accepted begun begun-hold
+    number-started e = ap (λ (n : ℕ). isOrder (repliedBy n (orderWith (viewOf begun) begun-hold))) e ∙ order-accepted begun begun-hold
 
     start-small : Small (startReply levels block pairs (length buffer))
     start-small =
@@ -182,15 +183,17 @@ module _ (levels : List ℕ) where
     pub number-accepted : isOrder (replyFrom first-number) ≡ true → Started levels block pairs state
     number-accepted ok = ap isOrder (sym first-back) ∙ ok
 
+    -- the replies in the lent block, all of them
+    all-back : Started levels block pairs state → answersFrom passes replies-found ≡ trace (startedBytes levels block pairs state) passes
+    all-back ok =
+        ap (λ (k : ℕ). answersFrom passes (leftBy k (replies-left block pairs state passes found) found)) (started-number block pairs state ok)
+        ∙ answers-same passes (startedBytes levels block pairs state) (drop (length passes) found)
+
     answers-back :
         Started levels block pairs state →
         (n : ℕ) →
         take n (answersFrom passes replies-found) ≡ trace (startedBytes levels block pairs state) (take n passes)
-    answers-back ok n =
-        ap (take n)
-        (ap (λ (k : ℕ). answersFrom passes (leftBy k (replies-left block pairs state passes found) found)) (started-number block pairs state ok)
-        ∙ answers-same passes (startedBytes levels block pairs state) (drop (length passes) found))
-        ∙ trace-take n (startedBytes levels block pairs state) passes
+    answers-back ok n = ap (take n) (all-back ok) ∙ trace-take n (startedBytes levels block pairs state) passes
 
     pub carried :
         (P : Reply → List Answered → Type 0) →
@@ -200,37 +203,53 @@ module _ (levels : List ℕ) where
         P (replyFrom first-number) (take n (answersFrom passes replies-found))
     carried P ok n = subst₂ P (sym first-back) (sym (answers-back ok n))
 
+    -- of all replies
+    carried-all :
+        (P : Reply → List Answered → Type 0) →
+        Started levels block pairs state →
+        P (startReply levels block pairs (length state)) (trace (startedBytes levels block pairs state) passes) →
+        P (replyFrom first-number) (answersFrom passes replies-found)
+    carried-all P ok = subst₂ P (sym first-back) (sym (all-back ok))
+
+    abbrev ts : List Task
+    ts = tasksIn block
+
     abbrev τ : Timing
-    τ = timing speeds (tasksIn block)
+    τ = timing speeds ts
+
+    -- the books of a run's replies
+    abbrev actual : Reply → List Answered → DispatcherBook
+    actual = actualOf speeds ts
+
+    abbrev plain : List Answered → Book
+    plain = plainOf speeds ts
 
     played-on-time : PlayedOnTime levels block first-number passes replies-found
     played-on-time accepted n =
         let ok : Started levels block pairs state = number-accepted accepted in
-        carried (λ (r : Reply) (l : List Answered). OnTime speeds τ (bookedAll speeds (tasksIn block) (openedBook (tasksIn block) r) l) (ranAll τ (opened τ) l)) ok n
-        (demand-3 levels block pairs state (take n passes) ok)
+        carried (λ (r : Reply) (l : List Answered). OnTime speeds τ (actual r l) (plain l)) ok n (demand-3 levels block pairs state (take n passes) ok)
+
+    booked-back :
+        Started levels block pairs state →
+        (m : ℕ) →
+        actualBook levels block pairs state (take m passes) ≡ playedActual levels block first-number passes replies-found m
+    booked-back ok m = ap₂ actual (sym first-back) (sym (answers-back ok m))
 
     played-in-time : PlayedInTime levels block first-number passes replies-found
     played-in-time accepted n =
         let ok : Started levels block pairs state = number-accepted accepted in
         subst₂ (ClosesByArrival τ) (booked-back ok n) (booked-back ok (suc n)) (closes-in-time levels block pairs state passes n ok)
-      where
-        booked-back :
-            Started levels block pairs state →
-            (m : ℕ) →
-            actualBook levels block pairs state (take m passes) ≡ actualTo levels block first-number passes replies-found m
-        booked-back ok m =
-            ap₂ (λ (r : Reply) (l : List Answered). bookedAll speeds (tasksIn block) (openedBook (tasksIn block) r) l) (sym first-back) (sym (answers-back ok m))
 
     played-most-urgent : PlayedMostUrgent levels block first-number passes replies-found
     played-most-urgent accepted n =
         let ok : Started levels block pairs state = number-accepted accepted in
-        carried (λ (r : Reply) (l : List Answered). NamesMostUrgent τ (bookedAll speeds (tasksIn block) (openedBook (tasksIn block) r) l) (lastOrder r l)) ok n
+        carried (λ (r : Reply) (l : List Answered). NamesMostUrgent τ (actual r l) (lastOrder r l)) ok n
         (runs-most-urgent levels block pairs state (take n passes) ok)
 
     played-pairs-kept : PlayedPairsKept levels block first-number passes replies-found pairs
     played-pairs-kept accepted n =
         let ok : Started levels block pairs state = number-accepted accepted in
-        carried (λ (r : Reply) (l : List Answered). EarlierClosed τ (pairsIn pairs) (bookedAll speeds (tasksIn block) (openedBook (tasksIn block) r) l)) ok n
+        carried (λ (r : Reply) (l : List Answered). EarlierClosed τ (pairsIn pairs) (actual r l)) ok n
         (pairs-kept levels block pairs state (take n passes) ok)
 
     -- the state that is left begins with the run's
@@ -243,10 +262,41 @@ module _ (levels : List ℕ) where
     played-total-told accepted =
         let ok : Started levels block pairs state = number-accepted accepted in
         let all : List Pass = take (length passes) passes in
-        carried (λ (r : Reply) (l : List Answered). queuedReply (take stateLength (playedState levels block pairs state passes)) ≡ queued.Ticks (ticksIn (ranAll τ (opened τ) l .pending)))
+        carried (λ (r : Reply) (l : List Answered). queuedReply (take stateLength (playedState levels block pairs state passes)) ≡ queued.Ticks (ticksIn (plain l .pending)))
         ok (length passes)
         (ap queuedReply (left-front ok ∙ ap (λ (ps : List Pass). stateAfter levels block pairs state ps) (sym (take-length passes)))
         ∙ total-told levels block pairs state all ok)
+
+    played-by-books : PlayedByBooks levels block first-number passes replies-found (playedState levels block pairs state passes)
+    played-by-books accepted =
+        let ok : Started levels block pairs state = number-accepted accepted in
+        carried-all
+        (λ (r : Reply) (l : List Answered). FollowsBooks speeds ts r l passes (take stateLength (playedState levels block pairs state passes)))
+        ok
+        (subst
+        (FollowsBooks speeds ts (startReply levels block pairs (length state)) (replies levels block pairs state passes) passes)
+        (sym (left-front ok)) (ideal-run levels block pairs state passes ok))
+
+    played-earliness : PlayedEarliness levels block first-number passes replies-found
+    played-earliness accepted =
+        let ok : Started levels block pairs state = number-accepted accepted in
+        carried-all (OfNewOrders (TakesEarliness speeds ts) speeds ts) ok (with-full-earliness levels block pairs state passes ok)
+
+    played-ahead : PlayedAhead levels block first-number passes replies-found
+    played-ahead accepted n =
+        let ok : Started levels block pairs state = number-accepted accepted in
+        carried (λ (r : Reply) (l : List Answered). AllAhead speeds ts (actual r l) (plain l)) ok n (theorem-1 levels block pairs state (take n passes) ok)
+
+    played-within : PlayedWithin levels block first-number passes replies-found
+    played-within accepted n =
+        let ok : Started levels block pairs state = number-accepted accepted in
+        carried-all (λ (r : Reply) (l : List Answered). PassWithin speeds ts r l n) ok (passes-within levels block pairs state passes n ok)
+
+    played-plainly : PlayedPlainly levels block first-number passes replies-found
+    played-plainly accepted n =
+        let ok : Started levels block pairs state = number-accepted accepted in
+        carried (λ (r : Reply) (l : List Answered). (plain l ≡ canonicalAt τ (actual r l .clock)) × AllotmentsGiven τ (plain l)) ok n
+        (one-schedule levels block pairs state (take n passes) ok, every-arrival levels block pairs state (take n passes) ok)
 
   -- what it leaves where the start is refused, and where it is accepted
   module _ (block pairs state : List ℕ) (passes : List Pass) (found : List ℕ) where
@@ -256,7 +306,12 @@ module _ (levels : List ℕ) where
         PlayedOnTime levels block first passes replies
         × (PlayedInTime levels block first passes replies
         × (PlayedMostUrgent levels block first passes replies
-        × (PlayedPairsKept levels block first passes replies pairs × PlayedTotalTold levels block first passes replies m)))
+        × (PlayedPairsKept levels block first passes replies pairs
+        × (PlayedTotalTold levels block first passes replies m
+        × (PlayedByBooks levels block first passes replies m
+        × (PlayedEarliness levels block first passes replies
+        × (PlayedAhead levels block first passes replies
+        × (PlayedWithin levels block first passes replies × PlayedPlainly levels block first passes replies))))))))
 
     abbrev PlayLeaves : ℕ → List ℕ → List ℕ → Type 0
     PlayLeaves first m replies =
@@ -279,6 +334,18 @@ module _ (levels : List ℕ) where
         left : List ℕ
         left = playedReplies levels block pairs state passes found
 
+        books :
+            PlayedByBooks levels block number passes left (playedState levels block pairs state passes)
+            × (PlayedEarliness levels block number passes left
+            × (PlayedAhead levels block number passes left × (PlayedWithin levels block number passes left × PlayedPlainly levels block number passes left)))
+        books = (
+          played-by-books block pairs state found passes,
+          (
+            played-earliness block pairs state found passes,
+            (played-ahead block pairs state found passes, (played-within block pairs state found passes, played-plainly block pairs state found passes)),
+          ),
+        )
+
         promised : Promised number (playedState levels block pairs state passes) left
         promised = (
           played-on-time block pairs state found passes,
@@ -286,7 +353,10 @@ module _ (levels : List ℕ) where
             played-in-time block pairs state found passes,
             (
               played-most-urgent block pairs state found passes,
-              (played-pairs-kept block pairs state found passes, played-total-told block pairs state found passes),
+              (
+                played-pairs-kept block pairs state found passes,
+                (played-total-told block pairs state found passes, books),
+              ),
             ),
           ),
         )

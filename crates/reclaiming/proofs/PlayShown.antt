@@ -14,12 +14,16 @@ use Rattle.plan.specs.LevelBlocks.{speedsIn}
 use Rattle.plan.specs.Blocks.{tasksIn}
 use Rattle.schedule.specs.PlainSchedule.{Timing, opened}
 use Rattle.reclaiming.specs.declared.Reply.{Reply}
-use Rattle.reclaiming.specs.StateBlock.{State, planIn, timing, stateLength}
+use Rattle.reclaiming.specs.Allotments.{timing}
 use Rattle.reclaiming.specs.Orders.{holdOf, orderWith}
-use Rattle.reclaiming.specs.Passes.{startState}
+use Rattle.reclaiming.specs.Replies.{repliedBy, isOrder}
+use Rattle.reclaiming.specs.Passes.{Pass}
+use Rattle.reclaiming.specs.Books.{Answered, ranAll}
+use Rattle.reclaiming.specs.StateBlock.{State, planIn, stateLength}
+use Rattle.reclaiming.specs.States.{startState, viewOf}
 use Rattle.reclaiming.specs.Questions.{starting}
-use Rattle.reclaiming.specs.Calls.{repliedBy, isOrder, startNumber, startReply, startOrder, showReply, showBuffer}
-use Rattle.reclaiming.specs.Run.{Pass, Answered, bytesAfter, startedBytes, ranAll}
+use Rattle.reclaiming.specs.Calls.{startNumber, startReply, startOrder, showReply, showBuffer}
+use Rattle.reclaiming.specs.Run.{bytesAfter, startedBytes}
 use Rattle.reclaiming.specs.Promises.{Started, Shows, stateAfter, plainBook}
 use Rattle.reclaiming.specs.Numbers.{replyNumber}
 use Rattle.reclaiming.specs.Play.{replyFrom, leftBy, playedState, playedReplies, playedShown, playedQueue, PlayedQueueShown}
@@ -28,7 +32,7 @@ use Rattle.reclaiming.proofs.Demand.{queue-shown, room}
 use Rattle.reclaiming.proofs.PlayLaws.{started-number, number-started, number-accepted, carried, left-front}
 
 -- an order's number is above every refusal's
-order-above : (s : State) (hold : ℕ) → 256 ≤ replyNumber (orderWith s hold)
+order-above : (s : State) (hold : ℕ) → 256 ≤ replyNumber (orderWith (viewOf s) hold)
 order-above s hold = elim (viewOrder s hold) as (λ r _. 256 ≤ replyNumber r) [ is-idle e ↦ omega arith | is-run e ↦ omega arith ]
 
 -- a list that was played: the number returned, and what stands in the lent blocks
@@ -55,7 +59,7 @@ module _ (levels : List ℕ) where
     first-by n e = ap (λ (k : ℕ). replyNumber (repliedBy k (startOrder speeds begun))) e
 
     first-refused : first < 256 → startNumber levels block pairs (length state) ≡ 0 → ⊥
-    first-refused h e = omega (arith, first-by 0 e, order-above begun (holdOf speeds (timing speeds (planIn begun)) begun))
+    first-refused h e = omega (arith, first-by 0 e, order-above begun (holdOf speeds (timing speeds (planIn begun)) (viewOf begun)))
 
     first-accepted : 256 ≤ first → Started levels block pairs state
     first-accepted h = number-started levels block pairs state (none (startNumber levels block pairs (length state)) refl)

@@ -28,20 +28,24 @@ use Rattle.plan.proofs.LevelBlockLaws.{FineTable, few-levels}
 use Rattle.plan.proofs.Facts.{FineList, range-at}
 use Rattle.schedule.specs.PlainSchedule.{Timing, Job, Book, latest, canonicalAt, after, queueOf, opened}
 use Rattle.schedule.specs.Feasibility.{Fitting}
+use Rattle.schedule.specs.Served.{Arrived}
 use Rattle.schedule.proofs.Drain.{Quiet}
 use Rattle.schedule.proofs.QueueLaws.{queueOf-cong}
-use Rattle.schedule.proofs.Closing.{Entered}
 use Rattle.schedule.proofs.Span.{canonical-span, after-add, renewed, nothing-old}
+use Rattle.schedule.proofs.Closing.{Entered}
 use Rattle.reclaiming.specs.declared.Reply.{Reply}
-use Rattle.reclaiming.specs.StateBlock.{State, encode, decode, laidOut, planIn, timing, workOf, remainingOf, restOf, stateLength}
+use Rattle.reclaiming.specs.Allotments.{timing}
 use Rattle.reclaiming.specs.Orders.{nextArrival, holdOf, orderWith}
-use Rattle.reclaiming.specs.Passes.{passedState, passedHold, workedOf, drainedOf, arrivesAt}
-use Rattle.reclaiming.specs.Questions.{largestClock, inTime, sound, stateSound, passQuestions}
-use Rattle.reclaiming.specs.Calls.{repliedBy, passNumber, passReply, passBytes}
-use Rattle.reclaiming.specs.Run.{Pass, DispatcherBook, Arrived, ordered, moved, booked, ran, leftAfter}
+use Rattle.reclaiming.specs.Replies.{repliedBy}
+use Rattle.reclaiming.specs.Passes.{arrivesAt, largestClock, inTime, passQuestions, Pass}
+use Rattle.reclaiming.specs.Books.{DispatcherBook, ordered, moved, booked, ran, leftAfter}
+use Rattle.reclaiming.specs.StateBlock.{State, encode, decode, laidOut, planIn, workOf, remainingOf, restOf, stateLength}
+use Rattle.reclaiming.specs.States.{passedState, passedHold, workedOf, drainedOf, viewOf}
+use Rattle.reclaiming.specs.Questions.{sound, stateSound}
+use Rattle.reclaiming.specs.Calls.{passNumber, passReply, passBytes}
 use Rattle.reclaiming.specs.Promises.{orderAfter}
 use Rattle.reclaiming.proofs.Fine.{Ahead, Gap, Fine, Accepted, nominalSpeed}
-use Rattle.reclaiming.proofs.Replies.{is-idle, is-run, viewOrder, order-accepted, order-booked, order-stands}
+use Rattle.reclaiming.proofs.Replies.{is-idle, is-run, viewOrder, order-booked, order-stands}
 use Rattle.reclaiming.proofs.Plans.{nominal-positive, plan-fits}
 use Rattle.reclaiming.proofs.StateCodec.{Storable, StorableTable, decode-encode, length-encode, laid-out}
 use Rattle.reclaiming.proofs.Soundness.{fine-sound, pass-accepted, fine-stored, fine-storable}
@@ -68,7 +72,7 @@ pub record Tied (speeds : List ℕ) (ts : List Task) (s : State) (actual : Dispa
       canonicalAt (timing speeds ts) (s .clock)
       ≡ record { clock = s .clock; pending = queueOf (timing speeds ts) (s .clock) (remainingOf s) (timing speeds ts .count) }
   pub since : OpenSince (timing speeds ts) (s .clock) (workOf s)
-  pub order-is : order ≡ orderWith s (holdOf speeds (timing speeds ts) s)
+  pub order-is : order ≡ orderWith (viewOf s) (holdOf speeds (timing speeds ts) (viewOf s))
 
 -- a state is tied to the books, the bytes are its block, and its speeds are those that were loaded
 pub record Kept (speeds : List ℕ) (ts : List Task) (bytes : List ℕ) (actual : DispatcherBook) (plain : Book) (order : Reply) : Type 0 where
@@ -85,10 +89,10 @@ idle-level {speeds} {ts} {s} good fine e =
 
 -- an order, whatever it is, moves the books by its pass
 module _ (speeds : List ℕ) (ts : List Task) (p : Pass) (s : State) (hold : ℕ) where
-  order-recorded :
+  pub order-recorded :
       (s .task ≡ 255 → s .level ≡ 0) →
       (a : DispatcherBook) →
-      booked speeds ts a p (orderWith s hold)
+      booked speeds ts a p (orderWith (viewOf s) hold)
       ≡ record {
         clock = moved speeds ts a p .clock;
         closed = moved speeds ts a p .closed;
@@ -97,10 +101,10 @@ module _ (speeds : List ℕ) (ts : List Task) (p : Pass) (s : State) (hold : ℕ
         left = moved speeds ts a p .left;
       }
   order-recorded idle a =
-      ap (λ (b : Bool). pick b (ordered (moved speeds ts a p) (orderWith s hold)) a) (order-accepted s hold)
+      elim (viewOrder s hold) as (λ r _. booked speeds ts a p r ≡ ordered (moved speeds ts a p) r) [ is-idle e ↦ refl | is-run e ↦ refl ]
       ∙ order-booked s hold idle (moved speeds ts a p)
 
-  order-ran : (τ : Timing) (b : Book) → ran τ b p (orderWith s hold) ≡ after τ (p .d) b
+  pub order-ran : (τ : Timing) (b : Book) → ran τ b p (orderWith (viewOf s) hold) ≡ after τ (p .d) b
   order-ran τ b = elim (viewOrder s hold) as (λ r _. ran τ b p r ≡ after τ (p .d) b) [ is-idle e ↦ refl | is-run e ↦ refl ]
 
 -- a plan that was accepted, over a table of speeds
@@ -153,8 +157,8 @@ module _ (speeds : List ℕ) (table : FineTable speeds) (ts : List Task) (good :
 
     -- so the questions are those of the state, and so is what follows
     module _ (d : ℕ) (finished : Bool) where
-      number-is : passNumber bytes d finished ≡ firstNo (passQuestions speeds s d finished)
-      number-is = ask-yes 10 stored-sound (ap₂ (λ (v : List ℕ) (x : State). firstNo (passQuestions v x d finished)) speeds-are decoded)
+      number-is : passNumber bytes d finished ≡ firstNo (passQuestions speeds (timing speeds (planIn s)) (viewOf s) d finished)
+      number-is = ask-yes 10 stored-sound (ap₂ (λ (v : List ℕ) (x : State). firstNo (passQuestions v (timing v (planIn x)) (viewOf x) d finished)) speeds-are decoded)
 
       abbrev held : List ℕ
       held = decode bytes .speeds
@@ -171,12 +175,12 @@ module _ (speeds : List ℕ) (table : FineTable speeds) (ts : List Task) (good :
 
       pub reply-is :
           passReply bytes d finished
-          ≡ repliedBy (firstNo (passQuestions speeds s d finished)) (orderWith (passedState speeds τ s d finished) (passedHold speeds τ s d finished))
-      reply-is = ap₂ repliedBy number-is (ap₂ orderWith state-is hold-is)
+          ≡ repliedBy (firstNo (passQuestions speeds (timing speeds (planIn s)) (viewOf s) d finished)) (orderWith (viewOf (passedState speeds τ s d finished)) (passedHold speeds τ s d finished))
+      reply-is = ap₂ repliedBy number-is (ap₂ orderWith (ap viewOf state-is) hold-is)
 
       bytes-are :
           passBytes bytes d finished
-          ≡ storedBy (firstNo (passQuestions speeds s d finished)) (encode (passedState speeds τ s d finished)) bytes
+          ≡ storedBy (firstNo (passQuestions speeds (timing speeds (planIn s)) (viewOf s) d finished)) (encode (passedState speeds τ s d finished)) bytes
       bytes-are = ap₂ (λ (n : ℕ) (x : State). storedBy n (encode x) bytes) number-is state-is
 
   -- an accepted pass
@@ -303,7 +307,7 @@ module _ (speeds : List ℕ) (table : FineTable speeds) (ts : List Task) (good :
       hold = passedHold speeds τ s d finished
 
       abbrev order : Reply
-      order = orderWith next hold
+      order = orderWith (viewOf next) hold
 
       abbrev pass : Pass
       pass = record { d = d; finished = finished }
@@ -327,7 +331,7 @@ module _ (speeds : List ℕ) (table : FineTable speeds) (ts : List Task) (good :
           ∙ sym (passed-rest speeds τ s d finished i h)
 
       -- the tie holds after it
-      tied-next :
+      pub tied-next :
           {a : DispatcherBook} {b : Book} {last : Reply} →
           Tied speeds ts s a b last →
           Tied speeds ts next (booked-next a) (ran τ b pass order) (orderAfter last order)
@@ -358,7 +362,7 @@ module _ (speeds : List ℕ) (table : FineTable speeds) (ts : List Task) (good :
             queue =
                 subst (λ (c : ℕ). canonicalAt τ c ≡ record { clock = c; pending = queueOf τ c (remainingOf next) (τ .count) }) (sym clock) next-queue;
             since = subst (λ (c : ℕ). OpenSince τ c (workOf next)) (sym clock) (next-since (t .since));
-            order-is = order-stands next hold last ∙ ap (orderWith next) (pass-hold speeds rising ts good s fine d finished ok);
+            order-is = order-stands next hold last ∙ ap (orderWith (viewOf next)) (pass-hold speeds rising ts good s fine d finished ok);
           }
 
   -- every pass keeps a tie, accepted or refused
@@ -378,13 +382,13 @@ module _ (speeds : List ℕ) (table : FineTable speeds) (ts : List Task) (good :
       given = passReply bytes (p .d) (p .finished)
 
       number : ℕ
-      number = firstNo (passQuestions speeds (k .state) (p .d) (p .finished))
+      number = firstNo (passQuestions speeds (timing speeds (planIn (k .state))) (viewOf (k .state)) (p .d) (p .finished))
 
       after-it : State
       after-it = passedState speeds τ (k .state) (p .d) (p .finished)
 
       chosen : Reply
-      chosen = orderWith after-it (passedHold speeds τ (k .state) (p .d) (p .finished))
+      chosen = orderWith (viewOf after-it) (passedHold speeds τ (k .state) (p .d) (p .finished))
 
       by-number :
           (n : ℕ) →

@@ -27,11 +27,13 @@ use Rattle.plan.specs.Questions.{judging, reading, roomQuestion}
 use Rattle.plan.proofs.LevelBlockLaws.{FineTable, fine-table, loaded-table}
 use Rattle.plan.proofs.Facts.{FineList, InRange, fine-list, list-yes, fine-block, block-list}
 use Rattle.reclaiming.specs.declared.Entry.{Entry}
+use Rattle.reclaiming.specs.Allotments.{timing}
+use Rattle.reclaiming.specs.Orders.{nextArrival, isLone, openJobs, runningTime, running}
+use Rattle.reclaiming.specs.Passes.{largestClock, inTime, stepQuestions, passQuestions}
 use Rattle.reclaiming.specs.Fields.{widthOf}
-use Rattle.reclaiming.specs.StateBlock.{State, noEntry, queuedIn, endFields, totalField, restOf, remainingOf, restIn, taskOf, planIn, timing, decode, laidOut, stateLength}
-use Rattle.reclaiming.specs.Orders.{nextArrival, isLone, openJobs, runningTime}
-use Rattle.reclaiming.specs.Questions.{largestClock, fixedSound, entrySound, entryAhead, orderSound, fitsGap, totalSound, stateSound, inTime, soundAt, sound, starting, running}
-use Rattle.reclaiming.specs.Questions.{stepQuestions, passQuestions}
+use Rattle.reclaiming.specs.StateBlock.{State, noEntry, queuedIn, endFields, totalField, restOf, remainingOf, restIn, taskOf, planIn, decode, laidOut, stateLength}
+use Rattle.reclaiming.specs.States.{viewOf}
+use Rattle.reclaiming.specs.Questions.{fixedSound, entrySound, entryAhead, orderSound, fitsGap, totalSound, stateSound, soundAt, sound, starting}
 use Rattle.reclaiming.proofs.Fine.{nominalSpeed, FineEntries, Ahead, Gap, Fine, Accepted}
 use Rattle.reclaiming.proofs.Plans.{task-range, allotment-short}
 use Rattle.reclaiming.proofs.StateCodec.{StorableEntry, StorableTable, Storable}
@@ -100,30 +102,30 @@ module _ (speeds : List ℕ) (ts : List Task) (s : State) (size : length (s .ent
       at-every (entryAhead (nominalSpeed speeds ts)) (s .entries) noEntry
       (λ i k. le-leb (timeOf (nominalSpeed speeds ts) (restOf s i)) (remainingOf s i) (a i (omega (arith, size))))
 
-  gap-fits : fitsGap speeds (timing speeds ts) s ≡ true → Gap speeds ts s
+  gap-fits : fitsGap speeds (timing speeds ts) (viewOf s) ≡ true → Gap speeds ts s
   gap-fits h =
-      let lone : Bool = isLone (timing speeds ts) s (s .task) in
+      let lone : Bool = isLone (timing speeds ts) (viewOf s) (s .task) in
       let next : ℕ = nextArrival (timing speeds ts) (s .clock) in
-      let short : Bool = leb (runningTime speeds s) next in
+      let short : Bool = leb (runningTime speeds (viewOf s)) next in
       record {
         others = lone-closed (timing speeds ts) s (s .task) (both-left lone short h);
-        time = leb-true (runningTime speeds s) next (both-right lone short h);
+        time = leb-true (runningTime speeds (viewOf s)) next (both-right lone short h);
       }
 
-  fits-gap : Gap speeds ts s → fitsGap speeds (timing speeds ts) s ≡ true
+  fits-gap : Gap speeds ts s → fitsGap speeds (timing speeds ts) (viewOf s) ≡ true
   fits-gap g =
       both-true (closed-lone (timing speeds ts) s (s .task) (g .others))
-      (le-leb (runningTime speeds s) (nextArrival (timing speeds ts) (s .clock)) (g .time))
+      (le-leb (runningTime speeds (viewOf s)) (nextArrival (timing speeds ts) (s .clock)) (g .time))
 
-  pace-tested : pick aheadTest true (fitsGap speeds (timing speeds ts) s) ≡ true → Ahead speeds ts s ⊎ Gap speeds ts s
+  pace-tested : pick aheadTest true (fitsGap speeds (timing speeds ts) (viewOf s)) ≡ true → Ahead speeds ts s ⊎ Gap speeds ts s
   pace-tested =
       elim (tested aheadTest)
-      as (λ b _. aheadTest ≡ b → pick b true (fitsGap speeds (timing speeds ts) s) ≡ true → Ahead speeds ts s ⊎ Gap speeds ts s)
+      as (λ b _. aheadTest ≡ b → pick b true (fitsGap speeds (timing speeds ts) (viewOf s)) ≡ true → Ahead speeds ts s ⊎ Gap speeds ts s)
       [ passed ↦ λ e h. inl (ahead-all e) | failed ↦ λ e h. inr (gap-fits h) ]
       refl
 
-  tested-pace : Ahead speeds ts s ⊎ Gap speeds ts s → pick aheadTest true (fitsGap speeds (timing speeds ts) s) ≡ true
-  tested-pace (inl a) = ap (λ (b : Bool). pick b true (fitsGap speeds (timing speeds ts) s)) (all-ahead a)
+  tested-pace : Ahead speeds ts s ⊎ Gap speeds ts s → pick aheadTest true (fitsGap speeds (timing speeds ts) (viewOf s)) ≡ true
+  tested-pace (inl a) = ap (λ (b : Bool). pick b true (fitsGap speeds (timing speeds ts) (viewOf s))) (all-ahead a)
   tested-pace (inr g) = either-second aheadTest (fits-gap g)
 
 -- a sound state's plan is accepted, and the state is fine
@@ -136,8 +138,8 @@ sound-fine speeds s h =
     let a : Bool = eqb (firstNo (judging speeds (length (s .entries)) ts)) 0 in
     let b : Bool = every (entrySound (nominalSpeed speeds ts)) (s .entries) in
     let c : Bool = both b (totalSound s) in
-    let d : Bool = orderSound speeds (timing speeds ts) (nominal speeds ts) s (openJobs (timing speeds ts) s) in
-    let e : Bool = pick (every (entryAhead (nominalSpeed speeds ts)) (s .entries)) true (fitsGap speeds (timing speeds ts) s) in
+    let d : Bool = orderSound speeds (timing speeds ts) (nominal speeds ts) (viewOf s) (openJobs (timing speeds ts) (viewOf s)) in
+    let e : Bool = pick (every (entryAhead (nominalSpeed speeds ts)) (s .entries)) true (fitsGap speeds (timing speeds ts) (viewOf s)) in
     let l : both c (both d e) ≡ true = both-right a (both c (both d e)) h in
     let o : both d e ≡ true = both-right c (both d e) l in
     let n : c ≡ true = both-left c (both d e) l in
@@ -202,33 +204,33 @@ time-test false d t h k = le-leb (suc d) t (k refl)
 module _ (speeds : List ℕ) (s : State) (d : ℕ) (finished : Bool) where
   -- the time test of a running job
   abbrev timely : Bool
-  timely = pick finished (leb d (runningTime speeds s)) (ltb d (runningTime speeds s))
+  timely = pick finished (leb d (runningTime speeds (viewOf s))) (ltb d (runningTime speeds (viewOf s)))
 
   -- a pass that the questions let through is accepted
-  pub accepted : firstNo (stepQuestions speeds s d finished) ≡ 0 → Accepted speeds (timing speeds (planIn s)) s d finished
+  pub accepted : firstNo (stepQuestions speeds (timing speeds (planIn s)) (viewOf s) d finished) ≡ 0 → Accepted speeds (timing speeds (planIn s)) s d finished
   accepted h =
       let next : ℕ = nextArrival (timing speeds (planIn s)) (s .clock) in
-      let a : Yes (stepQuestions speeds s d finished) = all-yes (stepQuestions speeds s d finished) refl h in
+      let a : Yes (stepQuestions speeds (timing speeds (planIn s)) (viewOf s) d finished) = all-yes (stepQuestions speeds (timing speeds (planIn s)) (viewOf s) d finished) refl h in
       record {
         some = leb-true 1 d (a .0);
         within = leb-true d next (a .1 .0);
-        runs = if-so finished (running s) (a .1 .1 .0);
-        time = λ r. time-most finished d (runningTime speeds s) (if-so (running s) timely (a .1 .1 .1 .0) r);
-        unfinished = λ r. time-below finished d (runningTime speeds s) (if-so (running s) timely (a .1 .1 .1 .0) r);
+        runs = if-so finished (running (viewOf s)) (a .1 .1 .0);
+        time = λ r. time-most finished d (runningTime speeds (viewOf s)) (if-so (running (viewOf s)) timely (a .1 .1 .1 .0) r);
+        unfinished = λ r. time-below finished d (runningTime speeds (viewOf s)) (if-so (running (viewOf s)) timely (a .1 .1 .1 .0) r);
       }
 
   -- and the questions let an accepted pass through
-  pub questions-yes : Accepted speeds (timing speeds (planIn s)) s d finished → firstNo (stepQuestions speeds s d finished) ≡ 0
+  pub questions-yes : Accepted speeds (timing speeds (planIn s)) s d finished → firstNo (stepQuestions speeds (timing speeds (planIn s)) (viewOf s) d finished) ≡ 0
   questions-yes f =
       let next : ℕ = nextArrival (timing speeds (planIn s)) (s .clock) in
-      yes-all (stepQuestions speeds s d finished) (
+      yes-all (stepQuestions speeds (timing speeds (planIn s)) (viewOf s) d finished) (
         le-leb 1 d (f .some),
         (
           le-leb d next (f .within),
           (
-            only-if finished (running s) (f .runs),
+            only-if finished (running (viewOf s)) (f .runs),
             (
-              only-if (running s) timely (λ r. time-test finished d (runningTime speeds s) (f .time r) (f .unfinished r)),
+              only-if (running (viewOf s)) timely (λ r. time-test finished d (runningTime speeds (viewOf s)) (f .time r) (f .unfinished r)),
               tt,
             ),
           ),
@@ -240,10 +242,10 @@ module _ (speeds : List ℕ) (s : State) (d : ℕ) (finished : Bool) where
   then-clock = ask 15 (inTime (s .clock + d)) ∷ []
 
   pub pass-accepted :
-      firstNo (passQuestions speeds s d finished) ≡ 0 →
+      firstNo (passQuestions speeds (timing speeds (planIn s)) (viewOf s) d finished) ≡ 0 →
       Accepted speeds (timing speeds (planIn s)) s d finished × (s .clock + d ≤ largestClock)
   pass-accepted h =
-      let asked : List Question = stepQuestions speeds s d finished in (
+      let asked : List Question = stepQuestions speeds (timing speeds (planIn s)) (viewOf s) d finished in (
         accepted (yes-of asked then-clock h),
         leb-true (s .clock + d) largestClock (all-yes then-clock refl (yes-after asked then-clock refl h) .0),
       )
@@ -251,9 +253,9 @@ module _ (speeds : List ℕ) (s : State) (d : ℕ) (finished : Bool) where
   pub pass-yes :
       Accepted speeds (timing speeds (planIn s)) s d finished →
       s .clock + d ≤ largestClock →
-      firstNo (passQuestions speeds s d finished) ≡ 0
+      firstNo (passQuestions speeds (timing speeds (planIn s)) (viewOf s) d finished) ≡ 0
   pass-yes f late =
-      yes-before (stepQuestions speeds s d finished) then-clock refl (questions-yes f)
+      yes-before (stepQuestions speeds (timing speeds (planIn s)) (viewOf s) d finished) then-clock refl (questions-yes f)
       ∙ ask-yes 15 (le-leb (s .clock + d) largestClock late) refl
 
 -- a block's state, where it is sound at a table of speeds

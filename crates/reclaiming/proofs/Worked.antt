@@ -22,10 +22,10 @@ use Rattle.plan.proofs.TimeLaws.{time-more, time-faster, time-none, time-some, 
 use Rattle.plan.proofs.Facts.{FineList}
 use Rattle.schedule.specs.PlainSchedule.{Timing, moreUrgent, latest}
 use Rattle.schedule.proofs.Ahead.{left-drain}
-use Rattle.reclaiming.specs.StateBlock.{State, workOf, remainingOf, restOf, timing}
-use Rattle.reclaiming.specs.Orders.{nextArrival, plainAllowance, runningTime}
-use Rattle.reclaiming.specs.Passes.{drainedOf, workedOf}
-use Rattle.reclaiming.specs.Questions.{running}
+use Rattle.reclaiming.specs.Allotments.{timing}
+use Rattle.reclaiming.specs.Orders.{nextArrival, plainAllowance, runningTime, running}
+use Rattle.reclaiming.specs.StateBlock.{State, workOf, remainingOf, restOf}
+use Rattle.reclaiming.specs.States.{drainedOf, workedOf, viewOf}
 use Rattle.reclaiming.proofs.Fine.{nominalSpeed, Ahead, Gap, Fine, Accepted}
 use Rattle.reclaiming.proofs.Plans.{level-positive, level-slower, nominal-positive}
 use Rattle.reclaiming.proofs.OrderFacts.{Runs, Ordered, idles, runs, order-facts}
@@ -67,7 +67,7 @@ module _ (τ : Timing) (s : State) (d : ℕ) where
 
   -- an allowance falls by at most d
   pub drained-allowance : (x : ℕ) →
-      plainAllowance τ s x ≤ sumTo (τ .count) (allowed τ (s .clock) (drainedOf τ s d) x) + d
+      plainAllowance τ (viewOf s) x ≤ sumTo (τ .count) (allowed τ (s .clock) (drainedOf τ s d) x) + d
   drained-allowance x =
       drained-part τ (s .clock) (remainingOf s) (τ .count) d
       (λ j. moreUrgent τ (latest τ (s .clock) x) (latest τ (s .clock) j))
@@ -79,7 +79,7 @@ ordered speeds ts s fine = order-facts speeds (timing speeds ts) (nominal speeds
 -- the dispatcher is ahead, and the order meets 01's allowance
 pub record Reclaims (speeds : List ℕ) (ts : List Task) (s : State) : Type 0 where
   pub ahead : Ahead speeds ts s
-  pub meets : Runs speeds (timing speeds ts) (nominal speeds ts) s → runningTime speeds s ≤ plainAllowance (timing speeds ts) s (s .task)
+  pub meets : Runs speeds (timing speeds ts) (nominal speeds ts) s → runningTime speeds (viewOf s) ≤ plainAllowance (timing speeds ts) (viewOf s) (s .task)
 
 -- a sound state keeps up in one of two ways
 pub paced : (speeds : List ℕ) (ts : List Task) (s : State) → Fine speeds ts s → Reclaims speeds ts s ⊎ Gap speeds ts s
@@ -88,7 +88,7 @@ paced speeds ts s fine = ⊎-elim (λ a. go a (ordered speeds ts s fine)) inr (f
     go : Ahead speeds ts s → Ordered speeds (timing speeds ts) (nominal speeds ts) s → Reclaims speeds ts s ⊎ Gap speeds ts s
     go a (idles t l z) = inl (record { ahead = a; meets = λ r. absurd (omega (arith, r .work, z (s .task) (r .below))) })
     go a (runs r) =
-        elim (allowance-which (timing speeds ts) s (s .task) (runningTime speeds s) (r .meets)) [
+        elim (allowance-which (timing speeds ts) s (s .task) (runningTime speeds (viewOf s)) (r .meets)) [
           | inl h ↦ inl (record { ahead = a; meets = λ _. h })
           | inr h ↦ inr (record { others = lone-closed (timing speeds ts) s (s .task) (h .0); time = h .1 })
         ]
@@ -99,11 +99,11 @@ module _ (speeds : List ℕ) (rising : Rising speeds) (ts : List Task) (plan : F
   τ = timing speeds ts
 
   -- a run order is none to stay idle
-  pub runs-running : (s : State) → Runs speeds τ (nominal speeds ts) s → running s ≡ true
+  pub runs-running : (s : State) → Runs speeds τ (nominal speeds ts) s → running (viewOf s) ≡ true
   runs-running s r = ap not (ne-eqb (s .task) 255 (λ e. omega (arith, r .below, plan .count-high)))
 
   -- an open job needs time
-  pub time-positive : (s : State) → Runs speeds τ (nominal speeds ts) s → 0 < runningTime speeds s
+  pub time-positive : (s : State) → Runs speeds τ (nominal speeds ts) s → 0 < runningTime speeds (viewOf s)
   time-positive s r =
       time-some (speedOf speeds (s .level)) (restOf s (s .task)) (level-positive speeds ts plan rising (s .level) (r .level)) (r .work)
 
@@ -117,7 +117,7 @@ module _ (speeds : List ℕ) (rising : Rising speeds) (ts : List Task) (plan : F
     rest = worn rate d (restOf s (s .task))
 
     -- a job that ran on needs d ticks less
-    pub runs-on : Runs speeds τ (nominal speeds ts) s → timeOf rate rest ≡ runningTime speeds s - d
+    pub runs-on : Runs speeds τ (nominal speeds ts) s → timeOf rate rest ≡ runningTime speeds (viewOf s) - d
     runs-on r =
         time-after rate d (restOf s (s .task)) (level-positive speeds ts plan rising (s .level) (r .level))
         (pass .time (runs-running s r))

@@ -6,42 +6,28 @@ use mathlib.Core.Bool.{Bool}
 use mathlib.Core.List.{List, [], _∷_, _++_}
 use lib.ListN.{length}
 use Rattle.arith.specs.Digits.{digits}
-use Rattle.arith.specs.Asking.{Answer, values, refusal, isAccepted, firstNo}
+use Rattle.arith.specs.Asking.{Answer, values, refusal, firstNo}
 use Rattle.plan.specs.declared.Written.{Written}
 use Rattle.plan.specs.LevelBlocks.{speedsIn}
 use Rattle.plan.specs.Blocks.{tasksIn}
 use Rattle.plan.specs.Answers.{writtenBy, storedBy}
 use Rattle.schedule.specs.PlainSchedule.{Pending, queueOf}
 use Rattle.reclaiming.specs.declared.Reply.{Reply}
-use Rattle.reclaiming.specs.declared.Reply.the-variants as reply
 use Rattle.reclaiming.specs.declared.Queued.{Queued}
 use Rattle.reclaiming.specs.declared.Queued.the-variants as queued
-use Rattle.reclaiming.specs.StateBlock.{State, remainingOf, planIn, timing, encode, totalIn, decode}
+use Rattle.reclaiming.specs.Allotments.{timing}
 use Rattle.reclaiming.specs.Orders.{holdOf, orderWith}
-use Rattle.reclaiming.specs.Passes.{startState, passedState, passedHold}
+use Rattle.reclaiming.specs.Replies.{repliedBy}
+use Rattle.reclaiming.specs.StateBlock.{State, remainingOf, planIn, encode, totalIn, decode}
+use Rattle.reclaiming.specs.States.{viewOf, startState, passedState, passedHold}
 use Rattle.reclaiming.specs.Questions.{starting, passing, showing, queueing}
-
--- 01: "starting and passing [return] the order"; a refusal's number "is all that is returned"
-abbrev pub repliedBy : ℕ → Reply → Reply
-repliedBy zero order = order
-repliedBy (suc n) order = reply.Refused (suc n)
-
--- 01's number and values of each case: "A run order names the most urgent open job, a level and a hold"; an idle one has a hold
-abbrev pub replyAnswer : Reply → Answer
-replyAnswer (reply.Run task level hold) = values (task ∷ level ∷ hold ∷ [])
-replyAnswer (reply.Idle hold) = values (hold ∷ [])
-replyAnswer (reply.Refused n) = refusal n
-
--- 01: "An accepted pass is one answered with an order."
-abbrev pub isOrder : Reply → Bool
-isOrder r = isAccepted (replyAnswer r)
 
 -- starting
 abbrev pub startNumber : List ℕ → List ℕ → List ℕ → ℕ → ℕ
 startNumber levels block pairs room = firstNo (starting levels block pairs room)
 
 abbrev pub startOrder : List ℕ → State → Reply
-startOrder speeds s = orderWith s (holdOf speeds (timing speeds (planIn s)) s)
+startOrder speeds s = orderWith (viewOf s) (holdOf speeds (timing speeds (planIn s)) (viewOf s))
 
 abbrev pub startReply : List ℕ → List ℕ → List ℕ → ℕ → Reply
 startReply levels block pairs room =
@@ -57,7 +43,7 @@ passNumber bytes d finished = firstNo (passing bytes d finished)
 
 abbrev pub passOrder : List ℕ → State → ℕ → Bool → Reply
 passOrder speeds s d finished =
-    orderWith (passedState speeds (timing speeds (planIn s)) s d finished)
+    orderWith (viewOf (passedState speeds (timing speeds (planIn s)) s d finished))
     (passedHold speeds (timing speeds (planIn s)) s d finished)
 
 -- 02, No. 1: orders "are from now on those of the loaded speeds": a state has its own

@@ -1,7 +1,13 @@
+pub mod Allotments
+pub mod Orders
+pub mod Replies
+pub mod Passes
+pub mod Books
+pub mod Ideal
+pub mod Earliness
 pub mod Fields
 pub mod StateBlock
-pub mod Orders
-pub mod Passes
+pub mod States
 pub mod Questions
 pub mod Calls
 pub mod Run

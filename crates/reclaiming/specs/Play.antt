@@ -7,19 +7,25 @@ use mathlib.Core.List.{List, [], _∷_, _++_, map}
 use lib.Dec.{eqb}
 use lib.ListN.{length, take, drop}
 use Rattle.arith.specs.Choice.{pick}
+use Rattle.plan.specs.declared.Task.{Task}
 use Rattle.plan.specs.declared.Written.{Written}
 use Rattle.plan.specs.declared.Written.the-variants as written
 use Rattle.plan.specs.LevelBlocks.{speedsIn}
 use Rattle.plan.specs.Blocks.{tasksIn}
 use Rattle.plan.specs.Pairs.{pairsIn}
-use Rattle.schedule.specs.PlainSchedule.{Book, opened}
+use Rattle.schedule.specs.PlainSchedule.{Timing, Book, canonicalAt}
+use Rattle.schedule.specs.Served.{AllotmentsGiven}
 use Rattle.reclaiming.specs.declared.Reply.{Reply}
 use Rattle.reclaiming.specs.declared.Reply.the-variants as reply
 use Rattle.reclaiming.specs.declared.Queued.the-variants as queued
-use Rattle.reclaiming.specs.StateBlock.{timing, stateLength}
-use Rattle.reclaiming.specs.Calls.{isOrder, startNumber, showReply, showBuffer, queuedReply}
-use Rattle.reclaiming.specs.Run.{Pass, Answered, DispatcherBook, trace, bytesAfter, startedBytes, openedBook, bookedAll, ranAll}
-use Rattle.reclaiming.specs.Promises.{OnTime, ClosesByArrival, EarlierClosed, NamesMostUrgent, Shows, ticksIn, lastOrder}
+use Rattle.reclaiming.specs.Allotments.{timing}
+use Rattle.reclaiming.specs.Replies.{isOrder}
+use Rattle.reclaiming.specs.Passes.{Pass}
+use Rattle.reclaiming.specs.Books.{Answered, DispatcherBook, actualOf, plainOf}
+use Rattle.reclaiming.specs.StateBlock.{stateLength}
+use Rattle.reclaiming.specs.Calls.{startNumber, showReply, showBuffer, queuedReply}
+use Rattle.reclaiming.specs.Run.{trace, bytesAfter, startedBytes}
+use Rattle.reclaiming.specs.Promises.{OnTime, ClosesByArrival, EarlierClosed, NamesMostUrgent, Shows, ticksIn, lastOrder, FollowsBooks, TakesEarliness, OfNewOrders, AllAhead, PassWithin}
 use Rattle.reclaiming.specs.Numbers.{replyNumber}
 
 -- a pass as a number: d in its lower 32 bits, and the next bit says whether the job finished
@@ -79,50 +85,74 @@ playedQueue levels block pairs state passes lent =
 
 -- the promises, said of the number that was returned and of those that were left in the lent block
 module _ (levels block : List ℕ) (first : ℕ) (passes : List Pass) (replies : List ℕ) where
-  abbrev answersTo : ℕ → List Answered
-  answersTo n = take n (answersFrom passes replies)
+  abbrev speeds : List ℕ
+  speeds = speedsIn levels
+
+  abbrev ts : List Task
+  ts = tasksIn block
+
+  abbrev τ : Timing
+  τ = timing speeds ts
+
+  abbrev answers : List Answered
+  answers = answersFrom passes replies
 
   -- the two books after the first n passes
-  abbrev pub actualTo : ℕ → DispatcherBook
-  actualTo n = bookedAll (speedsIn levels) (tasksIn block) (openedBook (tasksIn block) (replyFrom first)) (answersTo n)
+  abbrev pub playedActual : ℕ → DispatcherBook
+  playedActual n = actualOf speeds ts (replyFrom first) (take n answers)
 
-  abbrev pub plainTo : ℕ → Book
-  plainTo n = ranAll (timing (speedsIn levels) (tasksIn block)) (opened (timing (speedsIn levels) (tasksIn block))) (answersTo n)
+  abbrev pub playedPlain : ℕ → Book
+  playedPlain n = plainOf speeds ts (take n answers)
 
   -- demand 3 along the way: after the first n passes, for every n, so after the last one too
   abbrev pub PlayedOnTime : Type 0
-  PlayedOnTime =
-      isOrder (replyFrom first) ≡ true →
-      (n : ℕ) →
-      OnTime (speedsIn levels) (timing (speedsIn levels) (tasksIn block)) (actualTo n) (plainTo n)
+  PlayedOnTime = isOrder (replyFrom first) ≡ true → (n : ℕ) → OnTime speeds τ (playedActual n) (playedPlain n)
 
   -- 02, No. 4: what pass n closes, it closes no later than the first arrival after the plain finish
   abbrev pub PlayedInTime : Type 0
-  PlayedInTime =
-      isOrder (replyFrom first) ≡ true →
-      (n : ℕ) →
-      ClosesByArrival (timing (speedsIn levels) (tasksIn block)) (actualTo n) (actualTo (suc n))
+  PlayedInTime = isOrder (replyFrom first) ≡ true → (n : ℕ) → ClosesByArrival τ (playedActual n) (playedActual (suc n))
 
   -- the order that stands after them names the most urgent open job
   abbrev pub PlayedMostUrgent : Type 0
   PlayedMostUrgent =
       isOrder (replyFrom first) ≡ true →
       (n : ℕ) →
-      NamesMostUrgent (timing (speedsIn levels) (tasksIn block)) (actualTo n) (lastOrder (replyFrom first) (answersTo n))
+      NamesMostUrgent τ (playedActual n) (lastOrder (replyFrom first) (take n answers))
 
   -- 02, No. 5: before pass n, where the later task of a pair runs in it, the earlier's job that arrived with the running one is closed
   abbrev pub PlayedPairsKept : List ℕ → Type 0
-  PlayedPairsKept pairs =
-      isOrder (replyFrom first) ≡ true →
-      (n : ℕ) →
-      EarlierClosed (timing (speedsIn levels) (tasksIn block)) (pairsIn pairs) (actualTo n)
+  PlayedPairsKept pairs = isOrder (replyFrom first) ≡ true → (n : ℕ) → EarlierClosed τ (pairsIn pairs) (playedActual n)
 
   -- 02, No. 6: the total that all passes leave in the state is the sum over the ready queue of the plain schedule's book
   abbrev pub PlayedTotalTold : List ℕ → Type 0
   PlayedTotalTold left =
       isOrder (replyFrom first) ≡ true →
-      queuedReply (take stateLength left) ≡ queued.Ticks (ticksIn (plainTo (length passes) .pending))
+      queuedReply (take stateLength left) ≡ queued.Ticks (ticksIn (playedPlain (length passes) .pending))
 
   -- demand 2: the queue shown after all passes is that of the plain schedule's book
   abbrev pub PlayedQueueShown : List ℕ → Written → List ℕ → Type 0
-  PlayedQueueShown lent answer left = isOrder (replyFrom first) ≡ true → Shows (plainTo (length passes) .pending) lent answer left
+  PlayedQueueShown lent answer left = isOrder (replyFrom first) ≡ true → Shows (playedPlain (length passes) .pending) lent answer left
+
+  -- demand 2: every reply is the ideal dispatcher's, and every byte that all passes leave in the state is told by the books
+  abbrev pub PlayedByBooks : List ℕ → Type 0
+  PlayedByBooks left = isOrder (replyFrom first) ≡ true → FollowsBooks speeds ts (replyFrom first) answers passes (take stateLength left)
+
+  -- demand 2: every order that is newly chosen has its full earliness
+  abbrev pub PlayedEarliness : Type 0
+  PlayedEarliness = isOrder (replyFrom first) ≡ true → OfNewOrders (TakesEarliness speeds ts) speeds ts (replyFrom first) answers
+
+  -- the paper's Theorem 1, after the first n passes
+  abbrev pub PlayedAhead : Type 0
+  PlayedAhead = isOrder (replyFrom first) ≡ true → (n : ℕ) → AllAhead speeds ts (playedActual n) (playedPlain n)
+
+  -- pass n takes 1 to as many ticks as there are to the next arrival, if it is accepted, and jumps neither an arrival nor a deadline
+  abbrev pub PlayedWithin : Type 0
+  PlayedWithin = isOrder (replyFrom first) ≡ true → (n : ℕ) → PassWithin speeds ts (replyFrom first) answers n
+
+  -- the book of the plain schedule is the plain schedule at the other's clock, in which each job that has arrived is open or was given its
+  -- allotment
+  abbrev pub PlayedPlainly : Type 0
+  PlayedPlainly =
+      isOrder (replyFrom first) ≡ true →
+      (n : ℕ) →
+      (playedPlain n ≡ canonicalAt τ (playedActual n .clock)) × AllotmentsGiven τ (playedPlain n)

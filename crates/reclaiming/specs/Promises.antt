@@ -6,30 +6,36 @@ use mathlib.Core.Bool.{Bool, true, false}
 use mathlib.Core.List.{List, [], _∷_}
 use mathlib.Core.Logic.{_⊎_}
 use lib.Dec.{eqb}
-use lib.ListN.{length, take}
+use lib.ListN.{length, getD, take}
 use Rattle.arith.specs.Choice.{pick, both}
 use Rattle.arith.specs.Sum.{sumOf}
+use Rattle.arith.specs.Ranges.{listTo}
+use Rattle.plan.specs.declared.Task.{Task}
 use Rattle.plan.specs.declared.Written.{Written}
 use Rattle.plan.specs.Times.{timeOf}
 use Rattle.plan.specs.Levels.{speedOf}
 use Rattle.plan.specs.LevelBlocks.{speedsIn}
-use Rattle.plan.specs.Blocks.{tasksIn}
+use Rattle.plan.specs.Blocks.{noTask, tasksIn}
 use Rattle.plan.specs.Pairs.{Pair, pairsIn, pairNumber}
 use Rattle.plan.specs.Answers.{roomNumber, writtenBy, storedBy}
-use Rattle.schedule.specs.PlainSchedule.{Timing, Job, Pending, Book, deadline, moreUrgent, latest, opened, canonicalAt}
+use Rattle.schedule.specs.PlainSchedule.{Timing, Job, Pending, Book, deadline, leftIn, moreUrgent, latest, canonicalAt}
 use Rattle.schedule.specs.Feasibility.{In}
+use Rattle.schedule.specs.Served.{Arrived, OpenPlain, AllotmentsGiven}
 use Rattle.reclaiming.specs.declared.Reply.{Reply}
 use Rattle.reclaiming.specs.declared.Reply.the-variants as reply
 use Rattle.reclaiming.specs.declared.Queued.the-variants as queued
-use Rattle.reclaiming.specs.StateBlock.{restOf, decode, timing, stateLength}
-use Rattle.reclaiming.specs.Orders.{nextArrival}
-use Rattle.reclaiming.specs.Questions.{sound, largestClock}
-use Rattle.reclaiming.specs.Calls.{isOrder, startNumber, startReply, passReply, queueBytes, showReply, showBuffer, queuedReply}
-use Rattle.reclaiming.specs.Run.{Pass, Answered, DispatcherBook, Arrived, trace, bytesAfter, startedBytes, openedBook, bookedAll, ranAll}
-
--- a job is open in the plain schedule's book
-abbrev pub OpenPlain : Book → Job → Type 0
-OpenPlain b j = (left : ℕ) × In (record { job = j; remaining = left }) (b .pending)
+use Rattle.reclaiming.specs.Allotments.{timing}
+use Rattle.reclaiming.specs.Orders.{View, nextArrival, plainAllowance}
+use Rattle.reclaiming.specs.Replies.{isOrder}
+use Rattle.reclaiming.specs.Passes.{Pass, choosesAnew, largestClock}
+use Rattle.reclaiming.specs.Books.{Answered, DispatcherBook, actualOf, plainOf}
+use Rattle.reclaiming.specs.Ideal.{viewOfBooks, firstView, tickedView, idealFirst, idealReplies}
+use Rattle.reclaiming.specs.Earliness.{timeAtNominal, earliness, fullTime}
+use Rattle.reclaiming.specs.StateBlock.{State, restOf, entryWith, encode, decode, stateLength}
+use Rattle.reclaiming.specs.States.{viewOf, stateWith}
+use Rattle.reclaiming.specs.Questions.{sound}
+use Rattle.reclaiming.specs.Calls.{startNumber, startReply, passReply, queueBytes, showReply, showBuffer, queuedReply}
+use Rattle.reclaiming.specs.Run.{trace, bytesAfter, startedBytes}
 
 -- a job is open in the dispatcher's book "from its arrival until the book closes it"
 pub record OpenActual (τ : Timing) (b : DispatcherBook) (j : Job) : Type 0 where
@@ -54,14 +60,14 @@ pub record OnTime (speeds : List ℕ) (τ : Timing) (actual : DispatcherBook) (p
   pub arrivals : (j : Job) → OpenPlain plain j → Arrived τ (actual .clock) j
   -- "every job still open in the dispatcher is open in the plain schedule of that plan too"; 02, No. 4: "Demand 3 then has one exception"
   pub ahead : (j : Job) → OpenActual τ actual j → OpenPlain plain j ⊎ InGap speeds τ actual j
-  -- 02, No. 4: "At each arrival tick every older open job is still open in the plain schedule": where a job k arrives at the clock
+  -- 02, No. 4: "At each arrival tick every older open job is still open in the plain schedule": where a job k arrives at the clock, tick 0
+  -- among them. The jobs that arrive there are open in it too, so there is no exception there.
   pub at-arrivals :
       (k : Job) →
       Arrived τ (actual .clock) k →
       k .arrival ≡ actual .clock →
       (j : Job) →
       OpenActual τ actual j →
-      j .arrival < actual .clock →
       OpenPlain plain j
   -- "and in both every job whose deadline has come is closed"; 02, No. 4: "and all deadlines hold"
   pub actual-closed : (j : Job) → Arrived τ (actual .clock) j → deadline τ j ≤ actual .clock → In j (actual .closed)
@@ -81,6 +87,28 @@ ClosesByArrival τ before after =
     Arrived τ (k .arrival) k →
     finish < k .arrival →
     after .clock ≤ k .arrival
+
+-- an accepted pass, from the book before it: at least a tick, and no more than there are to the next arrival at the book's clock
+pub record WithinArrival (τ : Timing) (before : DispatcherBook) (p : Pass) : Type 0 where
+  pub some : 1 ≤ p .d
+  pub most : p .d ≤ nextArrival τ (before .clock)
+
+-- so a pass jumps neither an arrival nor a deadline: after it the clock is no later than any arrival that was still to come, nor than the
+-- deadline of any job that was open. What it closes it closes by its deadline.
+pub record JumpsNothing (τ : Timing) (before after : DispatcherBook) : Type 0 where
+  pub arrivals : (k : Job) → Arrived τ (k .arrival) k → before .clock < k .arrival → after .clock ≤ k .arrival
+  pub deadlines : (j : Job) → OpenActual τ before j → after .clock ≤ deadline τ j
+
+-- the n-th pass of a run and the reply to it, from 0 on; past the last, a refusal
+abbrev pub answerAt : List Answered → ℕ → Answered
+answerAt answers n = getD answers n (record { pass = record { d = 0; finished = false }; reply = reply.Refused 0 })
+
+-- both, of the n-th pass of a run as its caller sees it
+pub record PassWithin (speeds : List ℕ) (ts : List Task) (first : Reply) (answers : List Answered) (n : ℕ) : Type 0 where
+  pub accepted :
+      isOrder (answerAt answers n .reply) ≡ true →
+      WithinArrival (timing speeds ts) (actualOf speeds ts first (take n answers)) (answerAt answers n .pass)
+  pub jumps : JumpsNothing (timing speeds ts) (actualOf speeds ts first (take n answers)) (actualOf speeds ts first (take (suc n) answers))
 
 -- 01: "A run order names the most urgent open job"
 pub record MostUrgent (τ : Timing) (b : DispatcherBook) (j : Job) : Type 0 where
@@ -120,10 +148,10 @@ module _ (levels block pairs buffer : List ℕ) (passes : List Pass) where
   stateAfter = bytesAfter (startedBytes levels block pairs buffer) passes
 
   abbrev pub actualBook : DispatcherBook
-  actualBook = bookedAll (speedsIn levels) (tasksIn block) (openedBook (tasksIn block) (startReply levels block pairs (length buffer))) replies
+  actualBook = actualOf (speedsIn levels) (tasksIn block) (startReply levels block pairs (length buffer)) replies
 
   abbrev pub plainBook : Book
-  plainBook = ranAll (timing (speedsIn levels) (tasksIn block)) (opened (timing (speedsIn levels) (tasksIn block))) replies
+  plainBook = plainOf (speedsIn levels) (tasksIn block) replies
 
 -- Demand 3, in one piece: for every level block, every accepted start and every list of passes, refused ones included. 02, No. 1: "Demands
 -- 2 and 3 are shown once for any accepted table, not for each."
@@ -140,6 +168,29 @@ ClosesInTime =
     Started levels block pairs buffer →
     ClosesByArrival (timing (speedsIn levels) (tasksIn block)) (actualBook levels block pairs buffer (take n passes))
     (actualBook levels block pairs buffer (take (suc n) passes))
+
+-- Every accepted pass of a run takes 1 to as many ticks as there are to the next arrival, and no pass jumps an arrival or a deadline.
+abbrev pub PassesWithin : Type 0
+PassesWithin =
+    (levels block pairs buffer : List ℕ) (passes : List Pass) (n : ℕ) →
+    Started levels block pairs buffer →
+    PassWithin (speedsIn levels) (tasksIn block) (startReply levels block pairs (length buffer)) (replies levels block pairs buffer passes) n
+
+-- The plain schedule's book, fed pass by pass, is the plain schedule at the dispatcher's clock: `OnTime` and `ClosesByArrival` speak of one.
+abbrev pub OneSchedule : Type 0
+OneSchedule =
+    (levels block pairs buffer : List ℕ) (passes : List Pass) →
+    Started levels block pairs buffer →
+    plainBook levels block pairs buffer passes
+    ≡ canonicalAt (timing (speedsIn levels) (tasksIn block)) (actualBook levels block pairs buffer passes .clock)
+
+-- Demand 3: "The two share the plan, the clock and every arrival", and a job closes "by its own end": in the plain schedule's book each job that
+-- has arrived is open or was given its whole allotment.
+abbrev pub EveryArrival : Type 0
+EveryArrival =
+    (levels block pairs buffer : List ℕ) (passes : List Pass) →
+    Started levels block pairs buffer →
+    AllotmentsGiven (timing (speedsIn levels) (tasksIn block)) (plainBook levels block pairs buffer passes)
 
 -- Demand 2: "The queue shown is the ready queue of the plain schedule at that tick, from any accepted start on."
 -- Said of the call: of what showing answers and leaves, for any lent buffer.
@@ -231,6 +282,29 @@ RunsMostUrgent =
     NamesMostUrgent (timing (speedsIn levels) (tasksIn block)) (actualBook levels block pairs buffer passes)
     (lastOrder (startReply levels block pairs (length buffer)) (replies levels block pairs buffer passes))
 
+-- the state that the books make: their clock and order, and each task with what is left of its job by the one and by the other
+abbrev pub stateOfBooks : List ℕ → List Task → DispatcherBook → Book → State
+stateOfBooks speeds ts actual plain =
+    stateWith (actual .clock) (actual .task) (actual .level)
+    (listTo (length ts) (λ i. entryWith (getD ts i noTask) (actual .left i) (leftIn i (plain .pending)))) speeds
+
+-- The first order and every reply of a run, refusals among them, are the ideal dispatcher's: those to its first n passes, for every n. After
+-- the run its state shows what the books show, and every one of its bytes is told by them.
+pub record FollowsBooks (speeds : List ℕ) (ts : List Task) (order : Reply) (answers : List Answered) (passes : List Pass) (bytes : List ℕ) : Type 0 where
+  pub first : order ≡ idealFirst speeds ts
+  pub each : (n : ℕ) → take n answers ≡ idealReplies speeds ts (take n passes)
+  pub view : viewOf (decode bytes) ≡ viewOfBooks (actualOf speeds ts order answers) (plainOf speeds ts answers)
+  pub stored : bytes ≡ encode (stateOfBooks speeds ts (actualOf speeds ts order answers) (plainOf speeds ts answers))
+
+-- Demand 2: "Each order is the one that the Dynamic Reclaiming Algorithm (RTSS 2001) gives", as 01 puts it: for every accepted start and every
+-- list of passes.
+abbrev pub IdealRun : Type 0
+IdealRun =
+    (levels block pairs buffer : List ℕ) (passes : List Pass) →
+    Started levels block pairs buffer →
+    FollowsBooks (speedsIn levels) (tasksIn block) (startReply levels block pairs (length buffer)) (replies levels block pairs buffer passes) passes
+    (stateAfter levels block pairs buffer passes)
+
 -- No dead end: after any run, the pass that the order itself suggests (its hold; finished exactly if that is the whole time needed) is
 -- accepted, and so is every earlier finish, as long as the clock stays within the largest.
 pub record Open (speeds bytes : List ℕ) (order : Reply) (book : DispatcherBook) : Type 0 where
@@ -252,3 +326,58 @@ NoDeadEnd =
     Open (speedsIn levels) (stateAfter levels block pairs buffer passes)
     (lastOrder (startReply levels block pairs (length buffer)) (replies levels block pairs buffer passes))
     (actualBook levels block pairs buffer passes)
+
+-- the paper's Theorem 1, of an open job: it is open in the plain schedule, and its time left at nominal is at most its plain ticks left
+pub record AheadOfPlain (speeds : List ℕ) (ts : List Task) (actual : DispatcherBook) (plain : Book) (j : Job) : Type 0 where
+  pub left : ℕ
+  pub entry : In (record { job = j; remaining = left }) (plain .pending)
+  pub ahead : timeAtNominal speeds ts (viewOfBooks actual plain) (j .task) ≤ left
+
+-- the paper: "At any time t during the execution of GDRA, w_i(t) ≤ rem_i(t), for any ready task T_i"; with rule 5.3, of every open job but the
+-- lone one in the gap
+abbrev pub AllAhead : List ℕ → List Task → DispatcherBook → Book → Type 0
+AllAhead speeds ts actual plain =
+    (j : Job) →
+    OpenActual (timing speeds ts) actual j →
+    AheadOfPlain speeds ts actual plain j ⊎ InGap speeds (timing speeds ts) actual j
+
+-- Theorem 1, after any list of passes.
+abbrev pub Theorem1 : Type 0
+Theorem1 =
+    (levels block pairs buffer : List ℕ) (passes : List Pass) →
+    Started levels block pairs buffer →
+    AllAhead (speedsIn levels) (tasksIn block) (actualBook levels block pairs buffer passes) (plainBook levels block pairs buffer passes)
+
+-- an order newly chosen, to run task x at a level: the job is ahead, so the earliness cuts nothing off, and the level is the lowest at which
+-- the job's time is at most its time at nominal and the full earliness, or, alone, the ticks to the next arrival if these are more
+pub record FullEarliness (speeds : List ℕ) (ts : List Task) (v : View) (x level : ℕ) : Type 0 where
+  pub ahead : timeAtNominal speeds ts v x ≤ v .remaining x
+  pub exact : plainAllowance (timing speeds ts) v x ≡ timeAtNominal speeds ts v x + earliness speeds ts v x
+  pub meets : timeOf (speedOf speeds level) (v .rest x) ≤ fullTime speeds ts v x
+  pub lowest : (l : ℕ) → l < level → fullTime speeds ts v x < timeOf (speedOf speeds l) (v .rest x)
+
+abbrev pub TakesEarliness : List ℕ → List Task → View → Reply → Type 0
+TakesEarliness speeds ts v (reply.Run x level hold) = FullEarliness speeds ts v x level
+TakesEarliness speeds ts v (reply.Idle hold) = Unit {0}
+TakesEarliness speeds ts v (reply.Refused n) = Unit {0}
+
+-- of every order of a run that is newly chosen, at the moment that the books then show: the first one, and that of an accepted pass in which
+-- a job finished or one arrived
+pub record OfNewOrders (P : View → Reply → Type 0) (speeds : List ℕ) (ts : List Task) (first : Reply) (answers : List Answered) : Type 0 where
+  pub at-first : P (firstView speeds ts) first
+  pub at-pass :
+      (n : ℕ) →
+      isOrder (answerAt answers n .reply) ≡ true →
+      choosesAnew (timing speeds ts) (viewOfBooks (actualOf speeds ts first (take n answers)) (plainOf speeds ts (take n answers))) (answerAt answers n .pass .d)
+      (answerAt answers n .pass .finished)
+      ≡ true →
+      P (tickedView speeds ts (actualOf speeds ts first (take n answers)) (plainOf speeds ts (take n answers)) (answerAt answers n .pass))
+      (answerAt answers n .reply)
+
+-- Demand 2: "with its full earliness".
+abbrev pub WithFullEarliness : Type 0
+WithFullEarliness =
+    (levels block pairs buffer : List ℕ) (passes : List Pass) →
+    Started levels block pairs buffer →
+    OfNewOrders (TakesEarliness (speedsIn levels) (tasksIn block)) (speedsIn levels) (tasksIn block)
+    (startReply levels block pairs (length buffer)) (replies levels block pairs buffer passes)

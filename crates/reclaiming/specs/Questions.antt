@@ -1,9 +1,9 @@
--- 01, "Questions put to every call": those put to a state and to a pass, in their order, with their numbers.
+-- 01, "Questions put to every call": those put to a state, and what each call asks, in its order.
 -- Assumes nothing.
 use Prim.Native.Nat.{ℕ}
-use mathlib.Core.Bool.{Bool, true, not}
+use mathlib.Core.Bool.{Bool, true}
 use mathlib.Core.List.{List, [], _∷_, _++_}
-use lib.Dec.{leb, ltb, eqb}
+use lib.Dec.{leb, eqb}
 use lib.ListN.{length}
 use Rattle.arith.specs.Choice.{pick, both, every}
 use Rattle.arith.specs.Asking.{Question, ask, firstNo}
@@ -14,13 +14,11 @@ use Rattle.plan.specs.Questions.{judging, roomQuestion}
 use Rattle.plan.specs.Pairs.{pairedReading}
 use Rattle.schedule.specs.PlainSchedule.{Timing, Pending}
 use Rattle.reclaiming.specs.declared.Entry.{Entry}
-use Rattle.reclaiming.specs.StateBlock.{State, queuedIn, restIn, taskOf, planIn, timing, decode, laidOut, stateLength}
-use Rattle.reclaiming.specs.Orders.{nextArrival, isLone, allowance, openJobs, runningTime}
-use Rattle.reclaiming.specs.Passes.{clockAfter}
-
--- 01: "The largest clock is 4,000,000,000 ticks."
-abbrev pub largestClock : ℕ
-largestClock = 4000000000
+use Rattle.reclaiming.specs.Allotments.{timing}
+use Rattle.reclaiming.specs.Orders.{View, nextArrival, isLone, allowance, openJobs, runningTime}
+use Rattle.reclaiming.specs.Passes.{inTime, passQuestions}
+use Rattle.reclaiming.specs.StateBlock.{State, queuedIn, restIn, taskOf, planIn, decode, laidOut, stateLength}
+use Rattle.reclaiming.specs.States.{viewOf}
 
 -- 02, No. 2: "Soundness requires these left to be no more than the fixed ticks, and zero in a finished job."
 abbrev pub fixedSound : Entry → Bool
@@ -38,15 +36,15 @@ entryAhead speed e = leb (timeOf speed (restIn e)) (e .remaining)
 
 -- 02, No. 4: soundness "lets a lone job's time at nominal exceed its plain ticks left if its time at the order's level is at most the ticks
 -- to the next arrival"
-abbrev pub fitsGap : List ℕ → Timing → State → Bool
-fitsGap speeds τ s = both (isLone τ s (s .task)) (leb (runningTime speeds s) (nextArrival τ (s .clock)))
+abbrev pub fitsGap : List ℕ → Timing → View → Bool
+fitsGap speeds τ v = both (isLone τ v (v .task)) (leb (runningTime speeds v) (nextArrival τ (v .clock)))
 
 -- 01: "an idle order exactly if no job is open, else the most urgent open job at a level no higher than nominal that meets its allowance"
-abbrev pub orderSound : List ℕ → Timing → ℕ → State → List Pending → Bool
-orderSound speeds τ highest s [] = both (eqb (s .task) 255) (eqb (s .level) 0)
-orderSound speeds τ highest s (e ∷ q) =
-    both (eqb (s .task) (e .job .task))
-    (both (leb (s .level) highest) (leb (runningTime speeds s) (allowance τ s (s .task))))
+abbrev pub orderSound : List ℕ → Timing → ℕ → View → List Pending → Bool
+orderSound speeds τ highest v [] = both (eqb (v .task) 255) (eqb (v .level) 0)
+orderSound speeds τ highest v (e ∷ q) =
+    both (eqb (v .task) (e .job .task))
+    (both (leb (v .level) highest) (leb (runningTime speeds v) (allowance τ v (v .task))))
 
 -- 02, No. 6: "A state whose total differs is unsound."
 abbrev pub totalSound : State → Bool
@@ -59,12 +57,8 @@ stateSound speeds s =
     let speed : ℕ = speedOf speeds (nominal speeds (planIn s)) in
     both (eqb (firstNo (judging speeds (length (s .entries)) (planIn s))) 0)
     (both (both (every (entrySound speed) (s .entries)) (totalSound s))
-    (both (orderSound speeds τ (nominal speeds (planIn s)) s (openJobs τ s))
-    (pick (every (entryAhead speed) (s .entries)) true (fitsGap speeds τ s))))
-
--- 01: "a clock in range"
-abbrev pub inTime : ℕ → Bool
-inTime clock = leb clock largestClock
+    (both (orderSound speeds τ (nominal speeds (planIn s)) (viewOf s) (openJobs τ (viewOf s)))
+    (pick (every (entryAhead speed) (s .entries)) true (fitsGap speeds τ (viewOf s)))))
 
 -- 01: "Sound means exactly [221] bytes, laid out as above; [..] a clock in range;" and what is asked of the state, at a table of speeds
 abbrev pub soundAt : List ℕ → List ℕ → Bool
@@ -74,26 +68,11 @@ soundAt speeds bytes = both (laidOut bytes) (both (inTime (decode bytes .clock))
 abbrev pub sound : List ℕ → Bool
 sound bytes = both (tableGood (decode bytes .speeds)) (soundAt (decode bytes .speeds) bytes)
 
--- a job is running unless the order is to stay idle
-abbrev pub running : State → Bool
-running s = not (eqb (s .task) 255)
-
--- 01: "Passing goes on": 11 to 14, which ask nothing of the clock
-abbrev pub stepQuestions : List ℕ → State → ℕ → Bool → List Question
-stepQuestions speeds s d finished =
-    ask 11 (leb 1 d)
-    ∷ ask 12 (leb d (nextArrival (timing speeds (planIn s)) (s .clock)))
-    ∷ ask 13 (pick finished (running s) true)
-    ∷ ask 14 (pick (running s) (pick finished (leb d (runningTime speeds s)) (ltb d (runningTime speeds s))) true)
-    ∷ []
-
--- "Is clock plus d within the largest clock? 15": the call's own question
-abbrev pub passQuestions : List ℕ → State → ℕ → Bool → List Question
-passQuestions speeds s d finished = stepQuestions speeds s d finished ++ (ask 15 (inTime (clockAfter s d)) ∷ [])
-
 -- 01: "Passing, and showing the queue, ask first whether the state is sound: 10."
 abbrev pub passing : List ℕ → ℕ → Bool → List Question
-passing bytes d finished = ask 10 (sound bytes) ∷ passQuestions (decode bytes .speeds) (decode bytes) d finished
+passing bytes d finished =
+    let s : State = decode bytes in
+    ask 10 (sound bytes) ∷ passQuestions (s .speeds) (timing (s .speeds) (planIn s)) (viewOf s) d finished
 
 -- "Showing then puts 9."
 abbrev pub showing : List ℕ → ℕ → ℕ → List Question

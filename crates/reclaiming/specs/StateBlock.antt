@@ -10,10 +10,6 @@ use Rattle.arith.specs.Sum.{sumOf}
 use Rattle.arith.specs.Ranges.{listTo}
 use Rattle.plan.specs.declared.Task.{Task}
 use Rattle.plan.specs.declared.Rest.{Rest}
-use Rattle.plan.specs.Times.{taskTime}
-use Rattle.plan.specs.Levels.{speedOf, nominal}
-use Rattle.plan.specs.Blocks.{noTask}
-use Rattle.schedule.specs.PlainSchedule.{Timing}
 use Rattle.reclaiming.specs.declared.Entry.{Entry}
 use Rattle.reclaiming.specs.Fields.{Field, field, zeros, fieldsBytes, fieldsLength, readField}
 
@@ -65,18 +61,6 @@ entryWith t r remaining = record {
   fixed = t .fixed;
   unspent = r .fixed;
 }
-
--- what the plain schedule sees of a plan: periods, and the worst cases' times at a speed as allotments
-abbrev pub timingAt : ℕ → List Task → Timing
-timingAt speed ts = record {
-  count = length ts;
-  period = λ i. getD ts i noTask .period;
-  allotment = λ i. taskTime speed (getD ts i noTask);
-}
-
--- 01: "A task's allotment is its worst case's time at the nominal level."
-abbrev pub timing : List ℕ → List Task → Timing
-timing speeds ts = timingAt (speedOf speeds (nominal speeds ts)) ts
 
 -- 01: "clock (4 bytes), task of the order (1; 255 for idle), level (1; 0 for idle), count (1), a zero byte"
 abbrev pub headFields : List (Field State)

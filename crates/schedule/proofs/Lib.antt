@@ -8,6 +8,7 @@ pub mod Periods
 pub mod Together
 pub mod Demand
 pub mod Feasible
+pub mod Giving
 pub mod Drain
 pub mod QueueLaws
 pub mod Totals

@@ -1,11 +1,12 @@
--- Quotients by a period: how many arrivals there have been.
+-- Quotients by a period: how many arrivals there have been, and where the next is.
 -- Assumes nothing.
 use Prim.Native.Nat.{ℕ, zero, suc, _+_, _-_, _*_, _/_, _%_, _≤_, _<_}
 use mathlib.Core.Path.{_≡_, refl, sym, ap, _∙_, subst}
 use mathlib.Core.Logic.{_≢_}
-use native.Mathlib.Nat.{mod-add-div', mod-lt, mod-add-mod, mod-eq-of-lt, mod-self, le-div-iff-mul-le, lt-of-mul-lt-mul-right, le-of-mul-le-mul-right, mul-le-mul-right, add-zero, add-suc}
+use native.Mathlib.Nat.{add-mod-right, mod-add-div', mod-lt, mod-add-mod, mod-eq-of-lt, mod-self, le-div-iff-mul-le, lt-of-mul-lt-mul-right, le-of-mul-le-mul-right, mul-le-mul-right, add-zero, add-suc}
 use native.Mathlib.Decide.{decLe}
 use native.Mathlib.Omega.{arith}
+use Rattle.schedule.specs.Served.{DeadlineIsNext}
 
 module _ (p : ℕ) (positive : 0 < p) where
   -- at an arrival the quotient rises by one
@@ -75,3 +76,11 @@ module _ (p : ℕ) (positive : 0 < p) where
       let z : t + suc d ≡ suc (t + d) = add-suc t d in
       ap (λ (x : ℕ). x / p) z
       ∙ (div-between (t + d) (subst (λ (x : ℕ). x % p ≢ 0) z (h (suc d) (omega arith) (omega arith))) ∙ quiet-last t d (λ k x y. h k x (omega arith)))
+
+-- a job's deadline is its next arrival
+pub deadline-is-next : DeadlineIsNext
+deadline-is-next τ clock j positive a = record {
+  later = omega (arith, positive);
+  due = add-mod-right (j .arrival) (τ .period (j .task)) ∙ a .multiple;
+  next = λ u h z. omega (arith, next-multiple (τ .period (j .task)) positive (j .arrival) u h z, multiple-last (τ .period (j .task)) positive (j .arrival) (a .multiple));
+}

@@ -1,2 +1,3 @@
 pub mod PlainSchedule
 pub mod Feasibility
+pub mod Served

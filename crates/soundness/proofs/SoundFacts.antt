@@ -16,9 +16,11 @@ use Rattle.plan.proofs.Facts.{FineList, InRange, tasks-yes}
 use Rattle.plan.specs.Times.{whole, Within}
 use Rattle.state.specs.Code.{Holds, FitTask, FitRest}
 use Rattle.schedule.specs.PlainSchedule.{Timing}
-use Rattle.reclaiming.specs.StateBlock.{State, noEntry, taskOf, remainingOf, restOf, planIn, timing, encode, decode, laidOut, stateLength, stateCount, places}
+use Rattle.reclaiming.specs.Allotments.{timing}
 use Rattle.reclaiming.specs.Orders.{nextArrival}
-use Rattle.reclaiming.specs.Questions.{inTime, soundAt, stateSound}
+use Rattle.reclaiming.specs.Passes.{inTime}
+use Rattle.reclaiming.specs.StateBlock.{State, noEntry, taskOf, remainingOf, restOf, planIn, encode, decode, laidOut, stateLength, stateCount, places}
+use Rattle.reclaiming.specs.Questions.{soundAt, stateSound}
 use Rattle.orders.specs.Code.{Runnable}
 use Rattle.reclaiming.proofs.Fine.{Fine}
 use Rattle.reclaiming.proofs.Plans.{task-range, allotment-short}

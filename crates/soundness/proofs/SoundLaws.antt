@@ -30,9 +30,12 @@ use Rattle.arith.proofs.Tests.{both-false, both-yes, both-left}
 use Rattle.arith.proofs.ListLaws.{every-at, at-every}
 use Rattle.soundness.specs.declared.Tested.{Tested}
 use Rattle.reclaiming.specs.declared.Entry.{Entry}
-use Rattle.reclaiming.specs.StateBlock.{State, noEntry, workOf, remainingOf, restOf, taskOf, planIn, timing, decode, laidOut, places, stateCount}
+use Rattle.reclaiming.specs.Allotments.{timing}
 use Rattle.reclaiming.specs.Orders.{nextArrival, isLone, openJobs, runningTime}
-use Rattle.reclaiming.specs.Questions.{largestClock, inTime, entrySound, entryAhead, orderSound, fitsGap, totalSound, stateSound, soundAt}
+use Rattle.reclaiming.specs.Passes.{largestClock, inTime}
+use Rattle.reclaiming.specs.StateBlock.{State, noEntry, workOf, remainingOf, restOf, taskOf, planIn, decode, laidOut, places, stateCount}
+use Rattle.reclaiming.specs.States.{viewOf}
+use Rattle.reclaiming.specs.Questions.{entrySound, entryAhead, orderSound, fitsGap, totalSound, stateSound, soundAt}
 use Rattle.state.specs.Code.{Holds, entryIn, timingIn}
 use Rattle.urgency.specs.Code.{Keyed, noKey, deadlineIn, latestKey, keysIn}
 use Rattle.orders.specs.declared.Choice.{Choice}
@@ -97,11 +100,11 @@ module _ (speeds : List ℕ) (s : State) where
   entriesWell = both (every (entrySound (speedOf speeds (nominal speeds (planIn s)))) (s .entries)) (totalSound s)
 
   abbrev orderWell : Bool
-  orderWell = orderSound speeds (timing speeds (planIn s)) (nominal speeds (planIn s)) s (openJobs (timing speeds (planIn s)) s)
+  orderWell = orderSound speeds (timing speeds (planIn s)) (nominal speeds (planIn s)) (viewOf s) (openJobs (timing speeds (planIn s)) (viewOf s))
 
   abbrev paceWell : Bool
   paceWell =
-      pick (every (entryAhead (speedOf speeds (nominal speeds (planIn s)))) (s .entries)) true (fitsGap speeds (timing speeds (planIn s)) s)
+      pick (every (entryAhead (speedOf speeds (nominal speeds (planIn s)))) (s .entries)) true (fitsGap speeds (timing speeds (planIn s)) (viewOf s))
 
   plan-not : 0 < firstNo (judging speeds (length (s .entries)) (planIn s)) → stateSound speeds s ≡ false
   plan-not h =
@@ -297,11 +300,11 @@ module _ {held : List ℕ} {levels : ℕ} {b : List ℕ} {count clock level spee
             (sym (at-every (entryAhead speed) (S .entries) noEntry (λ i h. closed i h (z i (omega (arith, length-planIn S))))) ∙ sym ahead-is ∙ f)
         go (runs r) = omega (arith, r .below, timing-count b, k .admitted .holds .few)
 
-    module _ {p : Bool} (q : p ≡ pick (found .ahead) true (fitsGap table-speeds (timingIn table-speeds b) S)) where
+    module _ {p : Bool} (q : p ≡ pick (found .ahead) true (fitsGap table-speeds (timingIn table-speeds b) (viewOf S))) where
       pace-is : p ≡ stateSound table-speeds S
       pace-is =
           q
-          ∙ ap (λ (t : Bool). pick t true (fitsGap table-speeds (timingIn table-speeds b) S))
+          ∙ ap (λ (t : Bool). pick t true (fitsGap table-speeds (timingIn table-speeds b) (viewOf S)))
           (ahead-is ∙ ap (λ (v : ℕ). every (entryAhead v) (S .entries)) (speed-nominal (k .admitted)))
           ∙ sym (pace-decides table-speeds S plan-well nominal-well (sym (e ∙ order-is) ∙ y))
 
@@ -328,17 +331,17 @@ pub record Running (speeds b : List ℕ) (count next : ℕ) (c : Choice) : Type 
 
 module _ {speeds b : List ℕ} {count next : ℕ} {c : Choice} (k : Running speeds b count next c) {ahead : Bool} (behind : ahead ≡ false) where
   abbrev lone : Bool
-  lone = isLone (timingIn speeds b) (decode b) (decode b .task)
+  lone = isLone (timingIn speeds b) (viewOf (decode b)) (decode b .task)
 
   abbrev gap : Bool
-  gap = fitsGap speeds (timingIn speeds b) (decode b)
+  gap = fitsGap speeds (timingIn speeds b) (viewOf (decode b))
 
   -- only a gap can help a state that is behind
   gap-decides : {found : Bool} → found ≡ both lone (leb (c .time) next) → found ≡ pick ahead true gap
   gap-decides e =
       e
       ∙ ap₂ (λ (x n : ℕ). both lone (leb x n))
-      (ap (λ (x : Choice). x .time) (k .choice) ∙ ap (λ (t : Bool). pick t 0 (runningTime speeds (decode b))) (ne-eqb (decode b .task) 255 (k .some)))
+      (ap (λ (x : Choice). x .time) (k .choice) ∙ ap (λ (t : Bool). pick t 0 (runningTime speeds (viewOf (decode b)))) (ne-eqb (decode b .task) 255 (k .some)))
       (k .arrival)
       ∙ sym (ap (λ (t : Bool). pick t true gap) behind)
 
@@ -350,7 +353,7 @@ module _ {speeds b : List ℕ} {count next : ℕ} {c : Choice} (k : Running spee
       gap-decides
       (e
       ∙ lone-is speeds b count i (k .same)
-      ∙ ap (isLone (timingIn speeds b) (decode b)) (t ∙ ap (λ (x : Choice). x .task) (k .choice))
+      ∙ ap (isLone (timingIn speeds b) (viewOf (decode b))) (t ∙ ap (λ (x : Choice). x .task) (k .choice))
       ∙ sym (ap (both lone) (le-leb (c .time) next h) ∙ both-yes lone))
 
 -- the number that a verdict is of

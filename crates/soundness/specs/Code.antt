@@ -7,9 +7,10 @@ use mathlib.Core.List.{List}
 use lib.ListN.{replicate}
 use Rattle.arith.specs.Choice.{both}
 use Rattle.plan.specs.Levels.{nominal}
-use Rattle.reclaiming.specs.StateBlock.{State, stateCount, decode, planIn, places}
 use Rattle.reclaiming.specs.Orders.{nextArrival}
-use Rattle.reclaiming.specs.Questions.{inTime, stateSound, soundAt}
+use Rattle.reclaiming.specs.Passes.{inTime}
+use Rattle.reclaiming.specs.StateBlock.{State, stateCount, decode, planIn, places}
+use Rattle.reclaiming.specs.Questions.{stateSound, soundAt}
 use Rattle.state.specs.Code.{Holds, timingIn}
 use Rattle.urgency.specs.Code.{Keyed, keysIn}
 use Rattle.soundness.specs.declared.Tested.{Tested}

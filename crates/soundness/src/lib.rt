@@ -27,9 +27,11 @@ ghost use Rattle.plan.specs.Questions.{taskQuestions};
 ghost use Rattle.arith.specs.Choice.{pick};
 ghost use Rattle.arith.specs.Asking.{firstNo};
 ghost use Rattle.plan.specs.Blocks.{planOf};
-ghost use Rattle.reclaiming.specs.StateBlock.{planIn, stateLength, stateCount, decode};
 ghost use Rattle.reclaiming.specs.Orders.{nextArrival};
-ghost use Rattle.reclaiming.specs.Questions.{largestClock, fitsGap, stateSound, soundAt};
+ghost use Rattle.reclaiming.specs.Passes.{largestClock};
+ghost use Rattle.reclaiming.specs.StateBlock.{planIn, stateLength, stateCount, decode};
+ghost use Rattle.reclaiming.specs.States.{viewOf};
+ghost use Rattle.reclaiming.specs.Questions.{fitsGap, stateSound, soundAt};
 ghost use Rattle.state.specs.Code.{Holds, timingIn};
 ghost use Rattle.orders.specs.Code.{Runnable};
 ghost use Rattle.soundness.specs.Code.{timedSound, testedBy};
@@ -83,7 +85,7 @@ fn keeps_up(
     requires { ⌜ next ≡ nextArrival (timingIn (loaded (now speeds) levels) (now block)) (decode (now block) .clock) ⌝ }
     ensures { λ r. ⌜ r ≡ pick ahead true (fitsGap (loaded (now (speeds .entry)) levels)
         (timingIn (loaded (now (speeds .entry)) levels) (now (block .entry)))
-        (decode (now (block .entry)))) ⌝ }
+        (viewOf (decode (now (block .entry))))) ⌝ }
 {
     if ahead {
         return true;

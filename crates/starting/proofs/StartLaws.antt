@@ -29,11 +29,13 @@ use Rattle.schedule.specs.PlainSchedule.{Timing}
 use Rattle.reclaiming.specs.declared.Entry.{Entry}
 use Rattle.reclaiming.specs.declared.Reply.{Reply}
 use Rattle.reclaiming.specs.declared.Reply.the-variants as reply
+use Rattle.reclaiming.specs.Allotments.{timing}
+use Rattle.reclaiming.specs.Orders.{holdOf, orderWith}
+use Rattle.reclaiming.specs.Replies.{repliedBy}
 use Rattle.reclaiming.specs.Fields.{widthOf}
-use Rattle.reclaiming.specs.StateBlock.{State, noEntry, endFields, totalField, restIn, taskOf, timing, planIn, stateLength, stateCount, encode, decode, places}
-use Rattle.reclaiming.specs.Orders.{chooseOrder, holdOf, orderWith}
-use Rattle.reclaiming.specs.Passes.{newEntry, startState}
-use Rattle.reclaiming.specs.Calls.{repliedBy, startNumber, startOrder}
+use Rattle.reclaiming.specs.StateBlock.{State, noEntry, endFields, totalField, restIn, taskOf, planIn, stateLength, stateCount, encode, decode, places}
+use Rattle.reclaiming.specs.States.{chosenState, newEntry, startState, viewOf}
+use Rattle.reclaiming.specs.Calls.{startNumber, startOrder}
 use Rattle.state.specs.Code.{Holds, entryIn, timingIn}
 use Rattle.urgency.specs.Code.{latestKey, keysIn, Keyed}
 use Rattle.arith.proofs.ArrayLaws.{value-at}
@@ -232,7 +234,7 @@ module _ {speeds : List ℕ} {ts : List Task} {image : List ℕ} (new : Newly sp
 
   -- the order that is chosen in it is that of the start
   chosen-is : chosenIn speeds image ≡ S
-  chosen-is = ap₂ (λ (x : Timing) (s : State). chooseOrder speeds x s) new-timing new-read
+  chosen-is = ap₂ (λ (x : Timing) (s : State). chosenState speeds x s) new-timing new-read
 
   -- its reply, and its bytes where there is room for them
   pub new-left :
@@ -246,8 +248,8 @@ module _ {speeds : List ℕ} {ts : List Task} {image : List ℕ} (new : Newly sp
       let zero-is : 0 ≡ roomNumber stateLength (length buffer) = sym (ap (λ (t : Bool). pick {A = ℕ} t 0 9) (le-leb stateLength (length buffer) h)) in
       let order : r ≡ startOrder speeds S =
       a
-      ∙ ap₂ (λ (x : Timing) (s : State). orderWith s (holdOf speeds x s)) new-timing chosen-is
-      ∙ sym (ap (λ (us : List Task). orderWith S (holdOf speeds (timing speeds us) S)) (fine .entries .plan)) in
+      ∙ ap₂ (λ (x : Timing) (s : State). orderWith (viewOf s) (holdOf speeds x (viewOf s))) new-timing chosen-is
+      ∙ sym (ap (λ (us : List Task). orderWith (viewOf S) (holdOf speeds (timing speeds us) (viewOf S))) (fine .entries .plan)) in
       let stored : m ≡ storedBy 0 (encode S) buffer =
       e
       ∙ ap (λ (x : List ℕ). x ++ drop stateLength buffer) (b ∙ ap encode chosen-is)

@@ -21,9 +21,10 @@ ghost use Rattle.plan.specs.Questions.{judging};
 ghost use Rattle.arith.specs.Arrays.{padded};
 ghost use Rattle.arith.specs.Asking.{firstNo};
 ghost use Rattle.plan.specs.Answers.{roomNumber, storedBy};
+ghost use Rattle.reclaiming.specs.Replies.{repliedBy};
 ghost use Rattle.reclaiming.specs.StateBlock.{stateLength, encode};
-ghost use Rattle.reclaiming.specs.Passes.{startState};
-ghost use Rattle.reclaiming.specs.Calls.{repliedBy, startOrder, startReply, startBuffer};
+ghost use Rattle.reclaiming.specs.States.{startState};
+ghost use Rattle.reclaiming.specs.Calls.{startOrder, startReply, startBuffer};
 ghost use Rattle.levels.specs.Code.{loaded, Table};
 ghost use Rattle.starting.specs.Code.{startNo};
 

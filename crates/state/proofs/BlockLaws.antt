@@ -18,10 +18,8 @@ use Rattle.arith.proofs.DigitLaws.{length-digits, number-below}
 use Rattle.reclaiming.specs.declared.Entry.{Entry}
 use Rattle.plan.specs.declared.Rest.{Rest}
 use Rattle.reclaiming.specs.Fields.{valueIn, fieldsBytes, fieldsLength, fieldAt, widthOf, offsetOf, readField}
-use Rattle.reclaiming.specs.StateBlock.{State, noEntry, queuedIn, remainingOf, restIn, restOf, taskOf, entryWith, headFields, clockField, taskField, levelField, countField, tailFields, endFields, totalField, places}
-use Rattle.reclaiming.specs.StateBlock.{entryFields, periodField, worstField, workField, remainingField, fixedField, unspentField, headLength, entryLength, tailAt, totalAt, stateLength}
-use Rattle.reclaiming.specs.StateBlock.{entryBytes, entriesBytes, unusedBytes, tailBytes, encode, entryFrom, entriesFrom, stateCount, decode}
-use Rattle.reclaiming.specs.Orders.{withOrder}
+use Rattle.reclaiming.specs.StateBlock.{State, noEntry, queuedIn, remainingOf, restIn, restOf, taskOf, entryWith, headFields, clockField, taskField, levelField, countField, tailFields, endFields, totalField, places, entryFields, periodField, worstField, workField, remainingField, fixedField, unspentField, headLength, entryLength, tailAt, totalAt, stateLength, entryBytes, entriesBytes, unusedBytes, tailBytes, encode, entryFrom, entriesFrom, stateCount, decode}
+use Rattle.reclaiming.specs.States.{putOrder}
 use Rattle.state.specs.Code.{entryAt, entryIn, fieldPlace, fieldIn, numberIn, entryStored, headStored, changed, withJobs, withClock, withTotal, FitTask, FitRest, restStored, totalStored, queuedTo}
 use Rattle.reclaiming.proofs.FieldLaws.{fieldsValues, sets-past, sets-over, length-fields, read-field, fields-same, store-field, store-next}
 use Rattle.reclaiming.proofs.StateCodec.{pastHead, pastEntries, past-head, length-entriesFrom, length-entriesBytes, length-tail, upToPlaces, two-parts, length-places}
@@ -460,10 +458,10 @@ pub store-clock : (s : State) (x : ℕ) → headStored (encode s) clockField x �
 store-clock s x = store-head s (withClock s x) clockField x refl refl
 
 pub store-order :
-    (s : State) (task level : ℕ) → headStored (headStored (encode s) taskField task) levelField level ≡ encode (withOrder s task level)
+    (s : State) (task level : ℕ) → headStored (headStored (encode s) taskField task) levelField level ≡ encode (putOrder s task level)
 store-order s task level =
-    ap (λ (l : List ℕ). headStored l levelField level) (store-head s (withOrder s task (s .level)) taskField task refl refl)
-    ∙ store-head (withOrder s task (s .level)) (withOrder s task level) levelField level refl refl
+    ap (λ (l : List ℕ). headStored l levelField level) (store-head s (putOrder s task (s .level)) taskField task refl refl)
+    ∙ store-head (putOrder s task (s .level)) (putOrder s task level) levelField level refl refl
 
 -- storing the total
 pub store-total : (s : State) (x : ℕ) → length (s .entries) ≤ places → totalStored (encode s) x ≡ encode (withTotal s x)

@@ -14,9 +14,9 @@ use Rattle.schedule.specs.PlainSchedule.{Timing}
 use Rattle.reclaiming.specs.declared.Entry.{Entry}
 use Rattle.plan.specs.declared.Task.{Task}
 use Rattle.plan.specs.declared.Rest.{Rest}
+use Rattle.reclaiming.specs.Allotments.{timing}
 use Rattle.reclaiming.specs.Fields.{widthOf, offsetOf}
-use Rattle.reclaiming.specs.StateBlock.{State, noEntry, headFields, entryFields, workField, unspentField, places, endFields, totalField, headLength, entryLength, totalAt, stateLength}
-use Rattle.reclaiming.specs.StateBlock.{levelPlaces, taskOf, entryWith, entryFrom, stateCount, levelCount, speedIn, decode, planIn, timing}
+use Rattle.reclaiming.specs.StateBlock.{State, noEntry, headFields, entryFields, workField, unspentField, places, endFields, totalField, headLength, entryLength, totalAt, stateLength, levelPlaces, taskOf, entryWith, entryFrom, stateCount, levelCount, speedIn, decode, planIn}
 use Rattle.arith.specs.Ranges.{listTo}
 
 -- bytes that may hold a state: as many as one has, of at most 16 tasks

@@ -2,7 +2,7 @@
 ghost use mathlib.Core.Path.{_≡_};
 ghost use Prim.Native.Nat.{_+_, _≤_};
 ghost use lib.Dec.{leb};
-ghost use Rattle.reclaiming.specs.Questions.{largestClock};
+ghost use Rattle.reclaiming.specs.Passes.{largestClock};
 
 pub struct Clock {
     pub ticks: u32,

@@ -21,11 +21,13 @@ use Rattle.plan.specs.Blocks.{noTask}
 use Rattle.schedule.specs.PlainSchedule.{Timing}
 use Rattle.reclaiming.specs.declared.Entry.{Entry}
 use Rattle.orders.specs.declared.Choice.{Choice}
-use Rattle.reclaiming.specs.StateBlock.{State, noEntry, queuedIn, taskOf, entryWith, remainingOf, restIn, restOf, planIn, timing, encode, totalIn, decode, clockField, stateCount, places}
+use Rattle.reclaiming.specs.Allotments.{timing}
 use Rattle.reclaiming.specs.Orders.{nextArrival}
-use Rattle.reclaiming.specs.Passes.{newEntry, stateWith, drainedOf, workedOf, clockAfter, arrivesAt, agedEntry, entryAfter, movedState}
-use Rattle.arith.specs.Ranges.{listTo}
+use Rattle.reclaiming.specs.Passes.{arrivesAt}
+use Rattle.reclaiming.specs.StateBlock.{State, noEntry, queuedIn, taskOf, entryWith, remainingOf, restIn, restOf, planIn, encode, totalIn, decode, clockField, stateCount, places}
+use Rattle.reclaiming.specs.States.{newEntry, stateWith, drainedOf, workedOf, clockAfter, agedEntry, entryAfter, movedState}
 use Rattle.reclaiming.specs.Questions.{stateSound}
+use Rattle.arith.specs.Ranges.{listTo}
 use Rattle.state.specs.Code.{entryIn, timingIn, withJobs, withClock, withTotal, headStored, totalStored, queuedTo, FitTask, FitRest}
 use Rattle.urgency.specs.Code.{noKey, Keyed, dueAt, drainedBy}
 use Rattle.orders.specs.Code.{choiceOf, Runnable}

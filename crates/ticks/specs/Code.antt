@@ -6,9 +6,9 @@ use lib.ListN.{getD}
 use Rattle.arith.specs.Choice.{pick}
 use Rattle.arith.specs.Ranges.{listTo}
 use Rattle.arith.specs.Arrays.{padded}
-use Rattle.reclaiming.specs.StateBlock.{decode, places}
 use Rattle.reclaiming.specs.Orders.{nextArrival}
-use Rattle.reclaiming.specs.Questions.{largestClock}
+use Rattle.reclaiming.specs.Passes.{largestClock}
+use Rattle.reclaiming.specs.StateBlock.{decode, places}
 use Rattle.state.specs.Code.{entryIn, timingIn}
 use Rattle.urgency.specs.Code.{keyOf, dueAt}
 use Rattle.soundness.specs.Code.{Good}

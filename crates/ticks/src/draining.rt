@@ -15,7 +15,7 @@ ghost use Prim.Native.Nat.{ℕ, _-_, _%_, _<_, _≤_, min};
 ghost use lib.ListN.{length, getD};
 ghost use Rattle.levels.specs.Code.{loaded, Table};
 ghost use Rattle.reclaiming.specs.StateBlock.{State, remainingOf, restOf, places, remainingField, stateLength, encode};
-ghost use Rattle.reclaiming.specs.Passes.{workedOf};
+ghost use Rattle.reclaiming.specs.States.{workedOf};
 ghost use Rattle.state.specs.Code.{entryIn, entryStored, withJobs, FitRest};
 ghost use Rattle.urgency.specs.Code.{noKey, drainedBy};
 

@@ -12,10 +12,11 @@ use Rattle.plan.specs.declared.Verdict.the-variants as verdict
 use Rattle.plan.specs.LevelBlocks.{levelCountIn, levelLength}
 use Rattle.plan.specs.Blocks.{editionIn, countIn, blockLength}
 use Rattle.plan.specs.Answers.{readBlock}
+use Rattle.reclaiming.specs.Passes.{Pass}
 use Rattle.reclaiming.specs.StateBlock.{stateLength}
+use Rattle.reclaiming.specs.Run.{Line, runLines}
 use Rattle.reclaiming.specs.declared.Reply.{Reply}
 use Rattle.reclaiming.specs.declared.Reply.the-variants as reply
-use Rattle.reclaiming.specs.Run.{Pass, Line, runLines}
 use Rattle.transcript.specs.Text.{decimal, spaced, lineEnd, planWord, runWord, idleWord, refusedWord}
 
 -- 01: "First line: count, nominal level, hyperperiod."

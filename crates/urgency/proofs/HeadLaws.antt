@@ -13,8 +13,9 @@ use Rattle.plan.specs.declared.Rest.{Rest}
 use Rattle.plan.specs.Blocks.{noTask}
 use Rattle.schedule.specs.PlainSchedule.{Timing, Pending}
 use Rattle.reclaiming.specs.declared.Entry.{Entry}
-use Rattle.reclaiming.specs.StateBlock.{State, workOf, remainingOf, restIn, restOf, taskOf, planIn, workField, stateCount, decode, places}
 use Rattle.reclaiming.specs.Orders.{plainAllowance, openJobs}
+use Rattle.reclaiming.specs.StateBlock.{State, workOf, remainingOf, restIn, restOf, taskOf, planIn, workField, stateCount, decode, places}
+use Rattle.reclaiming.specs.States.{viewOf}
 use Rattle.state.specs.Code.{Holds, entryIn, timingIn, numberIn}
 use Rattle.urgency.specs.Code.{Keyed, noKey, leastKey, allowedBy}
 use Rattle.reclaiming.proofs.Soundness.{planIn-at}
@@ -48,7 +49,7 @@ pub record Looked (speeds b l : List ℕ) (count best : ℕ) : Type 0 where
 pub record Head (speeds b l : List ℕ) (best i : ℕ) : Type 0 where
   pub job : Pending
   pub rest : List Pending
-  pub queue : openJobs (timingIn speeds b) (decode b) ≡ job ∷ rest
+  pub queue : openJobs (timingIn speeds b) (viewOf (decode b)) ≡ job ∷ rest
   pub task : job .job .task ≡ i
   pub below : i < stateCount b
   pub key : best ≡ getD l i 0
@@ -60,23 +61,23 @@ module _ {speeds b l : List ℕ} {count best : ℕ} (k : Looked speeds b l count
   abbrev s : State
   s = decode b
 
-  best-is : best ≡ headKey l (openJobs τ s)
+  best-is : best ≡ headKey l (openJobs τ (viewOf s))
   best-is = open-head speeds b l count best (k .same) (k .keyed) (k .found)
 
   -- without a key no job is open
-  pub none-open : best ≡ noKey → openJobs τ s ≡ []
-  none-open none = go (openJobs τ s) refl best-is
+  pub none-open : best ≡ noKey → openJobs τ (viewOf s) ≡ []
+  none-open none = go (openJobs τ (viewOf s)) refl best-is
     where
-      go : (q : List Pending) → openJobs τ s ≡ q → best ≡ headKey l q → q ≡ []
+      go : (q : List Pending) → openJobs τ (viewOf s) ≡ q → best ≡ headKey l q → q ≡ []
       go [] o e = refl
       go (f ∷ q) o e =
           absurd (omega (arith, key-below τ (s .clock) l (k .keyed) (f .job .task) (head-below τ (s .clock) (workOf s) (τ .count) f q o)))
 
   -- else it tells the task
   pub head : (best ≡ noKey → ⊥) → {i : ℕ} → i ≡ best % 16 → Head speeds b l best i
-  head some {i} task = go (openJobs τ s) refl best-is
+  head some {i} task = go (openJobs τ (viewOf s)) refl best-is
     where
-      go : (q : List Pending) → openJobs τ s ≡ q → best ≡ headKey l q → Head speeds b l best i
+      go : (q : List Pending) → openJobs τ (viewOf s) ≡ q → best ≡ headKey l q → Head speeds b l best i
       go [] o e = absurd (some e)
       go (f ∷ q) o e =
           let h : f .job .task < τ .count = head-below τ (s .clock) (workOf s) (τ .count) f q o in
@@ -111,7 +112,7 @@ module _ {speeds b l : List ℕ} {count best i : ℕ} (k : Told speeds b l count
   told-rest e = e ∙ sym (rest-is b i (first-open .below))
 
   -- and 01's allowance of it
-  pub told-allowed : allowedBy l (λ j. entryIn b j .remaining) count best ≡ plainAllowance (timingIn speeds b) (decode b) i
+  pub told-allowed : allowedBy l (λ j. entryIn b j .remaining) count best ≡ plainAllowance (timingIn speeds b) (viewOf (decode b)) i
   told-allowed =
       let counted : count ≡ timingIn speeds b .count = k .looked .same ∙ sym (timing-count b) in
       sumTo-eq count (λ j. pick (ltb best (getD l j 0)) 0 (entryIn b j .remaining)) (λ j. pick (ltb best (getD l j 0)) 0 (remainingOf (decode b) j))

@@ -20,11 +20,11 @@ use Rattle.schedule.specs.Feasibility.{In}
 use Rattle.schedule.proofs.Periods.{mod-next, mod-on}
 use Rattle.schedule.proofs.QueueLaws.{latestPending, Stands, queueOf-in}
 use Rattle.schedule.proofs.Ahead.{left-drain}
-use Rattle.reclaiming.specs.StateBlock.{State, remainingOf, places}
 use Rattle.reclaiming.specs.Orders.{nextArrival, plainAllowance}
+use Rattle.reclaiming.specs.Passes.{arrivesAt, largestClock}
+use Rattle.reclaiming.specs.StateBlock.{State, remainingOf, places}
+use Rattle.reclaiming.specs.States.{drainedOf, viewOf}
 use Rattle.arith.specs.Ranges.{leastTo}
-use Rattle.reclaiming.specs.Passes.{drainedOf, arrivesAt}
-use Rattle.reclaiming.specs.Questions.{largestClock}
 use Rattle.urgency.specs.Code.{Keyed, keyOf, noKey, deadlineIn, dueAt, urgentBy, leastKey, allowedBy, drainedBy}
 use Rattle.arith.proofs.RangeLaws.{least-le, Attained, least-at}
 
@@ -277,5 +277,5 @@ module _ (τ : Timing) (s : State) (keys : List ℕ) (keyed : Keyed τ (s .clock
       ∙ sym (left-drain τ (s .clock) (remainingOf s) (τ .count) d i h)
 
   -- 01's allowance of a task's job
-  pub allowance-is : (x : ℕ) → x < τ .count → allowedBy keys (remainingOf s) (τ .count) (getD keys x 0) ≡ plainAllowance τ s x
+  pub allowance-is : (x : ℕ) → x < τ .count → allowedBy keys (remainingOf s) (τ .count) (getD keys x 0) ≡ plainAllowance τ (viewOf s) x
   allowance-is x h = behind-is τ (s .clock) keys keyed (remainingOf s) x h

@@ -8,8 +8,9 @@ use lib.Dec.{eqb}
 use lib.ListN.{length, getD}
 use Rattle.arith.specs.Choice.{pick}
 use Rattle.reclaiming.specs.declared.Entry.{Entry}
-use Rattle.reclaiming.specs.StateBlock.{workOf, planIn, workField, stateCount, decode}
 use Rattle.reclaiming.specs.Orders.{openJobs}
+use Rattle.reclaiming.specs.StateBlock.{workOf, planIn, workField, stateCount, decode}
+use Rattle.reclaiming.specs.States.{viewOf}
 use Rattle.state.specs.Code.{timingIn, numberIn}
 use Rattle.urgency.specs.Code.{Keyed, leastKey}
 use Rattle.reclaiming.proofs.Soundness.{length-planIn}
@@ -29,7 +30,7 @@ least-eq keys f g (suc n) h =
 -- the least key of the tasks with work left is at the head of the open jobs
 pub open-head :
     (speeds b keys : List ℕ) (count best : ℕ) → count ≡ stateCount b → Keyed (timingIn speeds b) (decode b .clock) keys →
-    best ≡ leastKey keys (numberIn b workField) count → best ≡ headKey keys (openJobs (timingIn speeds b) (decode b))
+    best ≡ leastKey keys (numberIn b workField) count → best ≡ headKey keys (openJobs (timingIn speeds b) (viewOf (decode b)))
 open-head speeds b keys count best same keyed e =
     e
     ∙ least-eq keys (numberIn b workField) (workOf (decode b)) count

@@ -19,14 +19,17 @@ use Rattle.plan.specs.LevelBlocks.{speedsIn}
 use Rattle.plan.specs.Blocks.{tasksIn}
 use Rattle.schedule.specs.PlainSchedule.{Timing, Job, Book, moreUrgent, opened}
 use Rattle.schedule.specs.Feasibility.{In}
+use Rattle.schedule.specs.Served.{OpenPlain}
 use Rattle.schedule.proofs.Members.{every-in}
 use Rattle.reclaiming.specs.declared.Reply.{Reply}
 use Rattle.reclaiming.specs.declared.Reply.the-variants as reply
-use Rattle.reclaiming.specs.StateBlock.{timing, stateLength}
+use Rattle.reclaiming.specs.Allotments.{timing}
 use Rattle.reclaiming.specs.Orders.{nextArrival}
+use Rattle.reclaiming.specs.Passes.{Pass}
+use Rattle.reclaiming.specs.Books.{Answered, DispatcherBook, openedBook, bookedAll, ranAll}
+use Rattle.reclaiming.specs.StateBlock.{stateLength}
 use Rattle.reclaiming.specs.Calls.{startReply}
-use Rattle.reclaiming.specs.Run.{Pass, Answered, DispatcherBook, openedBook, bookedAll, ranAll}
-use Rattle.reclaiming.specs.Promises.{OpenPlain, OpenActual, Started, timeLeft, replies, actualBook, plainBook}
+use Rattle.reclaiming.specs.Promises.{OpenActual, Started, timeLeft, replies, actualBook, plainBook}
 use Rattle.worked_cases.specs.Cases.{pass}
 use Rattle.worked_cases.specs.LoneCases.{twoLevels, lonePlan, lonePasses, NeverBehind, BelowTheGap}
 

@@ -13,7 +13,8 @@ use Rattle.plan.specs.LevelBlocks.{speedsIn}
 use Rattle.plan.specs.Blocks.{tasksIn}
 use Rattle.schedule.specs.PlainSchedule.{Timing, Job, moreUrgent}
 use Rattle.schedule.specs.Feasibility.{In}
-use Rattle.reclaiming.specs.StateBlock.{timing, stateLength}
+use Rattle.reclaiming.specs.Allotments.{timing}
+use Rattle.reclaiming.specs.StateBlock.{stateLength}
 use Rattle.reclaiming.specs.Promises.{Started, arrivedWith, actualBook}
 use Rattle.worked_cases.specs.Cases.{baseLevels}
 use Rattle.worked_cases.specs.PairCases.{kneePlan, LaterClosed, HeldAtStart}

@@ -4,7 +4,7 @@
 use Prim.Native.Nat.{ℕ, _+_}
 use mathlib.Core.Bool.{Bool, true, false}
 use mathlib.Core.List.{List, [], _∷_, _++_}
-use lib.ListN.{length, take, set, replicate}
+use lib.ListN.{length, take, drop, set, replicate}
 use Rattle.arith.specs.Choice.{every}
 use Rattle.arith.specs.Need.{need}
 use Rattle.arith.specs.Divisor.{gcd, lcm}
@@ -17,11 +17,19 @@ use Rattle.plan.specs.LevelBlocks.{levelBlock, loadAnswer, readLevels}
 use Rattle.plan.specs.Levels.{baseSpeeds, speedOf, hyperperiod, demandWithin, nominal}
 use Rattle.plan.specs.Blocks.{planBlock, planOf}
 use Rattle.plan.specs.Answers.{verdictAnswer, writtenAnswer, judgedList, readBlock}
-use Rattle.schedule.specs.PlainSchedule.{moreUrgent}
+use Rattle.schedule.specs.PlainSchedule.{Book, moreUrgent}
+use Rattle.reclaiming.specs.declared.Reply.{Reply}
 use Rattle.reclaiming.specs.declared.Reply.the-variants as reply
+use Rattle.reclaiming.specs.Allotments.{timing}
+use Rattle.reclaiming.specs.Orders.{View}
+use Rattle.reclaiming.specs.Replies.{replyAnswer}
+use Rattle.reclaiming.specs.Passes.{Pass}
+use Rattle.reclaiming.specs.Books.{DispatcherBook, openedBook, booked, ran}
+use Rattle.reclaiming.specs.Ideal.{tickedView, idealFirst, idealReply, idealReplies}
+use Rattle.reclaiming.specs.Earliness.{earliness}
 use Rattle.reclaiming.specs.StateBlock.{sameBytes, tailAt, stateLength}
-use Rattle.reclaiming.specs.Calls.{replyAnswer, startReply, passReply, showReply, showBuffer}
-use Rattle.reclaiming.specs.Run.{Pass, Line, bytesAfter, startedBytes, line, runLines}
+use Rattle.reclaiming.specs.Calls.{startReply, passReply, showReply, showBuffer}
+use Rattle.reclaiming.specs.Run.{Line, bytesAfter, startedBytes, line, linesFrom, runLines}
 
 abbrev pub task : ℕ → ℕ → Task
 task p w = record { period = p; worst = w; fixed = 0 }
@@ -71,6 +79,37 @@ listedLines =
     ∷ line 19 (reply.Idle 1)
     ∷ line 20 (reply.Run 0 6 5)
     ∷ []
+
+-- a run from the two books alone: the first order and the replies to the passes, with the clock of the dispatcher's book
+abbrev pub idealLines : List ℕ → List Task → List Pass → List Line
+idealLines speeds ts passes =
+    let first : Reply = idealFirst speeds ts in
+    line 0 first ∷ linesFrom speeds ts (openedBook ts first) (idealReplies speeds ts passes)
+
+-- the paper's earliness of the job that each reply of a run says to run, at the moment at which it is chosen; 0 for every other reply
+abbrev pub earlinessOf : List ℕ → List Task → View → Reply → ℕ
+earlinessOf speeds ts v (reply.Run x level hold) = earliness speeds ts v x
+earlinessOf speeds ts v (reply.Idle hold) = 0
+earlinessOf speeds ts v (reply.Refused n) = 0
+
+abbrev pub earlinessAlong : List ℕ → List Task → DispatcherBook → Book → List Pass → List ℕ
+earlinessAlong speeds ts a b [] = []
+earlinessAlong speeds ts a b (p ∷ ps) =
+    let r : Reply = idealReply speeds ts a b p in
+    earlinessOf speeds ts (tickedView speeds ts a b p) r ∷ earlinessAlong speeds ts (booked speeds ts a p r) (ran (timing speeds ts) b p r) ps
+
+-- 01's cases of refused passes, put to the books alone: at tick 0, and of a finish while idle
+abbrev pub edgePasses : List Pass
+edgePasses = pass false 0 ∷ pass true 11 ∷ pass false 4 ∷ pass true 5 ∷ (take 5 benchPasses ++ (pass true 1 ∷ []))
+
+abbrev pub edgeLines : List Line
+edgeLines =
+    line 0 (reply.Run 0 7 4)
+    ∷ line 0 (reply.Refused 11)
+    ∷ line 0 (reply.Refused 12)
+    ∷ line 0 (reply.Refused 14)
+    ∷ line 0 (reply.Refused 14)
+    ∷ (take 5 (drop 1 listedLines) ++ (line 19 (reply.Refused 13) ∷ []))
 
 -- an answer as numbers: a refusal is its number alone; else 0, then the answer's values
 abbrev pub told : Answer → List ℕ

@@ -12,8 +12,9 @@ use Rattle.plan.specs.Times.{timeOf, worn}
 use Rattle.plan.specs.Blocks.{planBits, planBlock}
 use Rattle.schedule.specs.PlainSchedule.{moreUrgent}
 use Rattle.reclaiming.specs.declared.Reply.the-variants as reply
+use Rattle.reclaiming.specs.Passes.{Pass}
 use Rattle.reclaiming.specs.StateBlock.{stateLength}
-use Rattle.reclaiming.specs.Run.{Pass, Line, bytesAfter, startedBytes, line, runLines}
+use Rattle.reclaiming.specs.Run.{Line, bytesAfter, startedBytes, line, runLines}
 use Rattle.worked_cases.specs.Cases.{Case, task, pass, baseLevels, benchTasks, case, readValues, judgedValues, startValues, passValues}
 
 -- a task with fixed ticks

@@ -13,12 +13,15 @@ use Rattle.plan.specs.Times.{timeOf, worn}
 use Rattle.plan.specs.LevelBlocks.{levelBlock, speedsIn}
 use Rattle.plan.specs.Blocks.{planBlock, tasksIn}
 use Rattle.schedule.specs.PlainSchedule.{Job, moreUrgent}
+use Rattle.schedule.specs.Served.{OpenPlain}
 use Rattle.reclaiming.specs.declared.Reply.the-variants as reply
-use Rattle.reclaiming.specs.StateBlock.{State, entryWith, planIn, timing, encode, stateLength}
+use Rattle.reclaiming.specs.Allotments.{timing}
 use Rattle.reclaiming.specs.Orders.{nextArrival}
-use Rattle.reclaiming.specs.Passes.{stateWith, passedState}
-use Rattle.reclaiming.specs.Run.{Pass, Line, bytesAfter, startedBytes, line, runLines}
-use Rattle.reclaiming.specs.Promises.{OpenPlain, OpenActual, Started, timeLeft, actualBook, plainBook}
+use Rattle.reclaiming.specs.Passes.{Pass}
+use Rattle.reclaiming.specs.StateBlock.{State, entryWith, planIn, encode, stateLength}
+use Rattle.reclaiming.specs.States.{stateWith, passedState}
+use Rattle.reclaiming.specs.Run.{Line, bytesAfter, startedBytes, line, runLines}
+use Rattle.reclaiming.specs.Promises.{OpenActual, Started, timeLeft, actualBook, plainBook}
 use Rattle.worked_cases.specs.Cases.{Case, task, pass, case, benchAfter, startValues, passValues, shownValues}
 
 -- speeds 1 and 2, and two tasks of which the second is alone from tick 1 on

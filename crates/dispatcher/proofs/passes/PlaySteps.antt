@@ -7,8 +7,10 @@ use native.Mathlib.Numerals.{add-one}
 use native.Mathlib.Omega.{arith}
 use lib.ListN.{length, getD, take, drop, set, length-map, length-set}
 use lib.Seq.{take-suc, drop-cons, set-at, append-snoc, length-take-le, take-all, take-length}
+use Rattle.reclaiming.specs.Passes.{Pass}
+use Rattle.reclaiming.specs.Books.{Answered}
 use Rattle.reclaiming.specs.Calls.{passReply, passBytes}
-use Rattle.reclaiming.specs.Run.{Pass, Answered, trace, bytesAfter}
+use Rattle.reclaiming.specs.Run.{trace, bytesAfter}
 use Rattle.reclaiming.specs.Numbers.{replyNumber}
 use Rattle.reclaiming.specs.Play.{passFrom, playedPasses, replyNumbers}
 use Rattle.arith.proofs.ListLaws.{map-snoc}

@@ -11,9 +11,10 @@ use Rattle.plan.specs.LevelBlocks.{speedsIn}
 use Rattle.plan.specs.Blocks.{tasksIn}
 use Rattle.reclaiming.specs.declared.Reply.{Reply}
 use Rattle.reclaiming.specs.declared.Reply.the-variants as reply
+use Rattle.reclaiming.specs.Books.{openedBook}
 use Rattle.reclaiming.specs.StateBlock.{stateLength}
 use Rattle.reclaiming.specs.Calls.{startReply, startBuffer}
-use Rattle.reclaiming.specs.Run.{trace, startedBytes, openedBook, linesFrom}
+use Rattle.reclaiming.specs.Run.{trace, startedBytes, linesFrom}
 use Rattle.transcript.specs.Listing.{replyLine, passesIn, oddLine, linesText, startedLines}
 use Rattle.listing.specs.RunLines.{passesText}
 

@@ -13,8 +13,10 @@ use Rattle.plan.specs.declared.Task.{Task}
 use Rattle.plan.specs.Times.{noRest}
 use Rattle.reclaiming.specs.declared.Reply.{Reply}
 use Rattle.reclaiming.specs.declared.Reply.the-variants as reply
+use Rattle.reclaiming.specs.Passes.{Pass}
+use Rattle.reclaiming.specs.Books.{Answered, DispatcherBook, booked}
 use Rattle.reclaiming.specs.Calls.{passReply, passBytes}
-use Rattle.reclaiming.specs.Run.{Pass, Answered, DispatcherBook, Line, line, booked, trace, bytesAfter, linesFrom}
+use Rattle.reclaiming.specs.Run.{Line, line, trace, bytesAfter, linesFrom}
 use Rattle.transcript.specs.Listing.{replyLine, refusedLine, passOf, passesIn, oddLine, linesText}
 use Rattle.text.specs.Stores.{Put}
 use Rattle.listing.specs.RunLines.{passesText}

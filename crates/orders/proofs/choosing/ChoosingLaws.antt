@@ -1,12 +1,13 @@
 -- What choosing an order stores, and answers.
 -- Assumes nothing.
-use Prim.Native.Nat.{ℕ, _-_, _<_}
+use Prim.Native.Nat.{ℕ, _<_}
 use mathlib.Core.Path.{_≡_, sym, ap, ap₂, _∙_}
 use mathlib.Core.List.{List}
 use Rattle.orders.specs.declared.Choice.{Choice}
 use Rattle.reclaiming.specs.declared.Reply.{Reply}
+use Rattle.reclaiming.specs.Orders.{nextArrival}
 use Rattle.reclaiming.specs.StateBlock.{State, encode, decode, taskField, levelField}
-use Rattle.reclaiming.specs.Orders.{nextArrival, withOrder}
+use Rattle.reclaiming.specs.States.{putOrder}
 use Rattle.state.specs.Code.{headStored, timingIn}
 use Rattle.orders.specs.Code.{choiceOf, chosenIn, chosenReply, holdBy, orderOf}
 use Rattle.reclaiming.proofs.PassedStates.{choose-clock, choose-entries, choose-speeds, choose-total}
@@ -25,7 +26,7 @@ module _ {speeds b : List ℕ} {next : ℕ} {c : Choice} (k : Chosen speeds b ne
   N = chosenIn speeds b
 
   -- choosing leaves the clock, the entries, the speeds and the total
-  order-only : withOrder (decode b) (N .task) (N .level) ≡ N
+  order-only : putOrder (decode b) (N .task) (N .level) ≡ N
   order-only = λ i. record {
     clock = sym (choose-clock speeds (timingIn speeds b) (decode b)) i;
     task = N .task;
@@ -40,7 +41,7 @@ module _ {speeds b : List ℕ} {next : ℕ} {c : Choice} (k : Chosen speeds b ne
       e
       ∙ ap (λ (x : List ℕ). headStored (headStored x taskField (c .task)) levelField (c .level)) (sym (k .back))
       ∙ store-order (decode b) (c .task) (c .level)
-      ∙ ap encode (ap (λ (x : Choice). withOrder (decode b) (x .task) (x .level)) (k .choice) ∙ order-only)
+      ∙ ap encode (ap (λ (x : Choice). putOrder (decode b) (x .task) (x .level)) (k .choice) ∙ order-only)
 
   next-is : next ≡ nextArrival (timingIn speeds b) (N .clock)
   next-is = k .arrival ∙ sym (ap (nextArrival (timingIn speeds b)) (choose-clock speeds (timingIn speeds b) (decode b)))

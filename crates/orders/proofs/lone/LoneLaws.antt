@@ -14,8 +14,9 @@ use Rattle.arith.proofs.RangeLaws.{some-yes, some-same, least-le}
 use Rattle.plan.specs.declared.Rest.{Rest}
 use Rattle.schedule.specs.PlainSchedule.{Timing}
 use Rattle.reclaiming.specs.declared.Entry.{Entry}
-use Rattle.reclaiming.specs.StateBlock.{State, workOf, workField, restIn, restOf, stateCount, decode}
 use Rattle.reclaiming.specs.Orders.{nextArrival, plainAllowance, isLone, withGap, allowance}
+use Rattle.reclaiming.specs.StateBlock.{State, workOf, workField, restIn, restOf, stateCount, decode}
+use Rattle.reclaiming.specs.States.{viewOf}
 use Rattle.state.specs.Code.{entryIn, numberIn, timingIn}
 use Rattle.state.proofs.BlockLaws.{entry-at, field-work}
 use Rattle.reclaiming.proofs.Lone.{gap-meets}
@@ -111,7 +112,7 @@ module _ {b l : List ℕ} {count key allowed : ℕ} (k : Summed b l count key al
           ∙ sym (gap-left ∙ ap (λ (x : Bool). both x (not (otherIn b count (key % 16)))) y)
 
 -- whether a job of a block is the only open one
-pub lone-is : (speeds b : List ℕ) (count x : ℕ) → count ≡ stateCount b → not (otherIn b count x) ≡ isLone (timingIn speeds b) (decode b) x
+pub lone-is : (speeds b : List ℕ) (count x : ℕ) → count ≡ stateCount b → not (otherIn b count x) ≡ isLone (timingIn speeds b) (viewOf (decode b)) x
 lone-is speeds b count x same =
     ap not
     (ap (λ (n : ℕ). otherIn b n x) (same ∙ sym (timing-count b))
@@ -134,7 +135,7 @@ module _ {speeds b l : List ℕ} {count best i : ℕ} {rest : Rest} {next allowe
   pub read-rest : rest ≡ restOf (decode b) i
   read-rest = told-rest (k .told) (k .rest-in)
 
-  pub read-allowed : allowed ≡ allowance (timingIn speeds b) (decode b) i
+  pub read-allowed : allowed ≡ allowance (timingIn speeds b) (viewOf (decode b)) i
   read-allowed =
       let τ : Timing = timingIn speeds b in
       let s : State = decode b in
@@ -142,7 +143,7 @@ module _ {speeds b l : List ℕ} {count best i : ℕ} {rest : Rest} {next allowe
       ∙ ap₂ (λ (t : Bool) (x : ℕ). withGap t x next)
       (ap (λ (x : ℕ). not (otherIn b count x)) (sym (k .told .task)) ∙ lone-is speeds b count i (k .told .looked .same))
       (told-allowed (k .told))
-      ∙ ap (withGap (isLone τ s i) (plainAllowance τ s i)) (k .arrival)
+      ∙ ap (withGap (isLone τ (viewOf s) i) (plainAllowance τ (viewOf s) i)) (k .arrival)
 
 -- the ticks to the next arrival are at most a period
 pub next-short :

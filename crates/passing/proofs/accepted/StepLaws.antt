@@ -20,12 +20,14 @@ use Rattle.schedule.specs.PlainSchedule.{Timing}
 use Rattle.reclaiming.specs.declared.Entry.{Entry}
 use Rattle.orders.specs.declared.Choice.{Choice}
 use Rattle.reclaiming.specs.declared.Reply.{Reply}
-use Rattle.reclaiming.specs.StateBlock.{State, noEntry, remainingOf, restOf, planIn, timing, encode, decode, stateCount, places}
-use Rattle.reclaiming.specs.Orders.{nextArrival, runningTime, holdOf, chooseOrder, orderWith}
-use Rattle.arith.specs.Ranges.{someTo}
-use Rattle.reclaiming.specs.Passes.{arrivesAt, movedState, choosesAnew, passedState}
-use Rattle.reclaiming.specs.Questions.{largestClock, soundAt, stateSound, passQuestions}
+use Rattle.reclaiming.specs.Allotments.{timing}
+use Rattle.reclaiming.specs.Orders.{nextArrival, runningTime, holdOf, orderWith}
+use Rattle.reclaiming.specs.Passes.{arrivesAt, choosesAnew, largestClock, passQuestions}
+use Rattle.reclaiming.specs.StateBlock.{State, noEntry, remainingOf, restOf, planIn, encode, decode, stateCount, places}
+use Rattle.reclaiming.specs.States.{chosenState, movedState, passedState, viewOf}
+use Rattle.reclaiming.specs.Questions.{soundAt, stateSound}
 use Rattle.reclaiming.specs.Calls.{passOrder}
+use Rattle.arith.specs.Ranges.{someTo}
 use Rattle.state.specs.Code.{Holds, entryIn, timingIn}
 use Rattle.urgency.specs.Code.{keyOf, noKey, dueAt, Keyed}
 use Rattle.orders.specs.Code.{choiceOf, chosenIn, chosenReply, holdBy, orderOf, Enough}
@@ -75,10 +77,10 @@ module _ {speeds bytes : List ℕ} {next d : ℕ} (k : Reaching speeds bytes nex
       ]
 
   -- so an order is chosen anew if the job finished, or there
-  pub anew-finished : {finished : Bool} → finished ≡ true → true ≡ choosesAnew (timingIn speeds bytes) s d finished
+  pub anew-finished : {finished : Bool} → finished ≡ true → true ≡ choosesAnew (timingIn speeds bytes) (viewOf s) d finished
   anew-finished f = sym (ap (λ (b : Bool). pick b true arrives) f)
 
-  pub anew-arrives : {finished : Bool} → finished ≡ false → eqb d next ≡ choosesAnew (timingIn speeds bytes) s d finished
+  pub anew-arrives : {finished : Bool} → finished ≡ false → eqb d next ≡ choosesAnew (timingIn speeds bytes) (viewOf s) d finished
   anew-arrives f = arrives-then ∙ sym (ap (λ (b : Bool). pick b true arrives) f)
 
 -- a pass from a sound state that the questions let through
@@ -87,7 +89,7 @@ pub record Letting (speeds : List ℕ) (s : State) (d : ℕ) (finished : Bool) :
   pub few : length speeds ≤ 256
   pub stored : StorableTable (s .speeds)
   pub ok : stateSound speeds s ≡ true
-  pub clear : firstNo (passQuestions speeds s d finished) ≡ 0
+  pub clear : firstNo (passQuestions speeds (timing speeds (planIn s)) (viewOf s) d finished) ≡ 0
 
 module _ {speeds : List ℕ} {s : State} {d : ℕ} {finished : Bool} (k : Letting speeds s d finished) where
   abbrev τ : Timing
@@ -126,7 +128,7 @@ module _ {speeds : List ℕ} {s : State} {d : ℕ} {finished : Bool} (k : Lettin
       }
 
   -- where an order is chosen anew, every job can be done in its ticks at the nominal level
-  moved-enough : choosesAnew τ s d finished ≡ true → {highest : ℕ} → highest ≡ nominal speeds (planIn s) → Enough speeds moved highest
+  moved-enough : choosesAnew τ (viewOf s) d finished ≡ true → {highest : ℕ} → highest ≡ nominal speeds (planIn s) → Enough speeds moved highest
   moved-enough anew e = record {
     level = omega (arith, nominal-small speeds (k .rising) s (k .ok));
     each = λ i h.
@@ -138,8 +140,8 @@ module _ {speeds : List ℕ} {s : State} {d : ℕ} {finished : Bool} (k : Lettin
   -- the order where it stays, and where it is chosen anew
   abbrev ordered : Bool → Reply
   ordered b =
-      orderWith (pick b (chooseOrder speeds τ moved) moved)
-      (pick b (holdOf speeds τ (pick b (chooseOrder speeds τ moved) moved)) (holdOf speeds τ s - d))
+      orderWith (viewOf (pick b (chosenState speeds τ moved) moved))
+      (pick b (holdOf speeds τ (viewOf (pick b (chosenState speeds τ moved) moved))) (holdOf speeds τ (viewOf s) - d))
 
   -- a pass leaves as many entries
   pub passed-few : length (passedState speeds τ s d finished .entries) ≤ places
@@ -154,7 +156,7 @@ pub record Passing (speeds bytes keys : List ℕ) (highest next d : ℕ) (finish
   pub good : Good speeds bytes keys highest
   pub order : c ≡ choiceOf speeds (decode bytes)
   pub arrival : next ≡ nextArrival (timingIn speeds bytes) (decode bytes .clock)
-  pub clear : firstNo (passQuestions speeds (decode bytes) d finished) ≡ 0
+  pub clear : firstNo (passQuestions speeds (timing speeds (planIn (decode bytes))) (viewOf (decode bytes)) d finished) ≡ 0
 
 module _ {speeds bytes keys : List ℕ} {highest next d : ℕ} {finished : Bool} {c : Choice} (k : Passing speeds bytes keys highest next d finished c) where
   pub letting : Letting speeds (decode bytes) d finished
@@ -177,20 +179,20 @@ module _ {speeds bytes keys : List ℕ} {highest next d : ℕ} {finished : Bool}
     arrival = k .arrival;
   }
 
-  hold-now : holdBy c next ≡ holdOf speeds (timingIn speeds bytes) (decode bytes)
+  hold-now : holdBy c next ≡ holdOf speeds (timingIn speeds bytes) (viewOf (decode bytes))
   hold-now = ap (λ (x : Choice). holdBy x next) (k .order) ∙ hold-is speeds (timingIn speeds bytes) (decode bytes) next (k .arrival)
 
   -- the hold that stands is at least the ticks of the pass
   pub hold-enough : (hold : ℕ) → hold ≡ holdBy c next → d ≤ hold
   hold-enough hold h =
       let s : State = decode bytes in
-      let at : hold ≡ holdOf speeds (timingIn speeds bytes) s = h ∙ hold-now in
+      let at : hold ≡ holdOf speeds (timingIn speeds bytes) (viewOf s) = h ∙ hold-now in
       elim (ℕ-discrete (s .task) 255) [
         | yes e ↦
-            let z : holdOf speeds (timingIn speeds bytes) s ≡ nextArrival (timingIn speeds bytes) (s .clock) = simp (eq-eqb (s .task) 255 e) in
+            let z : holdOf speeds (timingIn speeds bytes) (viewOf s) ≡ nextArrival (timingIn speeds bytes) (s .clock) = simp (eq-eqb (s .task) 255 e) in
             omega (arith, lets letting .within)
         | no e ↦
-            let z : holdOf speeds (timingIn speeds bytes) s ≡ min (runningTime speeds s) (nextArrival (timingIn speeds bytes) (s .clock)) =
+            let z : holdOf speeds (timingIn speeds bytes) (viewOf s) ≡ min (runningTime speeds (viewOf s)) (nextArrival (timingIn speeds bytes) (s .clock)) =
             simp (ne-eqb (s .task) 255 e) in
             omega (arith, lets letting .within, lets letting .time (ap not (ne-eqb (s .task) 255 e)))
       ]
@@ -244,7 +246,7 @@ module _ {speeds bytes keys : List ℕ} {highest next d : ℕ} {finished : Bool}
   pub after-again : encode (decode m) ≡ m
   after-again = ap encode back ∙ sym (k .moved)
 
-  pub after-enough : choosesAnew T start d finished ≡ true → Enough speeds (decode m) highest
+  pub after-enough : choosesAnew T (viewOf start) d finished ≡ true → Enough speeds (decode m) highest
   after-enough anew = subst (λ (x : State). Enough speeds x highest) (sym back) (moved-enough allowed anew (k .passing .good .nominal))
 
   -- keys at its clock are keys of its block
@@ -291,9 +293,9 @@ module _ {speeds bytes keys : List ℕ} {highest next d : ℕ} {finished : Bool}
         ∙ ap₂ nextArrival (sym same-timing) (sym clock-then)
 
   -- an order stays, or is chosen
-  module _ (stays : choosesAnew T start d finished ≡ false) where
+  module _ (stays : choosesAnew T (viewOf start) d finished ≡ false) where
     pub kept-bytes : m ≡ encode (passedState speeds T start d finished)
-    kept-bytes = k .moved ∙ ap (λ (b : Bool). encode (pick b (chooseOrder speeds T then) then)) (sym stays)
+    kept-bytes = k .moved ∙ ap (λ (b : Bool). encode (pick b (chosenState speeds T then) then)) (sym stays)
 
     pub kept-reply : (hold : ℕ) → hold ≡ holdBy c next → (r : Reply) → r ≡ orderOf c (hold - d) → r ≡ passOrder speeds start d finished
     kept-reply hold e r q =
@@ -301,12 +303,12 @@ module _ {speeds bytes keys : List ℕ} {highest next d : ℕ} {finished : Bool}
         ∙ ap₂ (λ (x : Choice) (y : ℕ). orderOf x (y - d)) (k .passing .order) (e ∙ hold-now (k .passing))
         ∙ ap (ordered allowed) (sym stays)
 
-  module _ (anew : choosesAnew T start d finished ≡ true) where
+  module _ (anew : choosesAnew T (viewOf start) d finished ≡ true) where
     pub chosen-bytes : (l : List ℕ) → l ≡ encode (chosenIn speeds m) → l ≡ encode (passedState speeds T start d finished)
     chosen-bytes l h =
         h
-        ∙ ap₂ (λ (x : Timing) (y : State). encode (chooseOrder speeds x y)) same-timing back
-        ∙ ap (λ (b : Bool). encode (pick b (chooseOrder speeds T then) then)) (sym anew)
+        ∙ ap₂ (λ (x : Timing) (y : State). encode (chosenState speeds x y)) same-timing back
+        ∙ ap (λ (b : Bool). encode (pick b (chosenState speeds T then) then)) (sym anew)
 
     pub chosen-reply :
         (r : Reply) →
@@ -314,5 +316,5 @@ module _ {speeds bytes keys : List ℕ} {highest next d : ℕ} {finished : Bool}
         r ≡ passOrder speeds start d finished
     chosen-reply r h =
         h
-        ∙ ap₂ (λ (x : Timing) (y : State). orderWith (chooseOrder speeds x y) (holdOf speeds x (chooseOrder speeds x y))) same-timing back
+        ∙ ap₂ (λ (x : Timing) (y : State). orderWith (viewOf (chosenState speeds x y)) (holdOf speeds x (viewOf (chosenState speeds x y)))) same-timing back
         ∙ ap (ordered allowed) (sym anew)

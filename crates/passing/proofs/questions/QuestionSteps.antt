@@ -11,9 +11,11 @@ use Rattle.arith.specs.Choice.{pick}
 use Rattle.arith.specs.Asking.{Question, ask, firstNo}
 use Rattle.arith.proofs.Tests.{passed, failed, tested}
 use Rattle.arith.proofs.QuestionLaws.{ask-no, ask-yes, no-before, yes-before}
-use Rattle.reclaiming.specs.StateBlock.{State, planIn, timing}
+use Rattle.reclaiming.specs.Allotments.{timing}
 use Rattle.reclaiming.specs.Orders.{nextArrival, runningTime}
-use Rattle.reclaiming.specs.Questions.{largestClock, passQuestions}
+use Rattle.reclaiming.specs.Passes.{largestClock, passQuestions}
+use Rattle.reclaiming.specs.StateBlock.{State, planIn}
+use Rattle.reclaiming.specs.States.{viewOf}
 use Rattle.orders.specs.declared.Choice.{Choice}
 use Rattle.orders.specs.Code.{choiceOf}
 use Rattle.passing.specs.Questions.{finishQuestions, timeQuestions}
@@ -105,10 +107,10 @@ pub asked-is :
     (speeds : List ℕ) (s : State) (clock next d : ℕ) (finished : Bool) →
     clock ≡ s .clock →
     next ≡ nextArrival (timing speeds (planIn s)) (s .clock) →
-    firstNo (timeQuestions clock (choiceOf speeds s) next d finished) ≡ firstNo (passQuestions speeds s d finished)
+    firstNo (timeQuestions clock (choiceOf speeds s) next d finished) ≡ firstNo (passQuestions speeds (timing speeds (planIn s)) (viewOf s) d finished)
 asked-is speeds s clock next d finished t n =
     ap₂ (λ (x y : ℕ). firstNo (timeQuestions x (choiceOf speeds s) y d finished)) t n
-    ∙ elim (tested (eqb (s .task) 255)) as (λ b _. asked b (pick b 0 (runningTime speeds s)) ≡ asked b (runningTime speeds s))
+    ∙ elim (tested (eqb (s .task) 255)) as (λ b _. asked b (pick b 0 (runningTime speeds (viewOf s))) ≡ asked b (runningTime speeds (viewOf s)))
     [ passed ↦ refl | failed ↦ refl ]
   where
     asked : Bool → ℕ → ℕ

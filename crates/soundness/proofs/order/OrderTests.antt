@@ -12,8 +12,9 @@ use Rattle.arith.specs.Choice.{both}
 use Rattle.plan.specs.declared.Rest.{Rest}
 use Rattle.plan.specs.Times.{timeOf}
 use Rattle.plan.specs.Levels.{speedOf}
-use Rattle.reclaiming.specs.StateBlock.{decode}
 use Rattle.reclaiming.specs.Orders.{allowance, runningTime}
+use Rattle.reclaiming.specs.StateBlock.{decode}
+use Rattle.reclaiming.specs.States.{viewOf}
 use Rattle.reclaiming.specs.Questions.{orderSound}
 use Rattle.state.specs.Code.{timingIn}
 use Rattle.urgency.specs.Code.{noKey}
@@ -26,7 +27,7 @@ use Rattle.orders.proofs.lone.LoneLaws.{Read, read-rest, read-allowed}
 -- no job is open
 module _ {speeds b l : List ℕ} {count best : ℕ} (k : Looked speeds b l count best) (highest : ℕ) (none : best ≡ noKey) where
   idle-sound : orderIn speeds b highest ≡ both (eqb (decode b .task) 255) (eqb (decode b .level) 0)
-  idle-sound = ap (orderSound speeds (timingIn speeds b) highest (decode b)) (none-open k none)
+  idle-sound = ap (orderSound speeds (timingIn speeds b) highest (viewOf (decode b))) (none-open k none)
 
   pub not-idle : (decode b .task ≡ 255 → ⊥) → false ≡ orderIn speeds b highest
   not-idle n = sym (idle-sound ∙ ap (λ (t : Bool). both t (eqb (decode b .level) 0)) (ne-eqb (decode b .task) 255 n))
@@ -36,13 +37,13 @@ module _ {speeds b l : List ℕ} {count best : ℕ} (k : Looked speeds b l count
 
 -- the level that the order names meets the allowance
 abbrev meetsIn : List ℕ → List ℕ → Bool
-meetsIn speeds b = leb (runningTime speeds (decode b)) (allowance (timingIn speeds b) (decode b) (decode b .task))
+meetsIn speeds b = leb (runningTime speeds (viewOf (decode b))) (allowance (timingIn speeds b) (viewOf (decode b)) (decode b .task))
 
 -- task i's job is the most urgent open one
 module _ {speeds b l : List ℕ} {count best i : ℕ} (k : Told speeds b l count best i) (highest : ℕ) where
   run-sound : orderIn speeds b highest ≡ both (eqb (decode b .task) i) (both (leb (decode b .level) highest) (meetsIn speeds b))
   run-sound =
-      ap (orderSound speeds (timingIn speeds b) highest (decode b)) (first-open k .queue)
+      ap (orderSound speeds (timingIn speeds b) highest (viewOf (decode b))) (first-open k .queue)
       ∙ ap (λ (n : ℕ). both (eqb (decode b .task) n) (both (leb (decode b .level) highest) (meetsIn speeds b))) (first-open k .task)
 
   pub other-task : (decode b .task ≡ i → ⊥) → false ≡ orderIn speeds b highest

@@ -6,8 +6,8 @@ use borrow.Author.Needs.{needs}
 use borrow.Author.Tests.{not-true, not-false, leb-true}
 use mathlib.Core.List.{List}
 use Rattle.levels.specs.Code.{loaded}
+use Rattle.reclaiming.specs.Passes.{largestClock}
 use Rattle.reclaiming.specs.StateBlock.{decode}
-use Rattle.reclaiming.specs.Questions.{largestClock}
 use Rattle.soundness.proofs.SoundLaws.{Judged, plan-few, clock-refused, clock-accepted, plan-refused, plan-admitted}
 use Rattle.soundness.proofs.test_state.Statement.{statement}
 use Rattle.soundness.proofs.test_state.Tie as tie

@@ -17,9 +17,10 @@ use Rattle.plan.specs.Blocks.{noTask, tasksOf}
 use Rattle.plan.proofs.TimeLaws.{task-short}
 use Rattle.plan.proofs.Held.{Ranged, count-is, task-at}
 use Rattle.reclaiming.specs.declared.Entry.{Entry}
-use Rattle.reclaiming.specs.StateBlock.{headFields, tailFields, endFields, tailAt, entryLength, State, noEntry, entryWith, entryBytes, timingAt, taskField, countField, stateLength, encode, places}
+use Rattle.reclaiming.specs.Allotments.{timingAt}
 use Rattle.reclaiming.specs.Fields.{fieldsBytes, fieldsLength}
-use Rattle.reclaiming.specs.Passes.{newEntry}
+use Rattle.reclaiming.specs.StateBlock.{headFields, tailFields, endFields, tailAt, entryLength, State, noEntry, entryWith, entryBytes, taskField, countField, stateLength, encode, places}
+use Rattle.reclaiming.specs.States.{newEntry}
 use Rattle.state.specs.Code.{entryAt, headStored, withTotal, totalStored}
 use Rattle.state.specs.Tables.{tableBytes}
 use Rattle.starting.specs.Image.{newState}

@@ -23,9 +23,10 @@ use Rattle.plan.specs.LevelBlocks.{risesFrom, tableGood}
 use Rattle.plan.proofs.LevelBlockLaws.{FineTable, fine-table}
 use Rattle.levels.specs.Code.{loaded, Table}
 use Rattle.levels.proofs.Tables.{levels-are, speed-is, rises-table}
+use Rattle.reclaiming.specs.Passes.{inTime}
 use Rattle.reclaiming.specs.Fields.{Field, width, valueIn, fieldsBytes, fieldAt, offsetOf}
 use Rattle.reclaiming.specs.StateBlock.{State, levelPlaces, speedRow, tailFields, speedField, tailAt, stateLength, levelCount, speedIn, decode, laidOut}
-use Rattle.reclaiming.specs.Questions.{inTime, stateSound, soundAt, sound}
+use Rattle.reclaiming.specs.Questions.{stateSound, soundAt, sound}
 use Rattle.reclaiming.proofs.FieldLaws.{store-next}
 use Rattle.reclaiming.proofs.StateCodec.{StorableTable, speed-row, laid-length}
 use Rattle.reclaiming.proofs.Soundness.{fine-stored}

@@ -16,7 +16,7 @@ use Rattle.levels.specs.Code.{loaded, Table}
 use Rattle.levels.proofs.Tables.{speed-is}
 use Rattle.orders.specs.declared.Choice.{Choice}
 use Rattle.reclaiming.specs.StateBlock.{State, remainingOf, restIn, restOf, encode, stateLength, places}
-use Rattle.reclaiming.specs.Passes.{workedOf}
+use Rattle.reclaiming.specs.States.{workedOf}
 use Rattle.state.specs.Code.{entryIn, changed, withJobs, restStored, FitRest}
 use Rattle.state.proofs.BlockLaws.{changed-there, changed-else, encode-rest, jobs-same, jobs-eq, store-rest}
 

@@ -1,7 +1,7 @@
 -- `is_order` meets its contract, by what the reply is.
 -- Assumes nothing.
 use mathlib.Core.Path.{sym, ap}
-use Rattle.reclaiming.specs.Calls.{isOrder}
+use Rattle.reclaiming.specs.Replies.{isOrder}
 use borrow.Author.Needs.{needs}
 use Rattle.dispatcher.proofs.play.is_order.Statement.{statement}
 use Rattle.dispatcher.proofs.play.is_order.Tie as tie

@@ -7,8 +7,8 @@ use borrow.Author.Needs.{needs}
 use borrow.Author.Tests.{not-true, not-false}
 use lib.ListN.{length}
 use lib.Seq.{length-take-le}
+use Rattle.reclaiming.specs.Passes.{Pass}
 use Rattle.reclaiming.specs.StateBlock.{stateLength}
-use Rattle.reclaiming.specs.Run.{Pass}
 use Rattle.reclaiming.specs.Play.{playedPasses}
 use Rattle.reclaiming.proofs.NumberLaws.{start-most}
 use Rattle.reclaiming.proofs.PlayLaws.{Begun, play-room, play-refused, play-accepted}

@@ -7,7 +7,7 @@ use Rattle.plan.specs.declared.Task.{Task}
 use Rattle.plan.specs.LevelBlocks.{speedsIn}
 use Rattle.plan.specs.Blocks.{tasksIn}
 use Rattle.reclaiming.specs.declared.Reply.{Reply}
-use Rattle.reclaiming.specs.Run.{openedBook}
+use Rattle.reclaiming.specs.Books.{openedBook}
 use Rattle.text.proofs.Puts.{_then_, as-text}
 use Rattle.listing.proofs.run_lines.Beginning.{opened-clock, started-is}
 use borrow.Author.Needs.{needs}

@@ -10,8 +10,9 @@ use borrow.Author.Tests.{not-true, not-false}
 use Rattle.levels.specs.Code.{loaded}
 use Rattle.plan.proofs.LevelBlockLaws.{few-levels}
 use Rattle.state.proofs.tables.TableLaws.{owned-fine, owned-stored}
-use Rattle.reclaiming.specs.StateBlock.{decode}
 use Rattle.reclaiming.specs.Passes.{choosesAnew}
+use Rattle.reclaiming.specs.StateBlock.{decode}
+use Rattle.reclaiming.specs.States.{viewOf}
 use Rattle.state.specs.Code.{timingIn}
 use Rattle.passing.proofs.accepted.StepLaws.{Passing, After, reaching, stepping, hold-enough, after-holds, after-some, after-clock, after-below, after-again, after-enough}
 use Rattle.passing.proofs.accepted.StepLaws.{after-keyed, after-kept, after-next, kept-bytes, kept-reply, chosen-bytes, chosen-reply}
@@ -54,13 +55,13 @@ moved c = record { passing = passing (start c); moved = c .before .before .move-
 stays :
     (c : tie.Then1) →
     let s : tie.Start = start (c .before) in
-    choosesAnew (timingIn (table s) (block s)) (decode (block s)) (s .args .d) (s .args .finished) ≡ false
+    choosesAnew (timingIn (table s) (block s)) (viewOf (decode (block s))) (s .args .d) (s .args .finished) ≡ false
 stays c = sym (asked (c .before) .chooses-anew .ensures) ∙ not-true _ (c .if1 .taken)
 
 anew :
     (c : tie.Else1) →
     let s : tie.Start = start (c .before) in
-    choosesAnew (timingIn (table s) (block s)) (decode (block s)) (s .args .d) (s .args .finished) ≡ true
+    choosesAnew (timingIn (table s) (block s)) (viewOf (decode (block s))) (s .args .d) (s .args .finished) ≡ true
 anew c = sym (asked (c .before) .chooses-anew .ensures) ∙ not-false _ (c .if1 .left)
 
 chooses-anew-requires : tie.Need-chooses-anew-requires

@@ -7,7 +7,7 @@ use native.Mathlib.Decide.{decLe}
 use lib.Dec.{leb}
 use borrow.Author.Tests.{le-leb, lt-leb}
 use borrow.Author.Needs.{needs}
-use Rattle.reclaiming.specs.Questions.{largestClock}
+use Rattle.reclaiming.specs.Passes.{largestClock}
 use Rattle.state.proofs.clock.Clock.has_room.Statement.{statement}
 use Rattle.state.proofs.clock.Clock.has_room.Tie as tie
 
