@@ -11,9 +11,11 @@ use Rattle.plan.specs.LevelBlocks.{levelBlock, speedsIn}
 use Rattle.plan.specs.Blocks.{planBlock, tasksIn}
 use Rattle.plan.specs.Pairs.{Pair, pairsIn, pairedAnswer, askPairs}
 use Rattle.schedule.specs.PlainSchedule.{moreUrgent}
-use Rattle.reclaiming.specs.StateBlock.{timing, stateLength}
-use Rattle.reclaiming.specs.Calls.{replyAnswer, startReply, startBuffer}
-use Rattle.reclaiming.specs.Run.{Pass}
+use Rattle.reclaiming.specs.Allotments.{timing}
+use Rattle.reclaiming.specs.Replies.{replyAnswer}
+use Rattle.reclaiming.specs.Passes.{Pass}
+use Rattle.reclaiming.specs.StateBlock.{stateLength}
+use Rattle.reclaiming.specs.Calls.{startReply, startBuffer}
 use Rattle.reclaiming.specs.Promises.{Started, EarlierClosed, actualBook}
 use Rattle.worked_cases.specs.Cases.{Case, task, case, told, baseLevels}
 use Rattle.worked_cases.specs.FixedCases.{inEdition2}
@@ -86,9 +88,10 @@ starts =
     ∷ case (startBuffer baseLevels kneePlan (angleBeforeValve 16) (replicate stateLength 255)) (startBuffer baseLevels kneePlan [] (replicate stateLength 255))
     ∷ case (startsWith baseLevels kneePlan badList stateLength) (22 ∷ [])
     ∷ case (startBuffer baseLevels kneePlan badList (replicate stateLength 255)) (replicate stateLength 255)
-    -- before 9
-    ∷ case (startsWith baseLevels kneePlan badList 216) (22 ∷ [])
-    ∷ case (startsWith baseLevels kneePlan (angleBeforeValve 1) 216) (9 ∷ [])
+    -- before 9: a byte too few for the state, and as many as it has
+    ∷ case (startsWith baseLevels kneePlan badList 220) (22 ∷ [])
+    ∷ case (startsWith baseLevels kneePlan (angleBeforeValve 1) 220) (9 ∷ [])
+    ∷ case (startsWith baseLevels kneePlan (angleBeforeValve 1) 221) (0 ∷ 1 ∷ 3 ∷ 3 ∷ [])
     -- "put after 8", and so after all before it
     ∷ case (overLevels []) (18 ∷ [])
     ∷ case (overLevels (16 ∷ 10 ∷ 1 ∷ [])) (19 ∷ [])

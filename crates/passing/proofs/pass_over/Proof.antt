@@ -12,9 +12,11 @@ use Rattle.levels.proofs.Tables.{levels-are}
 use Rattle.plan.proofs.LevelBlockLaws.{few-levels}
 use Rattle.state.proofs.tables.TableLaws.{owned-fine, owned-stored}
 use Rattle.arith.specs.Asking.{firstNo}
-use Rattle.reclaiming.specs.StateBlock.{decode}
+use Rattle.reclaiming.specs.Allotments.{timing}
 use Rattle.reclaiming.specs.Orders.{nextArrival}
-use Rattle.reclaiming.specs.Questions.{passQuestions}
+use Rattle.reclaiming.specs.Passes.{passQuestions}
+use Rattle.reclaiming.specs.StateBlock.{decode, planIn}
+use Rattle.reclaiming.specs.States.{viewOf}
 use Rattle.state.specs.Code.{timingIn}
 use Rattle.orders.specs.declared.Choice.{Choice}
 use Rattle.soundness.specs.declared.Tested.{Tested}
@@ -89,7 +91,7 @@ clocked c = c .new .ensures ∙ c .before .clock-at .ensures
 number :
     (c : tie.After-pass-number) →
     let e : tie.Else1 = tested c in
-    c .pass-number .result ≡ firstNo (passQuestions (speeds e) (decode (bytes e)) (start c .args .d) (start c .args .finished))
+    c .pass-number .result ≡ firstNo (passQuestions (speeds e) (timing (speeds e) (planIn (decode (bytes e)))) (viewOf (decode (bytes e))) (start c .args .d) (start c .args .finished))
 number c =
     let e : tie.Else1 = tested c in
     let s : tie.Start = start c in
@@ -151,17 +153,20 @@ pass-number-requires c κs =
     let e : tie.Else1 = sound (c .before .before .before) in
     omega (arith, clocked c, sound-clock (speeds e) (bytes e) (good e .sound))
 
-same-length-2 : tie.Need-same-length-2
-same-length-2 c = search needs
-
+-- before that of its length, so that a refused pass which changes a byte is refused here
 returns-2 : tie.Need-returns-2
 returns-2 c =
-    let s : tie.Start = start (c .before) in
-    let e : tie.Else1 = tested (c .before) in
+    let n : tie.After-pass-number = search in
+    let no : tie.Then2 = search in
+    let s : tie.Start = start n in
+    let e : tie.Else1 = tested n in
     answers s
-    (refused (speeds e) (s .args .state .now) (s .args .d) (s .args .finished) (c .before .pass-number .result)
-    (number-is (speeds e) (s .args .state .now) (s .args .d) (s .args .finished) (good e .sound) (c .before .pass-number .result) (number (c .before)))
-    (c .if2 .taken))
+    (refused (speeds e) (s .args .state .now) (s .args .d) (s .args .finished) (n .pass-number .result)
+    (number-is (speeds e) (s .args .state .now) (s .args .d) (s .args .finished) (good e .sound) (n .pass-number .result) (number n))
+    (no .if2 .taken))
+
+same-length-2 : tie.Need-same-length-2
+same-length-2 c = search needs
 
 passed-requires : tie.Need-passed-requires
 passed-requires c κs =

@@ -63,10 +63,11 @@ test-block-requires c κs = (c .before .before .pre .table, c .before .before .p
 
 returns : tie.Need-returns
 returns c =
-    let t : tie.After-test-block = c .before .before in
+    let t : tie.After-test-block = search in
+    let no : tie.Then1 = search in
     answers t
     (show-unsound (table t) (start t .args .state .now) (start t .args .buffer .now) (t .test-block .result) (t .test-block .ensures)
-    (not-true (t .test-block .result .sound) (c .if1 .taken)))
+    (not-true (t .test-block .result .sound) (no .if1 .taken)))
 
 count-at-requires : tie.Need-count-at-requires
 count-at-requires c κs = good (c .before .before) .holds
@@ -81,23 +82,24 @@ mul-wanted c = omega (arith, listed-few (showing (c .before) .listed))
 
 returns-2 : tie.Need-returns-2
 returns-2 c =
-    let r : tie.After-ready = c .before .before in
-    answers (tested (sound r)) (show-short (showing r) (buffer r) (omega arith))
+    let r : tie.After-ready = search in
+    let short : tie.Then2 = search in
+    answers (tested (sound r)) (show-short (showing r) (buffer r) (omega (arith, short .if2 .taken)))
 
 put-queue-requires : tie.Need-put-queue-requires
 put-queue-requires c κs =
     let r : tie.After-ready = c .before .before .before in
     ((good (sound r) .holds .size, listed-few (showing r .listed), c .before .if2 .left), listed-below (showing r .listed))
 
-same-length : tie.Need-same-length
-same-length c = search needs
-
 returns-3 : tie.Need-returns-3
 returns-3 c =
-    let p : tie.After-put-queue = c .before .before in
-    let e : tie.Else2 = p .before .before in
-    let r : tie.After-ready = e .before .before in
+    let p : tie.After-put-queue = search in
+    let e : tie.Else2 = search in
+    let r : tie.After-ready = search in
     answers (tested (sound r)) (show-stored (showing r) (buffer r) (e .if2 .left) (p .put-queue .ensures))
+
+same-length : tie.Need-same-length
+same-length c = search needs
 
 pub show-over-spec : {M : Type 1} → statement M
 show-over-spec =

@@ -47,8 +47,9 @@ new c =
 
 returns : tie.Need-returns
 returns c =
-    let s : tie.Start = c .before .before in
-    left-short (table s) (tasksOf (s .args .p)) (s .args .state .now) (c .if1 .taken)
+    let s : tie.Start = search in
+    let short : tie.Then1 = search in
+    left-short (table s) (tasksOf (s .args .p)) (s .args .state .now) (short .if1 .taken)
 
 mul-speed : tie.Need-mul-speed
 mul-speed c = omega (arith, below (c .before .before), c .before .before .pre .0 .0 .few)

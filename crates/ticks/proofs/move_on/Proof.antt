@@ -30,7 +30,7 @@ abbrev taken : tie.After-work-off → tie.After-drain
 taken c = c .before .before .before .before
 
 abbrev sped : tie.After-work-off → tie.After-speed
-sped c = taken c .before .before .before .before .before
+sped c = search
 
 abbrev worked : tie.After-put-number → tie.After-work-off
 worked c = c .before .before .before .before
@@ -101,12 +101,14 @@ left-of-requires c κs = search needs
 
 drain-requires : tie.Need-drain-requires
 drain-requires c κs =
-    let k = moving (counted (c .before .before .before .before)) in
+    let p : tie.After-speed = search in
+    let k = moving (counted p) in
     ((moving-few k, k .step .good .holds .size), moving-keys k)
 
 work-off-requires : tie.Need-work-off-requires
 work-off-requires c κs =
-    let k = moving (counted (c .before .before .before .before .before .before .before .before)) in
+    let p : tie.After-speed = search in
+    let k = moving (counted p) in
     ((k .table, search needs, moving-short k), order-form k)
 
 put-number-requires : tie.Need-put-number-requires

@@ -30,7 +30,7 @@ element-copy-out-if1 c = omega arith
 
 add-sum : tie.Need-add-sum Inv-loop μ-loop
 add-sum c =
-    let read : tie.After-remaining-at Inv-loop μ-loop = c .before .before in
+    let read : tie.After-remaining-at Inv-loop μ-loop = search in
     omega (arith, read .remaining-at .ensures .1, read .before .before .loop .inv .small)
 
 add-j : tie.Need-add-j Inv-loop μ-loop
@@ -41,7 +41,7 @@ loop-less c = omega arith
 
 loop-again : tie.Need-loop-again Inv-loop μ-loop
 loop-again c =
-    let read : tie.After-remaining-at Inv-loop μ-loop = c .before .before in
+    let read : tie.After-remaining-at Inv-loop μ-loop = search in
     let turn : tie.In-loop Inv-loop μ-loop = read .before in
     ⊎-elim
     (λ w.

@@ -17,6 +17,14 @@ known c = record {
   small = c .chosen .ensures .1;
 }
 
+-- first, so that an order which is stored with something else is refused here
+returns : tie.Need-returns
+returns c =
+    let p : tie.After-put-order = search in
+    let n : tie.After-chosen = search in
+    let k = known n in
+    (choose-reply k (c .before .hold-of .ensures) (c .order-of .ensures), choose-stored k (p .put-order .ensures))
+
 count-at-requires : tie.Need-count-at-requires
 count-at-requires c κs = search needs
 
@@ -36,12 +44,6 @@ order-of-requires c κs = search needs
 
 same-length : tie.Need-same-length
 same-length c = search needs
-
-returns : tie.Need-returns
-returns c =
-    let p : tie.After-put-order = c .before .before .before .before in
-    let k = known (p .before .before) in
-    (choose-reply k (c .before .hold-of .ensures) (c .order-of .ensures), choose-stored k (p .put-order .ensures))
 
 pub choose-until-spec : {M : Type 1} → statement M
 choose-until-spec =
