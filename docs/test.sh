@@ -1,6 +1,6 @@
 #!/usr/bin/env bash
-# Holds the documents to the crates: the picture of the rooms, the README's table of them, and the wrong programs
-# that PROMISES names.
+# Holds the documents to the crates: the picture of the rooms, the README's table of them, and what PROMISES names;
+# and the definitions of the ideal dispatcher to reading no byte.
 # The very last line is 'N passed, M failed'.
 set -u -o pipefail
 cd "$(dirname "${BASH_SOURCE[0]}")/.." || exit 2
@@ -53,10 +53,49 @@ names_nothing_that_is_not_there() {
     names <docs/PROMISES.md | sort -u | comm -23 - "$work/there" | awk '{ print; bad = 1 } END { exit bad }'
 }
 
+# The definitions and theorems that they name: words in backquotes with a capital letter or a hyphen in them.
+name_no_definition_that_is_not_there() {
+    find crates -name '*.antt' -not -path '*/target/*' -exec cat {} + | grep -oE '[A-Za-z][A-Za-z0-9-]*' | sort -u >"$work/words"
+    grep -ohE '`[A-Za-z][A-Za-z0-9-]*([.][a-z-]+)?`' README.md docs/PROMISES.md docs/GLOSSARY.md | tr -d '`' | sed 's/[.].*//' |
+        grep '[A-Z-]' | sort -u | comm -23 - "$work/words" | awk '{ print; bad = 1 } END { exit bad }'
+}
+
+# The files of definitions that one rests on, itself among them, within a room.
+rests_on() {
+    awk -v room="$1" -v first="$2" '
+        function walk(name,    path, line, used, list, i) {
+            if (name in seen) return
+            seen[name]
+            print name
+            path = "crates/" room "/specs/" name ".antt"
+            while ((getline line <path) > 0)
+                if (match(line, "^use Rattle·" room "·specs[.]specs[.][A-Z][A-Za-z]*")) {
+                    used = substr(line, 1, RLENGTH)
+                    sub(/.*[.]/, "", used)
+                    list = list " " used
+                }
+            close(path)
+            while (match(list, /[A-Za-z]+/)) {
+                used = substr(list, RSTART, RLENGTH)
+                list = substr(list, RSTART + RLENGTH)
+                walk(used)
+            }
+        }
+        BEGIN { walk(first) }'
+}
+
+# The one that does rest on the block shows that the walk finds it.
+reads_no_byte() {
+    rests_on reclaiming Run | grep -qx StateBlock || return 1
+    ! rests_on reclaiming Ideal | grep -xE 'StateBlock|States|Fields|Calls|Run|Numbers|Play'
+}
+
 try 'crates.txt has each room below those that it uses' has_each_room_below_those_that_it_uses
 try 'the picture shows these rooms' shows_these_rooms
 try 'the README has a line for each room' has_a_line_for_each_room
 try 'PROMISES lists the wrong programs of each room' lists_the_wrong_programs_of_each_room
 try 'PROMISES names nothing that is not there' names_nothing_that_is_not_there
+try 'README, PROMISES and GLOSSARY name no definition that is not there' name_no_definition_that_is_not_there
+try 'the ideal dispatcher reads no byte' reads_no_byte
 
 tried
