@@ -2,10 +2,9 @@
 -- nothing.
 -- Assumes nothing.
 use Prim.Native.Nat.{ℕ, zero, suc, _+_, _-_, _%_, _≤_, _<_}
-use mathlib.Core.Path.{_≡_, refl, sym, subst, subst₂, _∙_}
+use mathlib.Core.Path.{_≡_, refl, sym, subst, subst₂}
 use mathlib.Core.Bool.{true, true≢false}
 use mathlib.Core.List.{List, [], _∷_}
-use native.Mathlib.Nat.{add-mod-right}
 use native.Mathlib.Decide.{decLe}
 use native.Mathlib.Omega.{arith}
 use borrow.Author.Tests.{leb-true}
@@ -21,6 +20,7 @@ use Rattle.plan.specs.Blocks.{tasksIn}
 use Rattle.plan.proofs.Facts.{FineList}
 use Rattle.schedule.specs.PlainSchedule.{Timing, Job, Book, deadline, opened}
 use Rattle.schedule.specs.Feasibility.{Fitting}
+use Rattle.schedule.proofs.Periods.{deadline-is-next}
 use Rattle.reclaiming.specs.declared.Reply.{Reply}
 use Rattle.reclaiming.specs.Allotments.{timing}
 use Rattle.reclaiming.specs.Orders.{nextArrival}
@@ -95,7 +95,7 @@ module _ (speeds : List ℕ) (ts : List Task) where
     by-deadline j o =
         reaches (j .task) (deadline τ j) (o .arrived .task)
         (elim (decLe (suc (a .clock)) (deadline τ j)) [ yes h ↦ h | no h ↦ absurd (o .unclosed (on-time .actual-closed j (o .arrived) (omega arith))) ])
-        (add-mod-right (j .arrival) (τ .period (j .task)) ∙ o .arrived .multiple)
+        (deadline-is-next τ (a .clock) j (fits .periods (j .task) (o .arrived .task)) (o .arrived) .due)
 
     jumps-nothing : JumpsNothing τ a (booked speeds ts a p r)
     jumps-nothing = record {
