@@ -14,7 +14,11 @@ use Rattle.arith.proofs.RangeLaws.{getD-listTo, listTo-is}
 use Rattle.arith.proofs.Tests.{both-left, both-right, both-true}
 use Rattle.reclaiming.specs.declared.Entry.{Entry}
 use Rattle.reclaiming.specs.Fields.{Field, zeros, width, valueIn, fieldsBytes, fieldsLength, fieldAt, widthOf, readField}
-use Rattle.reclaiming.specs.StateBlock.{State, noEntry, headFields, clockField, taskField, levelField, countField, tailFields, places, levelPlaces, speedRow, levelsField, speedField, endFields, totalField, tailAt, totalAt, tailBytes, levelCount, speedIn, totalIn, entryFields, periodField, worstField, workField, remainingField, fixedField, unspentField, headLength, entryLength, stateLength, entryBytes, entriesBytes, unusedBytes, encode, entryFrom, entriesFrom, stateCount, decode, sameBytes, laidOut}
+use Rattle.reclaiming.specs.StateBlock.{State, noEntry, headFields, clockField, taskField, levelField, countField, tailFields, places}
+use Rattle.reclaiming.specs.StateBlock.{levelPlaces, speedRow, levelsField, speedField, endFields, totalField, tailAt, totalAt, tailBytes}
+use Rattle.reclaiming.specs.StateBlock.{levelCount, speedIn, totalIn}
+use Rattle.reclaiming.specs.StateBlock.{entryFields, periodField, worstField, workField, remainingField, fixedField, unspentField, headLength, entryLength, stateLength}
+use Rattle.reclaiming.specs.StateBlock.{entryBytes, entriesBytes, unusedBytes, encode, entryFrom, entriesFrom, stateCount, decode, sameBytes, laidOut}
 use Rattle.reclaiming.proofs.FieldLaws.{length-fields, read-field}
 
 -- the lengths that 01 and 02 give

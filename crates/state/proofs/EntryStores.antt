@@ -12,7 +12,8 @@ use Rattle.arith.specs.Digits.{number, digits}
 use Rattle.arith.proofs.DigitLaws.{length-digits, number-digits, number-same}
 use Rattle.arith.proofs.Stores.{sets-else}
 use Rattle.reclaiming.specs.Fields.{widthOf, offsetOf, readField}
-use Rattle.reclaiming.specs.StateBlock.{entryFields, periodField, worstField, workField, remainingField, fixedField, unspentField, entryLength, stateLength, places}
+use Rattle.reclaiming.specs.StateBlock.{entryFields, periodField, worstField, workField, remainingField, fixedField, unspentField}
+use Rattle.reclaiming.specs.StateBlock.{entryLength, stateLength, places}
 use Rattle.state.specs.Code.{entryAt, entryIn, fieldPlace, entryStored}
 
 -- a number stored in field k of entry i

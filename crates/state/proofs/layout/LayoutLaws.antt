@@ -19,7 +19,8 @@ use Rattle.arith.specs.Digits.{number, digits}
 use Rattle.arith.proofs.Tests.{same-test, both-yes}
 use Rattle.arith.proofs.DigitLaws.{length-digits, number-digits, digits-number}
 use Rattle.reclaiming.specs.Fields.{Field, field, zeros, fieldsBytes, fieldsLength, offsetOf, readField}
-use Rattle.reclaiming.specs.StateBlock.{State, headFields, zeroField, entryFields, tailFields, endFields, places, headLength, entryLength, tailAt, stateLength, levelPlaces, speedField, speedIn, entryBytes, entriesBytes, tailBytes, encode, entryFrom, entriesFrom, stateCount, decode, sameBytes, laidOut}
+use Rattle.reclaiming.specs.StateBlock.{State, headFields, zeroField, entryFields, tailFields, endFields, places, headLength, entryLength, tailAt, stateLength}
+use Rattle.reclaiming.specs.StateBlock.{levelPlaces, speedField, speedIn, entryBytes, entriesBytes, tailBytes, encode, entryFrom, entriesFrom, stateCount, decode, sameBytes, laidOut}
 use Rattle.state.specs.Code.{entryAt, unusedZero}
 use Rattle.reclaiming.proofs.StateCodec.{pastHead, speed-back, length-entriesFrom, same-bytes, bytes-same}
 use Rattle.state.proofs.TailLaws.{levels-in, speed-small, speeds-same, same-unused}
