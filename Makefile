@@ -7,7 +7,7 @@
 # make install PREFIX=..   the header, the archive and the pkg-config file
 # make clean   removes all that was made
 
-ARCHIVES := target/staticlib/libplan_calls.a target/staticlib/libdispatcher_calls.a
+ARCHIVES := target/staticlib/libplan_calls.a target/staticlib/libdispatcher_calls.a target/staticlib/libknee.a
 # For the tests alone: the rounding-up division, which the calls have built in.
 ROUNDING := target/staticlib/libtime_needed.a
 CODE := crates.txt $(shell find crates -name '*.rt')

@@ -1,6 +1,6 @@
 #!/usr/bin/env bash
 # Holds the documents to the crates: the picture of the rooms, the README's table of them, and what PROMISES names;
-# and the definitions of the ideal dispatcher to reading no byte.
+# the definitions of the ideal dispatcher to reading no byte; and the knee to what it may know of the dispatcher.
 # The very last line is 'N passed, M failed'.
 set -u -o pipefail
 cd "$(dirname "${BASH_SOURCE[0]}")/.." || exit 2
@@ -90,6 +90,17 @@ reads_no_byte() {
     ! rests_on reclaiming Ideal | grep -xE 'StateBlock|States|Fields|Calls|Run|Numbers|Play'
 }
 
+# 02, No. 7: the knee knows of the dispatcher "only what its contracts say". It may use the definitions that they cite, and of
+# other rooms' proofs those of plain arithmetic alone. That such lines are seen at all, another room shows.
+knows_only_the_contracts() {
+    proofs_used_by dispatcher | grep -q . || return 1
+    ! proofs_used_by knee | grep .
+}
+
+proofs_used_by() { # ROOM
+    grep -rhoE --include='*.antt' '^use Rattle·[a-z_]+[.]proofs[.].*' "crates/$1" | grep -v '^use Rattle.arith[.]'
+}
+
 try 'crates.txt has each room below those that it uses' has_each_room_below_those_that_it_uses
 try 'the picture shows these rooms' shows_these_rooms
 try 'the README has a line for each room' has_a_line_for_each_room
@@ -97,5 +108,6 @@ try 'PROMISES lists the wrong programs of each room' lists_the_wrong_programs_of
 try 'PROMISES names nothing that is not there' names_nothing_that_is_not_there
 try 'README, PROMISES and GLOSSARY name no definition that is not there' name_no_definition_that_is_not_there
 try 'the ideal dispatcher reads no byte' reads_no_byte
+try 'the knee knows of the dispatcher only its contracts' knows_only_the_contracts
 
 tried

@@ -1,11 +1,13 @@
 /* A firmware's main loop over the dispatcher, with the hardware played by a few functions: a timer,
- * a processor with seven levels, and jobs that mostly end before their worst case.
+ * a processor with seven levels, jobs that mostly end before their worst case, a knee that swings, the
+ * sensor of its angle, and its valve.
  *
- * It packs the speeds of its board and a plan of three tasks (the angle, the valve, the gait), asks
+ * It packs the speeds of its board and a plan of three tasks (the valve, the angle, the gait), asks
  * whether "the angle before the valve" is a good pair for it, and starts the plan with that pair. Then
- * it does what the orders say through two hyperperiods, and prints a listing like the bench program's,
- * with the level block in front, the angle that each valve job reads in between, and the queue at the
- * end. */
+ * it does what the orders say through two hyperperiods. A valve job reads the angle that was written
+ * last, looks its damping up, and sets the valve. The listing is like the bench program's, with the
+ * level block in front, what each valve job does in between, and at the end the queue and how many ticks
+ * there were at most between the ends of two valve jobs. */
 
 #include "kilmstra.h"
 
@@ -14,20 +16,20 @@
 
 enum { LEVELS = 7, UNTIL = 60 };
 
-/* The tasks by their numbers. The angle and the valve have the same period, so their pair is good only
- * if the angle, which comes earlier, has the lower number. */
-enum { ANGLE, VALVE, GAIT, TASKS };
+/* The tasks by their numbers. Task 0 is the valve job, whose refresh is promised. It reads the angle, so
+ * its period is a multiple of the angle's: were the two equal, the angle would need the lower number. */
+enum { VALVE = KILMSTRA_VALVE_TASK, ANGLE, GAIT, TASKS };
 
 /* The units of work that the processor of this board does in a tick, level by level, as measured. */
 static const uint32_t speeds[LEVELS] = {13, 27, 41, 55, 69, 83, 111};
 
 /* The plan: what each task has, number by number. The angle's job begins with a conversion in the
- * sensor, which takes two ticks however fast the processor is. */
+ * sensor, which takes a tick however fast the processor is. */
 enum { PERIOD, WORST, FIXED, NUMBERS };
 
 static const uint32_t plan[NUMBERS * TASKS] = {
-    10, 200, 2, /* the angle */
-    10, 400, 0, /* the valve */
+    10, 300, 0, /* the valve */
+    5, 40, 1,   /* the angle */
     30, 600, 0, /* the gait */
 };
 
@@ -46,10 +48,17 @@ static uint32_t now;
 static uint32_t fixed[TASKS];
 static uint32_t work[TASKS];
 
-/* The tick at which each task's latest job arrived, and that of the angle job which wrote last: an
- * angle is known by the tick of its job. */
+/* The tick at which each task's latest job arrived, the angle that was written last, in tenths of a
+ * degree, and the tick at which the job that wrote it arrived. */
 static uint32_t arrived[TASKS];
+static int32_t angle;
 static uint32_t angle_of = UINT32_MAX; /* none has written */
+
+/* What the valve is set to, the tick at which the last valve job ended, and the most ticks that there were
+ * between two such ends. */
+static uint8_t damping;
+static uint32_t valve_ended = UINT32_MAX; /* none has ended */
+static uint32_t longest;
 
 /* A small generator: the same numbers in every run. */
 static uint32_t random_below(uint32_t limit)
@@ -73,29 +82,67 @@ static void let_jobs_arrive(void)
     }
 }
 
-/* A valve that is set by the angle of an earlier tick is what the pair is to rule out. */
-static void read_angle(void)
+/* The knee swings from a little overstretched to bent by some 60 degrees and back, in tenths of a degree.
+ * At tick 30 the sensor has a loose contact, and says what no knee can do. */
+static int32_t sensed(uint32_t tick)
 {
-    printf("  the valve job of %lu reads the angle of %lu\n", (unsigned long)arrived[VALVE],
-           (unsigned long)angle_of);
-    if (angle_of != arrived[VALVE]) {
-        printf("which is not its own\n");
+    int32_t swing = (int32_t)(tick % 46);
+    return tick == 30 ? 4095 : swing * (46 - swing) * 13 / 10 - 50;
+}
+
+static void write_angle(void)
+{
+    angle = sensed(arrived[ANGLE]);
+    angle_of = arrived[ANGLE];
+}
+
+/* A valve that is set by an angle from before its job's arrival is what the pair is to rule out. */
+static void check_angle(void)
+{
+    if (angle_of == UINT32_MAX || angle_of < arrived[VALVE]) {
+        printf("the valve job of %lu reads the angle of an earlier tick\n",
+               (unsigned long)arrived[VALVE]);
         exit(1);
     }
+}
+
+/* Where there is no damping for the angle, the last one stays. */
+static void set_valve(void)
+{
+    uint64_t reply = kilmstra_damping(angle);
+    printf("  the angle of %lu is %ld: ", (unsigned long)angle_of, (long)angle);
+    if (kilmstra_is_refused(reply)) {
+        printf("refused %u, damping stays %u\n", kilmstra_refusal_number(reply), damping);
+    } else {
+        damping = kilmstra_damping_value(reply);
+        printf("damping %u\n", damping);
+    }
+}
+
+/* A valve job ends at a tick. */
+static void end_valve(uint32_t tick)
+{
+    set_valve();
+    if (valve_ended != UINT32_MAX && tick - valve_ended > longest) {
+        longest = tick - valve_ended;
+    }
+    valve_ended = tick;
 }
 
 /* Runs the job until it ends or the timer rings. Says how many ticks went by. */
 static uint32_t run_job(unsigned task, unsigned level, uint32_t hold, bool *finished)
 {
     if (task == VALVE) {
-        read_angle();
+        check_angle();
     }
     uint32_t speed = speeds[level];
     uint32_t needed = fixed[task] + (work[task] + speed - 1) / speed;
     *finished = needed <= hold;
     if (*finished) {
         if (task == ANGLE) {
-            angle_of = arrived[ANGLE];
+            write_angle();
+        } else if (task == VALVE) {
+            end_valve(now + needed);
         }
         return needed;
     }
@@ -210,6 +257,17 @@ static void print_queue(void)
     printf("\n");
 }
 
+/* What is promised: at most twice the valve's period less one tick. */
+static void print_longest(void)
+{
+    uint32_t most = 2 * plan[NUMBERS * VALVE + PERIOD] - 1;
+    printf("valve jobs end at most %lu ticks apart, %lu are promised\n", (unsigned long)longest,
+           (unsigned long)most);
+    if (longest > most) {
+        exit(1);
+    }
+}
+
 int main(void)
 {
     let_jobs_arrive();
@@ -220,5 +278,6 @@ int main(void)
         print_order(order);
     }
     print_queue();
+    print_longest();
     return 0;
 }

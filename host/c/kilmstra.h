@@ -33,6 +33,13 @@
  * The queue has the ticks that the plain schedule has left for each job. How many these are in all, the
  * state keeps at its end, and kilmstra_queued says it at once, as a radio may ask before every burst.
  *
+ * Task 0 of a plan is the valve job, if the plan has one. It looks up how far to close the valve at the
+ * knee's angle: kilmstra_damping says that, from an angle in tenths of a degree. In a run that starting
+ * accepted, and with P for the period of task 0, between the ends of two consecutive jobs of that task
+ * lie at most 2 * P - 1 ticks, whatever passes are told, and until the next one ends, the last one's
+ * end is at most 2 * P - 2 ticks ago. Once the clock has come to 2 * P ticks after a job's arrival, that
+ * job and the next have ended.
+ *
  * What holds for every call:
  * - It answers with one number, a reply. The functions at the end of this file take it apart.
  * - A reply is a refusal, with a number of enum kilmstra_refusal, or else what the call says below.
@@ -66,7 +73,10 @@ enum {
     KILMSTRA_LEVEL_BLOCK_BYTES = 11, /* enough for every level block */
     KILMSTRA_BLOCK_BYTES = 96,       /* enough for every plan block */
     KILMSTRA_PAIRS_BYTES = 32,       /* enough for every list of pairs */
-    KILMSTRA_QUEUE_BYTES = 48        /* enough for every queue */
+    KILMSTRA_QUEUE_BYTES = 48,       /* enough for every queue */
+    KILMSTRA_VALVE_TASK = 0,         /* the number of the valve job's task */
+    KILMSTRA_LOWEST_ANGLE = -50,     /* in tenths of a degree */
+    KILMSTRA_HIGHEST_ANGLE = 1300    /* in tenths of a degree */
 };
 
 /* The level block of document 01's speeds: 10, 20, 30, 40, 50, 60, 80, 100. */
@@ -104,7 +114,8 @@ enum kilmstra_refusal {
     KILMSTRA_PAST_WORST_CASE = 14,    /* the running job would have used up more than its fixed ticks
                                          and its worst case */
     KILMSTRA_PAST_LARGEST_CLOCK = 15, /* the clock would go past 4,000,000,000 */
-    KILMSTRA_ODD_BYTE = 16            /* the bench program alone: a byte is left at the end */
+    KILMSTRA_ODD_BYTE = 16,           /* the bench program alone: a byte is left at the end */
+    KILMSTRA_WRONG_ANGLE = 23         /* the damping alone: the angle is not -50 to 1,300 */
 };
 
 /* A task in a list: its period in ticks, its worst case in units of work, and its fixed ticks, 0 to
@@ -148,6 +159,14 @@ uint64_t kilmstra_show(const uint8_t *state, uint64_t state_len,
  * Refuses with 10 if state has not exactly 221 bytes, and asks nothing else. Of 221 bytes that passing
  * and showing refuse as not sound, the answer is what stands there, any number of 32 bits. */
 uint64_t kilmstra_queued(const uint8_t *state, uint64_t state_len);
+
+/* Looks the damping up at an angle, in tenths of a degree, and answers with it: 12 below 0, and from 0 on
+ * what the straight lines through these points give, rounded down:
+ *   degrees    0    5   10   20   40   60   90  130
+ *   damping   12   14   17   25   49   73   97  112
+ * An angle that is k tenths away has a damping that differs by at most 1 + 12 * k / 100, rounded down.
+ * Refuses with 23 if the angle is below -50 or above 1,300, and asks nothing else. */
+uint64_t kilmstra_damping(int32_t angle);
 
 /* Reads a level block and answers with the count of its levels. Writes nothing.
  * Refuses with 18 to 20. */
@@ -254,6 +273,13 @@ static inline uint64_t kilmstra_byte_count(uint64_t reply)
 static inline uint32_t kilmstra_total(uint64_t reply)
 {
     return (uint32_t)(reply >> 8);
+}
+
+/* A reply of looking a damping up that is no refusal. */
+
+static inline uint8_t kilmstra_damping_value(uint64_t reply)
+{
+    return (uint8_t)(reply >> 8);
 }
 
 /* A reply of reading a level block that is no refusal. */

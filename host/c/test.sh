@@ -11,7 +11,7 @@ top=../..
 work=$(mktemp -d) || exit 2
 trap 'rm -rf "$work"' EXIT
 
-library=(-L "$top/target/staticlib" -ldispatcher_calls -lplan_calls)
+library=(-L "$top/target/staticlib" -ldispatcher_calls -lplan_calls -lknee)
 warnings=(-Wall -Wextra -Werror)
 checks=(-g "-fsanitize=address,undefined" -fno-sanitize-recover=all)
 # shellcheck source=../../tools/trying

@@ -5,8 +5,8 @@ use std::env;
 use std::path::PathBuf;
 
 /// The crates whose C entries are called. An archive has its own crate's entries alone for all to
-/// see, so the two go into one program.
-const CRATES: [&str; 2] = ["plan_calls", "dispatcher_calls"];
+/// see, so the three go into one program.
+const CRATES: [&str; 3] = ["plan_calls", "dispatcher_calls", "knee"];
 
 /// One function of the code made visible, which the test that calls it links itself.
 const FUNCTION: &str = "time_needed";

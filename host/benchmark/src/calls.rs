@@ -1,4 +1,4 @@
-//! The four calls as C sees them, of each that is measured.
+//! The five calls as C sees them, of each that is measured.
 
 use crate::fast;
 // Links the archives of the proved library.
@@ -18,6 +18,7 @@ pub type Start = unsafe extern "C" fn(
 pub type Pass = unsafe extern "C" fn(*mut u8, usize, u32, u8) -> u64;
 pub type Show = unsafe extern "C" fn(*const u8, usize, *mut u8, usize) -> u64;
 pub type Queued = unsafe extern "C" fn(*const u8, usize) -> u64;
+pub type Damping = unsafe extern "C" fn(i32) -> u64;
 
 #[derive(Clone, Copy)]
 pub struct Calls {
@@ -25,6 +26,7 @@ pub struct Calls {
     pub pass: Pass,
     pub show: Show,
     pub queued: Queued,
+    pub damping: Damping,
 }
 
 extern "C" {
@@ -45,6 +47,8 @@ extern "C" {
         -> u64;
 
     fn kilmstra_queued(state: *const u8, state_len: usize) -> u64;
+
+    fn kilmstra_damping(angle: i32) -> u64;
 }
 
 /// The proved calls.
@@ -53,6 +57,7 @@ pub const PROVED: Calls = Calls {
     pass: kilmstra_pass,
     show: kilmstra_show,
     queued: kilmstra_queued,
+    damping: kilmstra_damping,
 };
 
 /// The calls written by hand.
@@ -61,6 +66,7 @@ pub const BY_HAND: Calls = Calls {
     pass: fast_pass,
     show: fast_show,
     queued: fast_queued,
+    damping: fast_damping,
 };
 
 /// Calls that do nothing: what they cost is the cost of measuring.
@@ -69,6 +75,7 @@ pub const NONE: Calls = Calls {
     pass: no_pass,
     show: no_show,
     queued: no_queued,
+    damping: no_damping,
 };
 
 impl Calls {
@@ -118,6 +125,11 @@ impl Calls {
         // SAFETY: pointer and length are those of a slice.
         unsafe { (self.queued)(state.as_ptr(), state.len()) }
     }
+
+    pub fn damping(&self, angle: i32) -> u64 {
+        // SAFETY: a number goes in and one comes out.
+        unsafe { (self.damping)(angle) }
+    }
 }
 
 unsafe extern "C" fn fast_start(
@@ -166,6 +178,10 @@ unsafe extern "C" fn fast_queued(state: *const u8, state_len: usize) -> u64 {
     unsafe { fast::queued(from_raw_parts(state, state_len)) }
 }
 
+unsafe extern "C" fn fast_damping(angle: i32) -> u64 {
+    fast::damping(angle)
+}
+
 unsafe extern "C" fn no_start(
     _: *const u8,
     _: usize,
@@ -188,5 +204,9 @@ unsafe extern "C" fn no_show(_: *const u8, _: usize, _: *mut u8, _: usize) -> u6
 }
 
 unsafe extern "C" fn no_queued(_: *const u8, _: usize) -> u64 {
+    0
+}
+
+unsafe extern "C" fn no_damping(_: i32) -> u64 {
     0
 }

@@ -1,8 +1,9 @@
 //! What the measured calls are given: level blocks, blocks of plans that are accepted over them, lists
-//! of pairs that are good for these, states that their runs reach, and passes that are accepted there.
-//! The same every time.
+//! of pairs that are good for these, states that their runs reach, passes that are accepted there, and
+//! angles in their range. The same every time.
 
 use crate::calls::PROVED;
+use sim::knee::{LARGEST_ANGLE, SMALLEST_ANGLE};
 use sim::level_block::write_levels;
 use sim::levels::Levels;
 use sim::pairs::{pack_pairs, Pair, MOST_PAIRS};
@@ -30,7 +31,7 @@ const PERIODS: [u64; 12] = [
 ];
 
 /// One input: the blocks and the pairs are for starting, the state for passing, showing and asking for its
-/// total, the rest for passing.
+/// total, the ticks and the finish for passing, the angle for asking for its damping.
 #[derive(Clone)]
 pub struct Input {
     pub levels: Vec<u8>,
@@ -39,6 +40,7 @@ pub struct Input {
     pub state: [u8; STATE_BYTES],
     pub d: u32,
     pub finished: bool,
+    pub angle: i32,
 }
 
 /// The inputs for so many tasks: for each table a plan without fixed ticks and one with some.
@@ -116,9 +118,17 @@ fn add_run(random: &mut Random, levels: &[u8], plan: &[Task], found: &mut Vec<In
                 state: before,
                 d,
                 finished,
+                angle: angle_of(found.len()),
             });
         }
     }
+}
+
+/// Angles all over the range, each far from the one before. They are not drawn, so that the passes that
+/// are drawn stay what they were.
+fn angle_of(nth: usize) -> i32 {
+    let angles = LARGEST_ANGLE - SMALLEST_ANGLE + 1;
+    SMALLEST_ANGLE + (nth as i32 * 523) % angles
 }
 
 fn hold_of(order: u64) -> u64 {

@@ -1,4 +1,4 @@
-//! The proved dispatcher measured against one written by hand to be fast.
+//! The proved dispatcher and the damping measured against ones written by hand to be fast.
 
 #![warn(unsafe_op_in_unsafe_fn)]
 

@@ -1,4 +1,4 @@
-//! Measures the dispatcher's calls.
+//! Measures the dispatcher's calls, and the one for the damping.
 //!
 //! - `benchmark time`: for each call and count of tasks, the nanoseconds of the proved call, of the
 //!   one written by hand, and their ratio; `<2` and no ratio where there are fewer than can be told.

@@ -6,12 +6,13 @@ use std::arch::asm;
 use std::ptr::addr_of_mut;
 use std::time::Instant;
 
-pub const CALLS: [Call; 5] = [
+pub const CALLS: [Call; 6] = [
     Call::Start,
     Call::StartPairs,
     Call::Pass,
     Call::Show,
     Call::Queued,
+    Call::Damping,
 ];
 
 /// The counts of tasks that the calls are measured at.
@@ -26,6 +27,7 @@ pub enum Call {
     Pass,
     Show,
     Queued,
+    Damping,
 }
 
 impl Call {
@@ -36,6 +38,7 @@ impl Call {
             Call::Pass => "pass",
             Call::Show => "show",
             Call::Queued => "queued",
+            Call::Damping => "damping",
         }
     }
 
@@ -43,10 +46,12 @@ impl Call {
         CALLS.into_iter().find(|call| call.name() == name)
     }
 
-    /// Pairs take the same time whatever the count is, so the largest does for them.
+    /// Pairs take the same time whatever the count is, so the largest does for them. The damping has
+    /// nothing to do with tasks, so the inputs of one count do.
     pub fn counts(self) -> &'static [usize] {
         match self {
             Call::StartPairs => &[16],
+            Call::Damping => &[1],
             _ => &COUNTS,
         }
     }
@@ -73,6 +78,7 @@ pub fn round(call: Call, calls: &Calls, inputs: &[Input]) {
             Call::Pass => calls.pass(lent, input.d, input.finished),
             Call::Show => calls.show(lent, black_box(&mut queue)),
             Call::Queued => calls.queued(lent),
+            Call::Damping => calls.damping(input.angle),
         });
     }
 }

@@ -43,6 +43,10 @@ fn used_by(call: Call, calls: &Calls, input: &Input) -> usize {
                 (calls.show as usize, vec![lent, room])
             }
             Call::Queued => (calls.queued as usize, vec![lent]),
+            Call::Damping => {
+                let angle = u64::from(input.angle as u32);
+                (calls.damping as usize, vec![[angle, 0]])
+            }
         };
         let mut stack = Box::new(Stack([pattern; STACK_BYTES]));
         // SAFETY: the function takes these numbers, and the stack is large and aligned.

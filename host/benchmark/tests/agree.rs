@@ -154,6 +154,19 @@ fn queued_agrees(state: &[u8], seen: &mut Seen) -> u64 {
     hand.0
 }
 
+/// What asking for the damping answers. Nothing is lent.
+fn damping_agrees(angle: i32, seen: &mut Seen) -> u64 {
+    let hand = (BY_HAND.damping(angle), Vec::new());
+    same(
+        &hand,
+        &(PROVED.damping(angle), Vec::new()),
+        &(sim::damping_number(angle), Vec::new()),
+        format_args!("{angle} tenths"),
+    );
+    seen.add(hand.0);
+    hand.0
+}
+
 /// Asks for the total of a sound state, which is to be the sum of what its entries have.
 fn total_is_the_sum(state: &[u8], seen: &mut Seen) {
     let sum = unpacked(state).total();
@@ -625,6 +638,30 @@ fn totals_of_any_bytes_agree() {
     totals.were("queued, of any bytes", &[0]);
 }
 
+/// 02, No. 7: would catch an entry of the table that is worked out in another way, and a range that is
+/// asked about in another way: every angle in it and far to both sides, the ends of 32 bits, the powers of
+/// two of both signs with what lies beside them, and any angles.
+#[test]
+fn dampings_agree() {
+    let mut random = Random::new(8);
+    let mut seen = Seen::default();
+    for angle in -100_000..=100_000 {
+        let reply = damping_agrees(angle, &mut seen);
+        assert_eq!(reply == 23, !(-50..=1_300).contains(&angle), "{angle}");
+    }
+    let powers = (0..31).map(|bit| 1 << bit);
+    let centres = powers.flat_map(|power: i32| [power, -power]);
+    for centre in centres.chain([i32::MIN, i32::MAX]) {
+        for beside in -1_400..=1_400 {
+            damping_agrees(centre.wrapping_add(beside), &mut seen);
+        }
+    }
+    for _ in 0..200_000 {
+        damping_agrees(random.number() as i32, &mut seen);
+    }
+    seen.were("damping", &[0, 23]);
+}
+
 /// Numbers on both sides of every edge that a speed has beside these two.
 fn edges(before: u64, after: u64) -> [u64; 14] {
     let (below, above) = (before.saturating_sub(1), after + 1);
@@ -739,7 +776,7 @@ fn fixed_ticks_in_states_agree() {
 /// Would catch measured calls that are refused, or that are done differently.
 #[test]
 fn measured_inputs_agree() {
-    let (mut starts, mut passes, mut shows, mut totals) = Default::default();
+    let (mut starts, mut passes, mut shows, mut totals, mut dampings) = Default::default();
     for input in COUNTS.into_iter().flat_map(inputs) {
         let (levels, block) = (&input.levels, &input.block);
         start_agrees(levels, block, STATE_BYTES, &mut starts);
@@ -747,11 +784,26 @@ fn measured_inputs_agree() {
         show_agrees(&input.state, QUEUE_BYTES, &mut shows);
         total_is_the_sum(&input.state, &mut totals);
         pass_agrees(&input.state, input.d, input.finished, &mut passes);
+        damping_agrees(input.angle, &mut dampings);
     }
     starts.were("start, measured", &[0]);
     passes.were("pass, measured", &[0]);
     shows.were("show, measured", &[0]);
     totals.were("queued, measured", &[0]);
+    dampings.were("damping, measured", &[0]);
+}
+
+/// Would catch angles of which some lines, or those below 0, are left out.
+#[test]
+fn measured_angles_are_all_over_the_range() {
+    for &tasks in Call::Damping.counts() {
+        let angles: Vec<i32> = inputs(tasks).iter().map(|input| input.angle).collect();
+        for ends in [-50, 0, 50, 100, 200, 400, 600, 900, 1_300].windows(2) {
+            assert!(angles
+                .iter()
+                .any(|angle| (ends[0]..ends[1]).contains(angle)));
+        }
+    }
 }
 
 /// Would catch a start measured with fewer pairs than it is said to have.

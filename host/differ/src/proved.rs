@@ -1,8 +1,8 @@
-//! The calls on level blocks and plans that the proved library has for C, with slices in and results
-//! out.
+//! The calls on level blocks, plans and angles that the proved library has for C, with slices and
+//! numbers in and results out.
 //!
 //! In C a slice is a pointer, then a length in elements. Each call on a plan takes a level block
-//! first.
+//! first; the one on an angle takes nothing else.
 
 extern "C" {
     fn kilmstra_levels_read(levels: *const u8, levels_len: usize) -> u64;
@@ -49,6 +49,8 @@ extern "C" {
         pairs: *const u8,
         pairs_len: usize,
     ) -> u64;
+
+    fn kilmstra_damping(angle: i32) -> u64;
 }
 
 /// What judging and reading say of an accepted plan.
@@ -138,6 +140,13 @@ pub fn pairs(levels: &[u8], block: &[u8], pairs: &[u8]) -> Result<u64, u32> {
             pairs.len(),
         )
     };
+    unpacked(answer)
+}
+
+/// The damping for an angle in tenths of a degree.
+pub fn damping(angle: i32) -> Result<u64, u32> {
+    // SAFETY: a number goes in and one comes out.
+    let answer = unsafe { kilmstra_damping(angle) };
     unpacked(answer)
 }
 

@@ -1,8 +1,10 @@
 //! The calls as a host makes them. 02, No. 1: "Every call that takes a plan takes this block before
 //! it", so its questions, 18 to 20, come before the call's own. Passing and showing take no plan;
-//! they find the speeds in the state. Asking for the total of the queue wants neither.
+//! they find the speeds in the state. Asking for the total of the queue wants neither, and asking for
+//! the damping not even a state.
 
 use crate::dispatch::{self, Order};
+use crate::knee;
 use crate::level_block::read_levels;
 use crate::pairs::read_pairs;
 use crate::plan::{self, Judged, Task};
@@ -56,11 +58,20 @@ pub fn start(
     dispatch::start(&read_levels(level_block)?, block, pairs, state)
 }
 
-/// What `queued` answers, as one number: a refusal is its number, in the lowest byte; else that byte
-/// is 0 and the total stands from bit 8 on. It may be any number of 32 bits, so 64 are wanted.
+/// What `queued` answers, as one number. The total may be any number of 32 bits, so 64 are wanted.
 pub fn queued_number(state: &[u8]) -> u64 {
-    match dispatch::queued(state) {
-        Ok(total) => u64::from(total) << 8,
+    as_number(dispatch::queued(state).map(u64::from))
+}
+
+/// What `damping` answers, as one number.
+pub fn damping_number(angle: i32) -> u64 {
+    as_number(knee::damping(angle))
+}
+
+/// A refusal is its number, in the lowest byte; else that byte is 0 and the answer stands from bit 8 on.
+fn as_number(answer: Result<u64, u32>) -> u64 {
+    match answer {
+        Ok(answer) => answer << 8,
         Err(number) => u64::from(number),
     }
 }

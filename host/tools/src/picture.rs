@@ -8,7 +8,7 @@ mod pairs;
 mod refusals;
 mod rows;
 mod scale;
-mod style;
+pub(crate) mod style;
 mod view;
 
 use crate::canonical::turns_within;
@@ -80,7 +80,7 @@ pub fn draw(run: &Run, window: Span, name: Option<&str>) -> String {
     page(width, (legend_top + legend_height + MARGIN).ceil(), body)
 }
 
-fn page(width: f64, height: f64, body: Element) -> String {
+pub(crate) fn page(width: f64, height: f64, body: Element) -> String {
     let background = Element::new("rect")
         .px(&[("width", width), ("height", height)])
         .set("fill", PAPER);

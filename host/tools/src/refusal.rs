@@ -24,6 +24,7 @@ pub fn meaning(number: u32) -> &'static str {
         20 => "a speed is not 1 to 1,000, or not above the one before it",
         21 => "the edition is 2, but no task has fixed ticks",
         22 => "there are more than 16 pairs, or an odd byte, or a pair is not good",
+        23 => "the angle is not -50 to 1,300 tenths of a degree",
         _ => "not a refusal of the documents",
     }
 }

@@ -28,6 +28,7 @@ pub enum Call {
     Pass,
     Show,
     Queued,
+    Damping,
 }
 
 /// What an accepted call was about. Its answer doesn't tell.
@@ -211,6 +212,15 @@ impl Both {
             self.note_block(Call::Pairs, block);
             self.note_pairs(Call::Pairs, pairs);
         }
+        answer
+    }
+
+    /// Asks for the damping at an angle.
+    #[track_caller]
+    pub fn damping(&mut self, angle: i32) -> Result<u64, u32> {
+        let answer = proved::damping(angle);
+        assert_eq!(answer, sim::damping(angle), "the damping at {angle} tenths");
+        self.count(Call::Damping, &answer);
         answer
     }
 

@@ -1,5 +1,5 @@
 //! The proved library held to the cases of documents 01 and 02 and, call by call, to the simulator.
-//! Over 6,000,000 calls are put to both, with 01's speeds and with those of random boards. What each
+//! Over 7,000,000 calls are put to both, with 01's speeds and with those of random boards. What each
 //! test has seen is printed with `--nocapture`.
 
 mod blocks;
@@ -9,6 +9,7 @@ mod clocks;
 mod dispatch;
 mod document;
 mod gaps;
+mod knee;
 mod lent;
 mod levels;
 mod lone;
@@ -18,6 +19,7 @@ mod pairs;
 mod passes;
 mod plans;
 mod queues;
+mod refreshes;
 mod refusals;
 mod relations;
 mod rounding;

@@ -3,12 +3,14 @@
 //! simulator's two books, which are fed the library's replies and nothing of the state; and the queue
 //! shown must be the one of the plain schedule's book, and what the state has left of each job what the
 //! dispatcher's book has. What No. 5 promises is checked on that book before every accepted pass. After
-//! every pass the total that No. 6 has answered is the plain schedule's.
+//! every pass the total that No. 6 has answered is the plain schedule's, and what No. 7 promises of the
+//! valve's finishes is checked on the dispatcher's book before the pass and after it.
 
 use crate::both::{Both, Call, Kind, ACCEPTED};
 use crate::dispatch::{as_simulated, STATE_BYTES};
 use crate::gaps::{Gaps, Stand};
 use crate::made::bench_plan;
+use crate::refreshes::Refreshes;
 use crate::sums::{Step, Sums};
 use crate::turns::Turns;
 use crate::view::{queue_bytes, told, View};
@@ -17,13 +19,14 @@ use sim::block::Edition;
 use sim::books::{demand3_holds, lone_finishes_hold, pairs_hold};
 use sim::books::{total_holds, ActualBook, PlainBook};
 use sim::job::Left;
+use sim::knee::{refresh_holds, Refresh, VALVE};
 use sim::layout::TOTAL;
 use sim::levels::{Levels, MOST_LEVELS};
 use sim::plan::{judge_list, Task};
 use sim::random::blocks::block_of;
 use sim::random::pairs::{bad_list, good_list};
 use sim::random::passes::any_pass;
-use sim::random::plans::{full_plan, plan_at_level, plan_at_level_within, SMALL_BASES};
+use sim::random::plans::{full_plan, plan_at_level, plan_at_level_within, valve_plan, SMALL_BASES};
 use sim::random::tables::{levels_of_count, some_levels};
 use sim::random::Random;
 use sim::state::unpack;
@@ -42,6 +45,10 @@ enum Style {
     /// The only open job goes on for as long as it can, told in several passes, and now and then for
     /// longer, which is refused.
     Lasting,
+    /// The valve's job ends after its first tick or takes as long as it can, one as often as the other;
+    /// all other jobs take their worst case. Some of it is told in several passes, and now and then for
+    /// too long, which is refused.
+    Swinging,
 }
 
 const STYLES: [Style; 4] = [Style::Worst, Style::Early, Style::TickByTick, Style::Any];
@@ -66,6 +73,7 @@ struct Tally {
     gaps: Gaps,
     turns: Turns,
     sums: Sums,
+    refreshes: Refreshes,
 }
 
 impl Tally {
@@ -98,6 +106,7 @@ struct Run {
     order: Order,
     actual: ActualBook,
     plain: PlainBook,
+    valve: Refresh,
 }
 
 impl Run {
@@ -118,6 +127,7 @@ impl Run {
             nominal: judge_list(levels, &plan).unwrap().nominal as u8,
             actual: ActualBook::new(levels, &plan, as_simulated(order)),
             plain: PlainBook::new(levels, &plan),
+            valve: Refresh::new(&plan),
             plan,
             pairs,
             state,
@@ -136,7 +146,17 @@ impl Run {
             Style::Lasting if !view.lone => view.some_pass(random),
             Style::Lasting if random.one_in(3) => (view.hold() as u32, false),
             Style::Lasting => view.going_on(random),
+            Style::Swinging if self.valve_begins() && random.one_in(2) => (1, true),
+            Style::Swinging if random.one_in(8) => (view.hold() as u32, false),
+            Style::Swinging if random.one_in(3) => view.going_on(random),
+            Style::Swinging => view.whole_hold(),
         }
+    }
+
+    /// Whether the next pass is about a job of the valve's that hasn't run before.
+    fn valve_begins(&self) -> bool {
+        let runs = self.actual.running_job().map(|(task, _)| task) == Some(VALVE);
+        runs && self.actual.left()[VALVE] == self.plan[VALVE].whole_job()
     }
 
     /// One pass, with everything checked after it.
@@ -151,8 +171,10 @@ impl Run {
             self.check_total(&before, d, tally);
         }
         let entered = reply.map(as_simulated);
+        let book = self.actual.clone();
         self.actual.pass(d, finished, entered);
         self.plain.pass(d, entered);
+        self.watch_valve(&book, reply.is_ok(), tally);
         if let Ok(order) = reply {
             self.note(view, d, finished, order, tally);
             self.order = order;
@@ -207,6 +229,14 @@ impl Run {
         tally.turns.note(&self.plan, &self.actual, &self.pairs);
     }
 
+    /// Tells the watcher of the valve's finishes of a pass, by the dispatcher's book before it and now.
+    /// What No. 7 promises of them is asked with everything else.
+    fn watch_valve(&mut self, before: &ActualBook, accepted: bool, tally: &mut Tally) {
+        let finished = self.valve.pass(before, &self.actual);
+        let tasks = self.plan.len();
+        tally.refreshes.note(&self.valve, tasks, finished, accepted);
+    }
+
     /// The total after an accepted pass is the one that the queue before it leads to.
     fn check_total(&self, before: &[u8], d: u32, tally: &mut Tally) {
         let step = Step::of(before, d);
@@ -222,6 +252,8 @@ impl Run {
         // schedule, and all deadlines hold."
         let finishes = lone_finishes_hold(&self.plan, &self.actual, &self.plain);
         assert_eq!(finishes, Ok(()), "{:?}", self.plan);
+        let refresh = refresh_holds(&self.valve);
+        assert_eq!(refresh, Ok(()), "{:?}", self.plan);
         let open = self.plain.open_jobs();
         let open: Vec<(usize, u64)> = open.iter().map(|job| (job.task, job.left)).collect();
         let shown = both.show(&self.state, 48);
@@ -295,6 +327,7 @@ fn long_runs_at_every_level() {
     tally.turns.wants(300);
     tally.sums.wants(10);
     tally.sums.wants_none_replaced();
+    tally.refreshes.wants(25_000, 800);
 }
 
 /// The same where the plain schedule has no tick to spare: would catch a level that is one too low,
@@ -333,6 +366,7 @@ fn long_runs_of_full_plans() {
     tally.turns.wants(100);
     tally.sums.wants_full(2_000);
     tally.sums.wants_none_replaced();
+    tally.refreshes.wants(5_000, 100);
 }
 
 /// A plan at any level, a full one if told so. Half of them are at the highest, which few tables would
@@ -384,6 +418,7 @@ fn runs_with_any_table() {
     tally.turns.wants(500);
     tally.sums.wants(10);
     tally.sums.wants_none_replaced();
+    tally.refreshes.wants(25_000, 900);
 }
 
 /// Would catch a table that is mixed up with another one: a state goes on with its own, whatever is
@@ -440,6 +475,7 @@ fn runs_with_long_periods() {
     assert!(tally.early > 300, "{tally:?}");
     tally.wants_fixed(10, 20, 3, 20);
     tally.sums.wants_none_replaced();
+    tally.refreshes.wants(400, 5);
 }
 
 /// Plans whose jobs are mostly fixed ticks, so that many passes end inside them: would catch fixed
@@ -472,6 +508,7 @@ fn runs_inside_the_fixed_ticks() {
     tally.turns.wants(100);
     tally.sums.wants(100);
     tally.sums.wants_none_replaced();
+    tally.refreshes.wants(4_000, 1);
 }
 
 /// A plan of one to four tasks, whose jobs are soon alone. Where there is a lower level than the nominal
@@ -525,6 +562,7 @@ fn runs_with_lone_jobs() {
     tally.turns.wants(1_000);
     tally.sums.wants(1_500);
     tally.sums.wants_none_replaced();
+    tally.refreshes.wants(18_000, 10);
 }
 
 /// A plan of two to six tasks with few periods, each a multiple of the shortest and in any order, so
@@ -574,6 +612,31 @@ fn runs_with_pairs() {
     tally.turns.wants(2_500);
     tally.sums.wants(1_500);
     tally.sums.wants_none_replaced();
+    tally.refreshes.wants(18_000, 30);
+}
+
+/// The same where the valve's jobs end early and late (02, No. 7): would catch a finish that lies a tick
+/// too far from the one before it, a valve that is kept waiting by what is less urgent, and a promise that
+/// is about another task.
+#[test]
+fn runs_of_the_valve() {
+    let mut both = Both::new(&Levels::base());
+    let mut random = Random::new(410);
+    let mut tally = Tally::new();
+    for round in 0..1_200 {
+        let levels = levels_of_count(&mut random, 1 + round % MOST_LEVELS as usize);
+        let plan = valve_plan(&mut random, &levels);
+        let board = (&levels, &plan[..]);
+        let style = Style::Swinging;
+        run(&mut both, &mut random, board, style, 80, &mut tally);
+    }
+    println!("{tally:?}");
+    both.saw("runs of the valve", 290_000);
+    both.wants(Call::Pass, ACCEPTED, 80_000);
+    tally.wants_fixed(200, 500, 200, 50);
+    tally.sums.wants_none_replaced();
+    tally.refreshes.wants(40_000, 10_000);
+    tally.refreshes.wants_each(400);
 }
 
 /// Two to five tasks with much in fixed ticks and little work, periods short and long.
@@ -620,4 +683,5 @@ fn the_bench_plan_for_thousands_of_passes() {
     assert!(tally.below_nominal > 3_000, "{tally:?}");
     tally.sums.wants_full(1_000);
     tally.sums.wants_none_replaced();
+    tally.refreshes.wants(3_000, 0);
 }

@@ -110,6 +110,24 @@ pub fn plan_one_unit_over(random: &mut Random, levels: &Levels, level: usize) ->
     tasks
 }
 
+/// An accepted plan whose valve (02, No. 7) may end with its first tick and at its deadline. It takes all
+/// of its period, or shares it with a task that fills the rest. That one's period is a multiple of the
+/// valve's: at its arrival the valve comes first, and before its deadline the valve has to wait.
+pub fn valve_plan(random: &mut Random, levels: &Levels) -> Vec<Task> {
+    let speed = random.pick(levels.speeds());
+    let with_fixed = tries_fixed(random);
+    let period = random.between(1, 12);
+    let any = random.between(1, period);
+    let own = random.pick(&[1, any, period]);
+    let (mut periods, mut ticks) = (vec![period], vec![own]);
+    if own < period {
+        let times = random.pick(&[2, 2, 3, 4]);
+        periods.push(times * period);
+        ticks.push(times * (period - own));
+    }
+    tasks_with(random, &periods, &ticks, speed, with_fixed)
+}
+
 /// A list of 0 to 18 tasks, many of them with fields at and past their ranges.
 pub fn edge_list(random: &mut Random, levels: &Levels) -> Vec<Task> {
     let level = random.place(levels.count());

@@ -14,7 +14,7 @@ use sim::random::passes::{any_pass, likely_pass};
 use sim::random::plans::{
     edge_count_and_entries, edge_list, full_plan, plan_above_largest_hyperperiod,
     plan_at_largest_hyperperiod, plan_at_level, plan_at_level_within, plan_one_over,
-    plan_one_unit_over, BASES, SMALL_BASES,
+    plan_one_unit_over, valve_plan, BASES, SMALL_BASES,
 };
 use sim::random::states::{
     forged_state, invented_state, late_state, reached_state, with_a_table_changed,
@@ -157,6 +157,31 @@ fn plans_around_the_full_sum() {
         }
     }
     assert!(hyperperiods.contains(&1_000_000));
+}
+
+#[test]
+fn plans_of_a_valve_are_full() {
+    let mut random = Random::new(31);
+    let mut seen: BTreeMap<(usize, bool), u32> = BTreeMap::new();
+    let mut periods = BTreeSet::new();
+    for _ in 0..2_000 {
+        let levels = some_or_base_levels(&mut random);
+        let plan = valve_plan(&mut random, &levels);
+        let judged = sim::plan::judge_list(&levels, &plan).unwrap();
+        let valve = plan[0].period;
+        periods.insert(valve);
+        *seen.entry((plan.len(), has_fixed(&plan))).or_default() += 1;
+        if let Some(other) = plan.get(1) {
+            assert_eq!(judged.hyperperiod, other.period);
+            assert!(other.period > valve);
+            // At some level there is no tick to spare.
+            let sum = |speed: &u64| sim::plan::admission_sum(&plan, other.period, *speed);
+            assert!(levels.speeds().iter().any(|it| sum(it) == other.period));
+        }
+    }
+    assert_eq!(periods, (1..=12).collect());
+    assert_eq!(seen.len(), 4, "{seen:?}");
+    assert!(seen.values().all(|times| *times > 200), "{seen:?}");
 }
 
 #[test]

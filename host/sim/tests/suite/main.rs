@@ -10,6 +10,7 @@ mod edges;
 mod fixed_plans;
 mod fixed_ticks;
 mod generators;
+mod knee;
 mod level_blocks;
 mod lone;
 mod pairs;

@@ -1,5 +1,6 @@
-//! Random runs: plans led through passes, with demand 3, what 02's No. 4 says of the finishes and No. 6
-//! of the total, the queue and the order checked after each against what the books alone say.
+//! Random runs: plans led through passes, with demand 3, what 02's No. 4 says of the finishes, No. 6 of
+//! the total and No. 7 of the valve, the queue and the order checked after each against what the books
+//! alone say.
 
 use crate::common::{fixed_tasks, queue};
 use sim::books::{
@@ -8,12 +9,13 @@ use sim::books::{
 };
 use sim::dispatch::{pass, queued, show, start, Order};
 use sim::job::{time_needed, Left};
+use sim::knee::{most_apart, refresh_holds, Refresh, VALVE};
 use sim::layout::STATE_BYTES;
 use sim::levels::Levels;
 use sim::plan::{judge_list, Task};
 use sim::random::blocks::block_of;
 use sim::random::passes::any_pass;
-use sim::random::plans::{full_plan, plan_at_level, plan_at_level_within, SMALL_BASES};
+use sim::random::plans::{full_plan, plan_at_level, plan_at_level_within, valve_plan, SMALL_BASES};
 use sim::random::tables::{some_levels, some_or_base_levels};
 use sim::random::Random;
 use sim::schedule::urgency;
@@ -39,6 +41,53 @@ struct Tally {
     interrupted_in_fixed: u64,
     lone: LoneTally,
     total: TotalTally,
+    valve: ValveTally,
+}
+
+/// What 02's No. 7 is about.
+#[derive(Default, Debug)]
+struct ValveTally {
+    /// Passes that finished a job of the valve's whose predecessor had finished too; where the period is
+    /// longer than a tick, those as far after it as may be, and those a tick after it.
+    consecutive: u64,
+    farthest: u64,
+    nearest: u64,
+    /// Passes, accepted and refused, at whose end the next job is awaited, and one tick more is the
+    /// last.
+    last_tick: u64,
+    last_tick_refused: u64,
+}
+
+impl ValveTally {
+    /// After a pass.
+    fn count(&mut self, valve: &Refresh, finished: bool, accepted: bool) {
+        let most = most_apart(valve.period());
+        if let (true, Some((first, second))) = (finished, valve.consecutive().last()) {
+            let apart = second - first;
+            self.consecutive += 1;
+            self.farthest += u64::from(most > 1 && apart == most);
+            self.nearest += u64::from(most > 1 && apart == 1);
+        }
+        let waited = valve
+            .awaiting()
+            .iter()
+            .any(|it| valve.clock() - it + 1 == most);
+        self.last_tick += u64::from(most > 1 && waited && accepted);
+        self.last_tick_refused += u64::from(most > 1 && waited && !accepted);
+    }
+
+    /// So many finishes, and each of the others at least so many times.
+    #[track_caller]
+    fn wants(&self, consecutive: u64, times: u64) {
+        assert!(self.consecutive > consecutive, "{self:?}");
+        let seen = [
+            self.farthest,
+            self.nearest,
+            self.last_tick,
+            self.last_tick_refused,
+        ];
+        assert!(seen.iter().all(|seen| *seen > times), "{self:?}");
+    }
 }
 
 /// What 02's No. 6 is about.
@@ -157,6 +206,7 @@ struct Run {
     plain: PlainBook,
     /// What is left of each task's latest job, told by the passes and replies alone, tick by tick.
     left: Vec<Left>,
+    valve: Refresh,
 }
 
 impl Run {
@@ -167,6 +217,7 @@ impl Run {
             actual: ActualBook::new(levels, &plan, order),
             plain: PlainBook::new(levels, &plan),
             left: plan.iter().map(Task::whole_job).collect(),
+            valve: Refresh::new(&plan),
             levels: levels.clone(),
             plan,
             state,
@@ -187,8 +238,13 @@ impl Run {
     fn put(&mut self, d: u32, finished: bool, tally: &mut Tally) {
         let (before, queued_before) = (self.state, self.plain.ticks_left());
         let reply = pass(&mut self.state, d, finished);
+        let book_before = self.actual.clone();
         self.actual.pass(d, finished, reply);
         self.plain.pass(d, reply);
+        let valve_finished = self.valve.pass(&book_before, &self.actual);
+        tally
+            .valve
+            .count(&self.valve, valve_finished, reply.is_ok());
         let queued_now = self.plain.ticks_left();
         tally
             .total
@@ -364,6 +420,7 @@ impl Run {
             "{:?}",
             self.plan
         );
+        assert_eq!(refresh_holds(&self.valve), Ok(()), "{:?}", self.plan);
         let plain: Vec<(usize, u64)> = self
             .plain
             .open_jobs()
@@ -458,6 +515,7 @@ fn random_runs_on_small_plans() {
     tally.wants_fixed_ticks(100);
     tally.lone.wants(100);
     tally.total.wants(10);
+    tally.valve.wants(10_000, 150);
 }
 
 #[test]
@@ -493,6 +551,7 @@ fn random_runs_with_random_tables() {
     tally.wants_fixed_ticks(60);
     tally.lone.wants(50);
     tally.total.wants(4);
+    tally.valve.wants(8_000, 100);
 }
 
 /// Plans of one to four tasks, in which a job is often alone; of random tables and 01's.
@@ -518,6 +577,46 @@ fn random_runs_with_lone_jobs() {
     tally.wants_fixed_ticks(300);
     tally.lone.wants(500);
     tally.total.wants(200);
+    tally.valve.wants(30_000, 350);
+}
+
+/// A pass after which the valve's job has ended with its first tick, or goes on for as long as it can, one
+/// as often as the other; other jobs always do the latter. Now and then it is told to go on for a tick
+/// alone, or for too long.
+fn swinging_pass(run: &Run, random: &mut Random) -> (u32, bool) {
+    let (task, level, hold) = match run.order {
+        Order::Idle { hold } => return (hold, false),
+        Order::Run { task, level, hold } => (usize::from(task), usize::from(level), hold),
+    };
+    let left = run.left[task];
+    if task == VALVE && left == run.plan[task].whole_job() && random.one_in(2) {
+        return (1, true);
+    }
+    let ends = |d: u32| time_needed(left, run.levels.speed(level)) == u64::from(d);
+    match random.below(8) {
+        0 => (hold, false),
+        1 | 2 => (1, ends(1)),
+        _ => (hold, ends(hold)),
+    }
+}
+
+/// 02, No. 7: runs in which the valve finishes as soon as it can and as late as it may. Would catch a
+/// promise that a dispatcher doesn't keep, and a bound that no run comes to.
+#[test]
+fn random_runs_of_the_valve() {
+    let mut random = Random::new(2_005);
+    let mut tally = Tally::default();
+    while tally.runs < 1_000 {
+        let levels = some_or_base_levels(&mut random);
+        let plan = valve_plan(&mut random, &levels);
+        tally.runs += 1;
+        let mut run = Run::new(&levels, plan);
+        for _ in 0..60 {
+            let (d, finished) = swinging_pass(&run, &mut random);
+            run.put(d, finished, &mut tally);
+        }
+    }
+    tally.valve.wants(20_000, 200);
 }
 
 /// Every pass that may be accepted, and one refused with 14, up to a tick.
@@ -546,13 +645,16 @@ fn put_every_pass(run: &Run, until: u64, tally: &mut Tally) {
 #[test]
 fn every_run_of_small_plans() {
     let mut tally = Tally::default();
-    let plans: [(&[u64], &[(u64, u64, u64)], u64); 6] = [
+    let plans: [(&[u64], &[(u64, u64, u64)], u64); 8] = [
         (&[1, 2], &[(3, 2, 0), (3, 2, 0)], 12),
         (&[1, 2], &[(2, 1, 0), (6, 4, 0)], 12),
         (&[1, 2, 3], &[(4, 3, 0), (6, 5, 0)], 12),
         (&[1, 3], &[(5, 4, 1), (5, 3, 0)], 10),
         (&[1, 2], &[(4, 2, 0), (4, 2, 0), (8, 2, 0)], 8),
         (&[2, 3, 5], &[(3, 4, 0), (6, 5, 1)], 12),
+        // 02, No. 7: the valve alone, and before and after a task of twice its period.
+        (&[1], &[(2, 2, 0)], 12),
+        (&[1], &[(3, 1, 0), (6, 4, 0)], 12),
     ];
     for (speeds, plan, until) in plans {
         let run = Run::new(&Levels::new(speeds), fixed_tasks(plan));
@@ -561,4 +663,5 @@ fn every_run_of_small_plans() {
     assert!(tally.runs > 3_000, "{}", tally.runs);
     tally.lone.wants(100);
     tally.total.wants(60);
+    tally.valve.wants(3_000, 200);
 }

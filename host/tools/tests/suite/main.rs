@@ -1,9 +1,10 @@
-//! The two bench tools held to document 01's example, to the simulator, and to each other.
+//! The tools held to document 01's example, to the simulator, and to each other.
 
 mod arrows;
 mod canonical;
 mod commands;
 mod common;
+mod curves;
 mod pack_bytes;
 mod pack_text;
 mod pictures;

@@ -1,0 +1,4 @@
+pub mod CurveLaws
+pub mod LookupLaws
+pub mod RefreshLaws
+pub mod Edges

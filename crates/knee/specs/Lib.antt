@@ -1,0 +1,3 @@
+pub mod Curve
+pub mod Refresh
+pub mod Cases
