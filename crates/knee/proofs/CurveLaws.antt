@@ -45,19 +45,22 @@ pub record Gentle (f g : ℕ → ℕ) (x : ℕ) : Type 0 where
 
 gentle-at : (x : ℕ) → x < 1301 → Gentle (curveAt points) (fineAt points) x
 gentle-at x h = record {
-  rounded = eqb-true (curveAt points x) (fineAt points x / 1200) (both-left (eqb (curveAt points x) (fineAt points x / 1200)) rises passes);
-  rising = leb-true (fineAt points x) (fineAt points (suc x)) (both-left (leb (fineAt points x) (fineAt points (suc x))) little (both-right same rises passes));
-  slope = leb-true (fineAt points (suc x)) (fineAt points x + 144) (both-right (leb (fineAt points x) (fineAt points (suc x))) little (both-right same rises passes));
+  rounded = eqb-true (curveAt points x) (fineAt points x / 1200) (both-left same rises passes);
+  rising = leb-true (fineAt points x) (fineAt points (suc x)) (both-left rise little (both-right same rises passes));
+  slope = leb-true (fineAt points (suc x)) (fineAt points x + 144) (both-right rise little (both-right same rises passes));
 }
   where
     same : Bool
     same = eqb (curveAt points x) (fineAt points x / 1200)
 
+    rise : Bool
+    rise = leb (fineAt points x) (fineAt points (suc x))
+
     little : Bool
     little = leb (fineAt points (suc x)) (fineAt points x + 144)
 
     rises : Bool
-    rises = both (leb (fineAt points x) (fineAt points (suc x))) little
+    rises = both rise little
 
     passes : gentleAt x ≡ true
     passes = not-false (gentleAt x) (no-none (λ (k : ℕ). not (gentleAt k)) 1301 gentle x h)
@@ -79,25 +82,25 @@ module _ (f g : ℕ → ℕ) (each : (x : ℕ) → x < 1301 → Gentle f g x) wh
       let there = each (x + k) h .rounded in
       (omega (arith, fine .0, here, there), omega (arith, fine .1, here, there))
 
--- of two angles from 0 on, at most k apart
-curve-moves :
-    (x y k : ℕ) → x < 1301 → y < 1301 → x ≤ y + k → y ≤ x + k →
-    (curveAt points x ≤ curveAt points y + (1 + 12 * k / 100)) × (curveAt points y ≤ curveAt points x + (1 + 12 * k / 100))
-curve-moves x y k hx hy over under =
+-- two numbers are at most k apart
+pub record Near (x y k : ℕ) : Type 0 where
+  pub over : x ≤ y + k
+  pub under : y ≤ x + k
+
+-- so of two angles from 0 on that are at most k tenths apart
+curve-moves : (x y k : ℕ) → x < 1301 → y < 1301 → Near x y k → Near (curveAt points x) (curveAt points y) (1 + 12 * k / 100)
+curve-moves x y k hx hy close =
     elim (decLe x y) [
-      | yes h ↦ up x y k hy h under
-      | no h ↦ let r = up y x k hx (omega arith) over in (r .1, r .0)
+      | yes h ↦ up x y hy h (close .under)
+      | no h ↦ let turned = up y x hx (omega arith) (close .over) in record { over = turned .under; under = turned .over }
     ]
   where
-    up :
-        (x y k : ℕ) → y < 1301 → x ≤ y → y ≤ x + k →
-        (curveAt points x ≤ curveAt points y + (1 + 12 * k / 100)) × (curveAt points y ≤ curveAt points x + (1 + 12 * k / 100))
-    up x y k hy h near =
+    up : (x y : ℕ) → y < 1301 → x ≤ y → y ≤ x + k → Near (curveAt points x) (curveAt points y) (1 + 12 * k / 100)
+    up x y h rise close =
         let same : x + (y - x) ≡ y = omega arith in
-        let r = subst
-        (λ (z : ℕ). (curveAt points x ≤ curveAt points z) × (curveAt points z ≤ curveAt points x + (1 + 12 * (y - x) / 100))) same
+        let moved = subst (λ (z : ℕ). (curveAt points x ≤ curveAt points z) × (curveAt points z ≤ curveAt points x + (1 + 12 * (y - x) / 100))) same
         (moves (curveAt points) (fineAt points) gentle-at x (y - x) (omega arith)) in
-        (omega (arith, r .0), omega (arith, r .1))
+        record { over = omega (arith, moved .0); under = omega (arith, moved .1) }
 
 -- the curve is highest at its end
 pub curve-most : (x : ℕ) → x < 1301 → curveAt points x ≤ 112
@@ -118,22 +121,17 @@ apart-from-0 x (suc y) =
       | le-not h ↦ falls (omega arith) (omega arith)
     ]
 
--- numbers that are at most k apart
-near : (m n k : ℕ) → m ≤ n + k → n ≤ m + k → apart (pos m) (pos n) ≤ k
-near m n k h l =
+near-apart : {m n k : ℕ} → Near m n k → apart (pos m) (pos n) ≤ k
+near-apart {m} {n} close =
     elim (apart-from-0 m n) [
-      | rises o e ↦ omega (arith, e)
-      | falls o e ↦ omega (arith, e)
+      | rises o e ↦ omega (arith, e, close .under)
+      | falls o e ↦ omega (arith, e, close .over)
     ]
 
 -- an angle below 0 counts as 0
 abbrev from0 : ℤ → ℕ
 from0 (pos x) = x
 from0 (negsuc x) = 0
-
-pub record Near (x y k : ℕ) : Type 0 where
-  pub over : x ≤ y + k
-  pub under : y ≤ x + k
 
 counted : (a b : ℤ) → Near (from0 a) (from0 b) (apart a b)
 counted (pos x) (pos y) =
@@ -172,8 +170,6 @@ pub moves-little : MovesLittle
 moves-little a b m n p q =
     let x = told a m p in
     let y = told b n q in
-    let close = counted a b in
-    let r = curve-moves (from0 a) (from0 b) (apart a b) (x .below) (y .below) (close .over) (close .under) in
-    near m n (1 + 12 * apart a b / 100)
-    (subst₂ (λ (u v : ℕ). u ≤ v + (1 + 12 * apart a b / 100)) (x .is) (y .is) (r .0))
-    (subst₂ (λ (u v : ℕ). u ≤ v + (1 + 12 * apart a b / 100)) (y .is) (x .is) (r .1))
+    near-apart
+    (subst₂ (λ (u v : ℕ). Near u v (1 + 12 * apart a b / 100)) (x .is) (y .is)
+    (curve-moves (from0 a) (from0 b) (apart a b) (x .below) (y .below) (counted a b)))

@@ -1,9 +1,9 @@
 -- How often a run finishes a valve job, from what playing it promises: demand 3 after each pass, and that no pass jumps a deadline. Of the
 -- dispatcher nothing else is used here, and of its books only their definitions.
 -- Assumes nothing.
-use Prim.Native.Nat.{ℕ, zero, suc, _+_, _*_, _%_, _≤_, _<_}
+use Prim.Native.Nat.{ℕ, zero, suc, _+_, _*_, _≤_, _<_}
 use mathlib.Core.Path.{_≡_, refl, sym, ap, subst, _∙_}
-use mathlib.Core.Bool.{Bool, true}
+use mathlib.Core.Bool.{true}
 use mathlib.Core.List.{List, [], _∷_}
 use mathlib.Core.Logic.{_⊎_, inl, inr, ⊎-elim}
 use native.Mathlib.Nat.{add-mod-right, div-mul-le-self}
@@ -27,7 +27,7 @@ use Rattle.reclaiming.specs.Books.{Answered, DispatcherBook, ordered, unopenedB
 use Rattle.reclaiming.specs.Promises.{OpenActual, OnTime, PassWithin, answerAt}
 use Rattle.reclaiming.specs.Play.{replyFrom, answersFrom, PlayedOnTime, PlayedWithin}
 use Rattle.knee.specs.Refresh.{PlayedRefreshApart, PlayedRefreshGoesOn, PlayedRefreshAge}
-use Rattle.knee.specs.Refresh.{valveTask, valveJob, FinishedBetween, Finishes, FinishedWithin, finish, RefreshApart, RefreshGoesOn, RefreshAge}
+use Rattle.knee.specs.Refresh.{valveTask, valveJob, Finishes, FinishedWithin, finish, RefreshApart, RefreshGoesOn, RefreshAge}
 
 -- whether a job is in a list
 same-job : (j k : Job) → Dec (j ≡ k)
@@ -101,82 +101,82 @@ module _ (speeds : List ℕ) (ts : List Task) where
         ]
         refl
 
--- a run, by its answers, of which playing promises what it does
-module _ (speeds : List ℕ) (ts : List Task) (first : Reply) (answers : List Answered) where
-  abbrev book : ℕ → DispatcherBook
-  book n = actualOf speeds ts first (take n answers)
+  -- a run, by its answers, of which playing promises what it does
+  module _ (first : Reply) (answers : List Answered) where
+    abbrev book : ℕ → DispatcherBook
+    book n = actualOf speeds ts first (take n answers)
 
-  abbrev after : ℕ → DispatcherBook
-  after n = booked speeds ts (book n) (answerAt answers n .pass) (answerAt answers n .reply)
+    abbrev after : ℕ → DispatcherBook
+    after n = booked speeds ts (book n) (answerAt answers n .pass) (answerAt answers n .reply)
 
-  next : (n : ℕ) → book (suc n) ≡ after n
-  next n = booked-next speeds ts answers n (openedBook ts first)
+    next : (n : ℕ) → book (suc n) ≡ after n
+    next n = booked-next answers n (openedBook ts first)
 
-  module _
-      (on-time : (n : ℕ) → OnTime speeds (timing speeds ts) (book n) (plainOf speeds ts (take n answers)))
-      (within : (n : ℕ) → PassWithin speeds ts first answers n) where
-    -- a job is finished after its arrival
-    later : (n : ℕ) (j : Job) → Finishes (timing speeds ts) book n j → j .arrival < finish (timing speeds ts) book n
-    later n j f =
-        subst (λ (b : DispatcherBook). j .arrival < b .clock) (sym (next n))
-        (closes-later speeds ts (book n) (answerAt answers n .pass) j (answerAt answers n .reply) (λ e. within n .accepted e .some) (f .was-open)
-        (subst (λ (b : DispatcherBook). In j (b .closed)) (next n) (f .is-closed)))
+    module _
+        (on-time : (n : ℕ) → OnTime speeds τ (book n) (plainOf speeds ts (take n answers)))
+        (within : (n : ℕ) → PassWithin speeds ts first answers n) where
+      -- a job is finished after its arrival
+      later : (n : ℕ) (j : Job) → Finishes τ book n j → j .arrival < finish τ book n
+      later n j f =
+          subst (λ (b : DispatcherBook). j .arrival < b .clock) (sym (next n))
+          (closes-later (book n) (answerAt answers n .pass) j (answerAt answers n .reply) (λ e. within n .accepted e .some) (f .was-open)
+          (subst (λ (b : DispatcherBook). In j (b .closed)) (next n) (f .is-closed)))
 
-    -- and by its deadline
-    in-time : (n : ℕ) (j : Job) → Finishes (timing speeds ts) book n j → finish (timing speeds ts) book n ≤ deadline (timing speeds ts) j
-    in-time n j f = within n .jumps .deadlines j (f .was-open)
+      -- and by its deadline
+      in-time : (n : ℕ) (j : Job) → Finishes τ book n j → finish τ book n ≤ deadline τ j
+      in-time n j f = within n .jumps .deadlines j (f .was-open)
 
-    -- what is closed, some pass has finished: nothing is closed at the start, and a pass closes no job that has not arrived
-    finished : (n clock : ℕ) (j : Job) → Arrived (timing speeds ts) clock j → In j (book n .closed) → FinishedWithin (timing speeds ts) book n j
-    finished zero clock j q m = absurd (subst (In j) (ordered-closed (unopenedBook ts) first) m)
-    finished (suc n) clock j q m =
-        elim (member j (book n .closed)) [
-          | yes before ↦ let found = finished n clock j q before in (found .0, (omega (arith, found .1 .0), found .1 .1))
-          | no unclosed ↦ (n, (omega arith, record { was-open = record { arrived = arrived unclosed; unclosed = unclosed }; is-closed = m }))
-        ]
-      where
-        arrived : (In j (book n .closed) → ⊥) → Arrived (timing speeds ts) (book n .clock) j
-        arrived unclosed = ⊎-elim (λ before. absurd (unclosed before)) (λ e. record {
-          task = q .task;
-          arrival = subst (λ (k : Job). k .arrival ≤ book n .clock) (sym e) (div-mul-le-self (book n .clock) (timing speeds ts .period (book n .task)));
-          multiple = q .multiple;
-        }) (closes speeds ts (book n) (answerAt answers n .pass) j (answerAt answers n .reply) (subst (λ (b : DispatcherBook). In j (b .closed)) (next n) m))
+      -- what is closed, some pass has finished: nothing is closed at the start, and a pass closes no job that has not arrived
+      finished : (n clock : ℕ) (j : Job) → Arrived τ clock j → In j (book n .closed) → FinishedWithin τ book n j
+      finished zero clock j q m = absurd (subst (In j) (ordered-closed (unopenedBook ts) first) m)
+      finished (suc n) clock j q m =
+          elim (member j (book n .closed)) [
+            | yes before ↦ let found = finished n clock j q before in (found .0, (omega (arith, found .1 .0), found .1 .1))
+            | no unclosed ↦ (n, (omega arith, record { was-open = record { arrived = arrived unclosed; unclosed = unclosed }; is-closed = m }))
+          ]
+        where
+          arrived : (In j (book n .closed) → ⊥) → Arrived τ (book n .clock) j
+          arrived unclosed = ⊎-elim (λ before. absurd (unclosed before)) (λ e. record {
+            task = q .task;
+            arrival = subst (λ (k : Job). k .arrival ≤ book n .clock) (sym e) (div-mul-le-self (book n .clock) (τ .period (book n .task)));
+            multiple = q .multiple;
+          }) (closes (book n) (answerAt answers n .pass) j (answerAt answers n .reply) (subst (λ (b : DispatcherBook). In j (b .closed)) (next n) m))
 
-    -- the valve job of an arrival, at any clock that has come to it, and the next one
-    abbrev P : ℕ
-    P = timing speeds ts .period valveTask
+      -- the valve job of an arrival, at any clock that has come to it, and the next one
+      abbrev P : ℕ
+      P = τ .period valveTask
 
-    at-clock : {a clock : ℕ} → Arrived (timing speeds ts) clock (valveJob a) → (t : ℕ) → a ≤ t → Arrived (timing speeds ts) t (valveJob a)
-    at-clock q t h = record { task = q .task; arrival = h; multiple = q .multiple }
+      at-clock : {a clock : ℕ} → Arrived τ clock (valveJob a) → (t : ℕ) → a ≤ t → Arrived τ t (valveJob a)
+      at-clock q t h = record { task = q .task; arrival = h; multiple = q .multiple }
 
-    next-job : {a clock : ℕ} → Arrived (timing speeds ts) clock (valveJob a) → (t : ℕ) → a + P ≤ t → Arrived (timing speeds ts) t (valveJob (a + P))
-    next-job {a} q t h = record { task = q .task; arrival = h; multiple = add-mod-right a P ∙ q .multiple }
+      next-job : {a clock : ℕ} → Arrived τ clock (valveJob a) → (t : ℕ) → a + P ≤ t → Arrived τ t (valveJob (a + P))
+      next-job {a} q t h = record { task = q .task; arrival = h; multiple = add-mod-right a P ∙ q .multiple }
 
-    pub refresh-apart : RefreshApart (timing speeds ts) book
-    refresh-apart a m n f g =
-        let f-later = later m (valveJob a) f in
-        let f-in-time = in-time m (valveJob a) f in
-        let g-later = later n (valveJob (a + P)) g in
-        let g-in-time = in-time n (valveJob (a + P)) g in
-        (omega arith, omega arith)
+      pub refresh-apart : RefreshApart τ book
+      refresh-apart a m n f g =
+          let f-later = later m (valveJob a) f in
+          let f-in-time = in-time m (valveJob a) f in
+          let g-later = later n (valveJob (a + P)) g in
+          let g-in-time = in-time n (valveJob (a + P)) g in
+          (omega arith, omega arith)
 
-    pub refresh-goes-on : RefreshGoesOn (timing speeds ts) book
-    refresh-goes-on a n q h =
-        let clock : ℕ = book n .clock in (
-          finished n a (valveJob a) q (on-time n .actual-closed (valveJob a) (at-clock q clock (omega arith)) (omega arith)),
-          finished n (a + P) (valveJob (a + P)) (next-job q (a + P) (omega arith))
-              (on-time n .actual-closed (valveJob (a + P)) (next-job q clock (omega arith)) (omega arith)),
-        )
+      pub refresh-goes-on : RefreshGoesOn τ book
+      refresh-goes-on a n q h =
+          let clock : ℕ = book n .clock in (
+            finished n a (valveJob a) q (on-time n .actual-closed (valveJob a) (at-clock q clock (omega arith)) (omega arith)),
+            finished n (a + P) (valveJob (a + P)) (next-job q (a + P) (omega arith))
+                (on-time n .actual-closed (valveJob (a + P)) (next-job q clock (omega arith)) (omega arith)),
+          )
 
-    pub refresh-age : RefreshAge (timing speeds ts) book
-    refresh-age a m n f unclosed =
-        let f-later = later m (valveJob a) f in
-        let f-in-time = in-time m (valveJob a) f in
-        let q = f .was-open .arrived in
-        elim (decLe (a + 2 * P) (book n .clock)) [
-          | yes h ↦ absurd (unclosed (on-time n .actual-closed (valveJob (a + P)) (next-job q (book n .clock) (omega arith)) (omega arith)))
-          | no h ↦ omega arith
-        ]
+      pub refresh-age : RefreshAge τ book
+      refresh-age a m n f unclosed =
+          let f-later = later m (valveJob a) f in
+          let f-in-time = in-time m (valveJob a) f in
+          let q = f .was-open .arrived in
+          elim (decLe (a + 2 * P) (book n .clock)) [
+            | yes h ↦ absurd (unclosed (on-time n .actual-closed (valveJob (a + P)) (next-job q (book n .clock) (omega arith)) (omega arith)))
+            | no h ↦ omega arith
+          ]
 
 -- of a played run: what playing promises of the number that it returned and of those that it left gives all three
 module _ (levels block : List ℕ) (first : ℕ) (passes : List Pass) (replies : List ℕ) where

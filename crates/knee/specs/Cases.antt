@@ -8,8 +8,8 @@ use lib.IntN.{ℤ, pos, negℤ}
 use Rattle.arith.specs.Need.{need}
 use Rattle.arith.specs.Divisor.{gcd, lcm}
 use Rattle.plan.specs.Times.{timeOf, worn}
-use Rattle.plan.specs.LevelBlocks.{levelBlock}
-use Rattle.plan.specs.Blocks.{planBlock}
+use Rattle.plan.specs.LevelBlocks.{levelBlock, speedsIn}
+use Rattle.plan.specs.Blocks.{planBlock, tasksIn}
 use Rattle.schedule.specs.PlainSchedule.{Timing, moreUrgent}
 use Rattle.reclaiming.specs.declared.Reply.the-variants as reply
 use Rattle.reclaiming.specs.Allotments.{timing}
@@ -51,7 +51,7 @@ abbrev slowReplies : List ℕ
 slowReplies = map replyNumber (reply.Idle 1 ∷ reply.Run 0 0 2 ∷ reply.Run 0 0 2 ∷ [])
 
 abbrev slowTiming : Timing
-slowTiming = timing (1 ∷ []) (task 2 2 ∷ [])
+slowTiming = timing (speedsIn slowLevel) (tasksIn slowBlock)
 
 abbrev slowBook : ℕ → DispatcherBook
 slowBook = playedActual slowLevel slowBlock slowFirst slowPasses slowReplies

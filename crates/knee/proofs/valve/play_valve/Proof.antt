@@ -1,8 +1,6 @@
 -- `play_valve` meets its contract: what it answers and leaves is what playing does, and the valve's refresh follows from three of the
 -- promises that playing makes of the numbers that it left.
 -- Assumes nothing.
-use Prim.Native.Nat.{ℕ}
-use mathlib.Core.List.{List}
 use borrow.Author.Needs.{needs}
 use lib.ListN.{length}
 use Rattle.reclaiming.specs.Play.{playedPasses}
