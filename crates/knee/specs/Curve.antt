@@ -1,4 +1,4 @@
--- 02, No. 7, "Damping for the knee itself": the damping at an angle, the questions that are put before it is told, and how far it moves.
+-- 02, No. 7, "Damping for the knee itself": the damping at an angle, the question that is put before it is told, and how far it moves.
 -- Assumes nothing.
 use Prim.Native.Nat.{ℕ, zero, suc, _+_, _-_, _*_, _/_, _≤_}
 use mathlib.Core.Path.{_≡_}
