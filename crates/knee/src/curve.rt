@@ -16,7 +16,7 @@ const CURVE: [u8; 1301] = [
     12,
     12,
     12,
-    // 1 degrees
+    // 1 degree
     12,
     12,
     12,
