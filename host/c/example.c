@@ -5,7 +5,8 @@
  * It packs the speeds of its board and a plan of three tasks (the valve, the angle, the gait), asks
  * whether "the angle before the valve" is a good pair for it, and starts the plan with that pair. Then
  * it does what the orders say through two hyperperiods. A valve job reads the angle that was written
- * last, looks its damping up, and sets the valve. The listing is like the bench program's, with the
+ * last, looks its damping up, and sets the valve; as the valve's coil hums at low levels, its task has a
+ * floor. The listing is like the bench program's, with the
  * level block in front, what each valve job does in between, and at the end the queue and how many ticks
  * there were at most between the ends of two valve jobs. */
 
@@ -24,13 +25,14 @@ enum { VALVE = KILMSTRA_VALVE_TASK, ANGLE, GAIT, TASKS };
 static const uint32_t speeds[LEVELS] = {13, 27, 41, 55, 69, 83, 111};
 
 /* The plan: what each task has, number by number. The angle's job begins with a conversion in the
- * sensor, which takes a tick however fast the processor is. */
-enum { PERIOD, WORST, FIXED, NUMBERS };
+ * sensor, which takes a tick however fast the processor is. Below level 4 the valve's coil hums, so that is
+ * its floor: with time to spare its job runs there, where level 3 would do, and not lower. */
+enum { PERIOD, WORST, FIXED, FLOOR, NUMBERS };
 
 static const uint32_t plan[NUMBERS * TASKS] = {
-    10, 300, 0, /* the valve */
-    5, 40, 1,   /* the angle */
-    30, 600, 0, /* the gait */
+    10, 150, 0, 4, /* the valve */
+    5, 40, 1, 0,   /* the angle */
+    30, 700, 0, 0, /* the gait */
 };
 
 /* The pairs, the earlier task first: the valve's job reads what the angle's wrote. */
@@ -106,6 +108,15 @@ static void check_angle(void)
     }
 }
 
+/* A coil that hums is what the floor is to rule out. */
+static void check_level(unsigned task, unsigned level)
+{
+    if (level < plan[NUMBERS * task + FLOOR]) {
+        printf("task %u is run at level %u, below its floor\n", task, level);
+        exit(1);
+    }
+}
+
 /* Where there is no damping for the angle, the last one stays. */
 static void set_valve(void)
 {
@@ -135,6 +146,7 @@ static uint32_t run_job(unsigned task, unsigned level, uint32_t hold, bool *fini
     if (task == VALVE) {
         check_angle();
     }
+    check_level(task, level);
     uint32_t speed = speeds[level];
     uint32_t needed = fixed[task] + (work[task] + speed - 1) / speed;
     *finished = needed <= hold;

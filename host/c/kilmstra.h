@@ -16,10 +16,16 @@
  * left divided by the speed, rounded up, and every order, hold and question counts with that time. So
  * the worst case, which is in units of work, leaves the fixed ticks out.
  *
- * An order names the lowest level at which the job ends within the ticks that it is allowed: those
- * that the plain schedule has left for it and for all more urgent jobs. A job that is the only open
- * one is allowed at least the ticks to the next arrival. So it may end after its plain job, but no
- * later than the first arrival after that, and every deadline is met all the same.
+ * A task may have a floor: the lowest level that its jobs are ever run at, such as the one below which a
+ * valve's coil hums. It is the number of a level that is loaded, 0 to their count less 1, and 0 is no
+ * floor at all. It may be above the nominal level, and is obeyed there too. Such a floor changes nothing
+ * but the levels of orders: whether a plan is accepted, its nominal level and the plain schedule are the
+ * same with it and without it, and so is all that is promised of when jobs end.
+ *
+ * An order names the lowest level, from the task's floor on, at which the job ends within the ticks that
+ * it is allowed: those that the plain schedule has left for it and for all more urgent jobs. A job that
+ * is the only open one is allowed at least the ticks to the next arrival. So it may end after its plain
+ * job, but no later than the first arrival after that, and every deadline is met all the same.
  *
  * A task may read what another wrote, as the valve does with the angle. A list of pairs says so when a
  * plan is started: up to 16 pairs, each of two bytes, the number of the earlier task (the angle) and
@@ -39,6 +45,14 @@
  * lie at most 2 * P - 1 ticks, whatever passes are told, and until the next one ends, the last one's
  * end is at most 2 * P - 2 ticks ago. Once the clock has come to 2 * P ticks after a job's arrival, that
  * job and the next have ended.
+ *
+ * Coming from a header in which a task has no floor: kilmstra_plan_judge and kilmstra_plan_write now take
+ * four numbers a task instead of three, and struct kilmstra_task has a fourth field. Hand a 0 over for each
+ * task, and the count of numbers that goes with it; set the new field to 0, and build whatever uses the
+ * struct anew, as it has 16 bytes instead of 12. Three numbers a task still mean the same for a plan of one
+ * task, whose floor then is not there and so 0. For two tasks they are read as something else, which most
+ * often is refused with 6 or 24 but may be another plan; for more they are refused with 6. Blocks and states
+ * of plans without floors, and all other calls, stay as they were.
  *
  * What holds for every call:
  * - It answers with one number, a reply. The functions at the end of this file take it apart.
@@ -99,10 +113,12 @@ enum kilmstra_refusal {
     KILMSTRA_WRONG_EDITION = 2,       /* the edition is not 1 or 2 */
     KILMSTRA_WRONG_COUNT = 3,         /* there are not 1 to 16 tasks */
     KILMSTRA_WRONG_LENGTH = 4,        /* the plan block's length is not its edition's and count's */
-    KILMSTRA_CLOSING_BITS = 5,        /* bits after the last task, or spare bits of a task, are set */
+    KILMSTRA_CLOSING_BITS = 5,        /* bits after the last task are set */
     KILMSTRA_OUT_OF_RANGE = 6,        /* a period not 1 to 65,535, a worst case not 1 to 1,048,575,
                                          fixed ticks above 255 */
-    KILMSTRA_NO_ADDITION = 21,        /* a plan block of edition 2 in which no task has fixed ticks */
+    KILMSTRA_NO_ADDITION = 21,        /* a plan block of edition 2 in which no task has fixed ticks or a
+                                         floor */
+    KILMSTRA_WRONG_FLOOR = 24,        /* a floor that is not the number of a loaded level */
     KILMSTRA_LONG_HYPERPERIOD = 7,    /* the least common multiple of all periods is over 1,000,000 */
     KILMSTRA_OVERLOAD = 8,            /* the plan is too much for the highest level */
     KILMSTRA_WRONG_PAIRS = 22,        /* more than 16 pairs, an odd byte, or a pair that is not good */
@@ -118,18 +134,19 @@ enum kilmstra_refusal {
     KILMSTRA_WRONG_ANGLE = 23         /* the damping alone: the angle is not -50 to 1,300 */
 };
 
-/* A task in a list: its period in ticks, its worst case in units of work, and its fixed ticks, 0 to
- * 255. */
+/* A task in a list: its period in ticks, its worst case in units of work, its fixed ticks, 0 to 255, and
+ * its floor, the number of a level. */
 struct kilmstra_task {
     uint32_t period;
     uint32_t worst;
     uint32_t fixed;
+    uint32_t floor;
 };
 
 /* Starts a plan, with its list of pairs, over the speeds of a level block at tick 0, where a job of
  * every task arrives, and answers with the first order.
  * Writes the first 221 bytes of state; bytes past them stay as they were.
- * Refuses with 18 to 20, then with 1 to 6, 21, 7, 8, as reading the two blocks does, then with 22 if
+ * Refuses with 18 to 20, then with 1 to 6, 21, 24, 7, 8, as reading the two blocks does, then with 22 if
  * the list is not good, then with 9 if state has fewer than 221 bytes. */
 uint64_t kilmstra_start(const uint8_t *levels, uint64_t levels_len,
                         const uint8_t *block, uint64_t block_len,
@@ -174,38 +191,40 @@ uint64_t kilmstra_levels_read(const uint8_t *levels, uint64_t levels_len);
 
 /* Judges a list of tasks over the speeds of a level block and answers with the nominal level and the
  * hyperperiod. Writes nothing.
- * Refuses with 18 to 20, then with 3, 6, 7, 8. */
+ * Refuses with 18 to 20, then with 3, 6, 24, 7, 8. */
 uint64_t kilmstra_judge_list(const uint8_t *levels, uint64_t levels_len,
                              const struct kilmstra_task *tasks, uint64_t count);
 
 /* Judges a plan of so many tasks over the speeds of a level block and answers with the nominal level
- * and the hyperperiod. The numbers are three for each task in turn, its period, its worst case and its
- * fixed ticks; one that is not there is 0, and one past the count is not looked at. Writes nothing.
- * Refuses with 18 to 20, then with 3, 6, 7, 8. */
+ * and the hyperperiod. The numbers are four for each task in turn, its period, its worst case, its fixed
+ * ticks and its floor; one that is not there is 0, and one past the count is not looked at. Writes
+ * nothing.
+ * Refuses with 18 to 20, then with 3, 6, 24, 7, 8. */
 uint64_t kilmstra_plan_judge(const uint8_t *levels, uint64_t levels_len,
                              uint64_t count, const uint32_t *numbers, uint64_t numbers_len);
 
 /* Reads a plan block over the speeds of a level block and answers with the nominal level and the
  * hyperperiod. Writes nothing.
- * Refuses with 18 to 20, then with 1 to 6, 21, 7, 8. */
+ * Refuses with 18 to 20, then with 1 to 6, 21, 24, 7, 8. */
 uint64_t kilmstra_plan_read(const uint8_t *levels, uint64_t levels_len,
                             const uint8_t *block, uint64_t block_len);
 
 /* Says, before a plan is started, whether a list of pairs is good for it, and answers with the count
  * of the pairs. What is accepted here, starting accepts for every state of 221 bytes or more; what is
  * refused here, starting refuses with the same number. Writes nothing.
- * Refuses with 18 to 20, then with 1 to 6, 21, 7, 8, as reading the two blocks does, then with 22 if
+ * Refuses with 18 to 20, then with 1 to 6, 21, 24, 7, 8, as reading the two blocks does, then with 22 if
  * the list is not good. */
 uint64_t kilmstra_pairs(const uint8_t *levels, uint64_t levels_len,
                         const uint8_t *block, uint64_t block_len,
                         const uint8_t *pairs, uint64_t pairs_len);
 
 /* Writes the block of a plan, which is given as for judging, and answers with the count of bytes.
- * Where no task has fixed ticks, the block is of edition 1: 6 bytes for one task, 74 for sixteen. Else
- * it is of edition 2: 7 bytes for one task, 96 for sixteen; a library that has edition 1 alone refuses
- * to read it with 2. The speeds are not in it: they only say whether the plan is accepted.
+ * Where no task has fixed ticks or a floor, the block is of edition 1: 6 bytes for one task, 74 for
+ * sixteen. Else it is of edition 2: 7 bytes for one task, 96 for sixteen; a library that has edition 1 alone
+ * refuses to read it with 2, and one that has no floors refuses one with floors with 5. The speeds are not
+ * in it: they only say whether the plan is accepted.
  * Leaves the bytes of buffer past those written as they were.
- * Refuses with 18 to 20, then with 3, 6, 7, 8, then with 9 if the block does not fit. */
+ * Refuses with 18 to 20, then with 3, 6, 24, 7, 8, then with 9 if the block does not fit. */
 uint64_t kilmstra_plan_write(const uint8_t *levels, uint64_t levels_len,
                              uint64_t count, const uint32_t *numbers, uint64_t numbers_len,
                              uint8_t *buffer, uint64_t buffer_len);
@@ -213,7 +232,7 @@ uint64_t kilmstra_plan_write(const uint8_t *levels, uint64_t levels_len,
 /* Reads a plan block, as kilmstra_plan_read does, writes its plan again, which gives the same bytes,
  * and answers with their count.
  * Leaves the bytes of buffer past those written as they were.
- * Refuses with 18 to 20, then with 1 to 6, 21, 7, 8, then with 9 if the block does not fit. */
+ * Refuses with 18 to 20, then with 1 to 6, 21, 24, 7, 8, then with 9 if the block does not fit. */
 uint64_t kilmstra_plan_copy(const uint8_t *levels, uint64_t levels_len,
                             const uint8_t *block, uint64_t block_len,
                             uint8_t *buffer, uint64_t buffer_len);

@@ -16,12 +16,12 @@ static void print_base_speeds(void)
     const uint8_t *levels = kilmstra_base_levels;
     uint64_t length = sizeof kilmstra_base_levels;
     printf("%u levels:", kilmstra_level_count(kilmstra_levels_read(levels, length)));
-    uint32_t task[3] = {1, 1, 0};
-    uint64_t reply = kilmstra_plan_judge(levels, length, 1, task, 3);
+    uint32_t task[4] = {1, 1, 0, 0};
+    uint64_t reply = kilmstra_plan_judge(levels, length, 1, task, 4);
     while (!kilmstra_is_refused(reply)) {
         unsigned level = kilmstra_nominal_level(reply);
         uint32_t worst = task[1]++;
-        reply = kilmstra_plan_judge(levels, length, 1, task, 3);
+        reply = kilmstra_plan_judge(levels, length, 1, task, 4);
         if (kilmstra_is_refused(reply) || kilmstra_nominal_level(reply) != level) {
             printf(" %lu", (unsigned long)worst);
         }
@@ -41,11 +41,13 @@ static void print_judged(const char *what, uint64_t count)
     }
 }
 
+/* A task without a floor. */
 static void set(size_t place, uint32_t period, uint32_t worst, uint32_t fixed)
 {
     tasks[place].period = period;
     tasks[place].worst = worst;
     tasks[place].fixed = fixed;
+    tasks[place].floor = 0;
 }
 
 /* 255 fixed ticks leave one tick of 256 for the work, at whichever level. */
@@ -59,6 +61,17 @@ static void print_fixed_ticks(void)
     print_judged("with no tick for the work", 1);
     set(0, 65535, 10, 256);
     print_judged("one fixed tick too many", 1);
+}
+
+/* A floor is the number of a level, and the header's block has eight of them. It is nothing to the level
+ * that is told: that is the lowest which admits the plan, and a floor may be above it. */
+static void print_floors(void)
+{
+    set(0, 40, 300, 0);
+    tasks[0].floor = KILMSTRA_LEVELS - 1;
+    print_judged("the highest floor", 1);
+    tasks[0].floor = KILMSTRA_LEVELS;
+    print_judged("a floor that is no level", 1);
 }
 
 int main(void)
@@ -92,5 +105,6 @@ int main(void)
     print_judged("sixteen tasks", 16);
     print_judged("seventeen tasks", 17);
     print_fixed_ticks();
+    print_floors();
     return 0;
 }

@@ -9,8 +9,9 @@
 
 enum { TASKS = 3, UNTOUCHED = 0xa5 };
 
-/* A period, a worst case and fixed ticks for each task. */
-static const uint32_t plan[3 * TASKS] = {10, 400, 0, 10, 400, 0, 30, 600, 0};
+/* A period, a worst case, fixed ticks and a floor for each task. */
+enum { NUMBERS = 4 };
+static const uint32_t plan[NUMBERS * TASKS] = {10, 400, 0, 0, 10, 400, 0, 0, 30, 600, 0, 0};
 
 static uint8_t block[KILMSTRA_BLOCK_BYTES];
 static uint64_t block_length;
@@ -21,7 +22,7 @@ static uint8_t state[KILMSTRA_STATE_BYTES];
 static void pack_plan(void)
 {
     uint64_t reply = kilmstra_plan_write(kilmstra_base_levels, sizeof kilmstra_base_levels,
-                                         TASKS, plan, 3 * TASKS, block, sizeof block);
+                                         TASKS, plan, NUMBERS * TASKS, block, sizeof block);
     if (kilmstra_is_refused(reply)) {
         exit(1);
     }

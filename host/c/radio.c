@@ -23,12 +23,12 @@ enum { BURST_EVERY = 6, ASK_AGAIN = 2, MOST_QUEUED = 5 };
 
 /* The plan: what each task has, number by number. At the fastest of 01's levels, which is the nominal
  * one, the jobs take 3, 5 and 9 ticks at most, 31 of the 40 of a hyperperiod. */
-enum { PERIOD, WORST, FIXED, NUMBERS };
+enum { PERIOD, WORST, FIXED, FLOOR, NUMBERS };
 
 static const uint32_t plan[NUMBERS * TASKS] = {
-    10, 300, 0, /* the valve */
-    20, 500, 0, /* the angle */
-    40, 900, 0, /* the gait */
+    10, 300, 0, 0, /* the valve */
+    20, 500, 0, 0, /* the angle */
+    40, 900, 0, 0, /* the gait */
 };
 
 /* The units of work that a processor with 01's levels does in a tick. */

@@ -17,10 +17,10 @@ static void fail_safe(unsigned refusal);
 /* The lines of the README. */
 #include "readme.inc"
 
-enum { TASKS = 3, MOST_ORDERS = 20 };
+enum { TASKS = 3, NUMBERS = 4, MOST_ORDERS = 20 };
 
-/* A period, a worst case and fixed ticks for each task. */
-static const uint32_t plan[3 * TASKS] = {10, 400, 0, 10, 400, 0, 30, 600, 0};
+/* A period, a worst case, fixed ticks and a floor for each task. */
+static const uint32_t plan[NUMBERS * TASKS] = {10, 400, 0, 0, 10, 400, 0, 0, 30, 600, 0, 0};
 
 /* The first task before the second, and turned round. */
 static const uint8_t pairs[2] = {0, 1};
@@ -74,7 +74,7 @@ int main(void)
     uint64_t size = sizeof kilmstra_base_levels;
     uint8_t block[KILMSTRA_BLOCK_BYTES];
     uint64_t written =
-        kilmstra_plan_write(levels, size, TASKS, plan, 3 * TASKS, block, sizeof block);
+        kilmstra_plan_write(levels, size, TASKS, plan, NUMBERS * TASKS, block, sizeof block);
     if (kilmstra_is_refused(written)) {
         return 1;
     }

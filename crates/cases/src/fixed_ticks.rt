@@ -1,24 +1,10 @@
 // Runs cases of fixed ticks (document 02, No. 2), with 01's speeds loaded, and prints what each call gives.
 use crate::telling::tell_order;
-use crate::telling::tell_refusal;
+use crate::telling::tell_plan;
 use dispatcher_calls::kilmstra_pass;
 use dispatcher_calls::kilmstra_start;
 use plan_calls::kilmstra_plan_read;
 use state::STATE_LENGTH;
-
-// A line of a plan block: its nominal level and hyperperiod, or a refusal.
-fn tell_plan(what: &[u8], answer: u64) {
-    io::write_all(1, what);
-    if answer < 256 {
-        tell_refusal(answer);
-        return;
-    }
-    io::write_all(1, b": level ");
-    io::print_decimal(1, answer / 256 % 256);
-    io::write_all(1, b", hyperperiod ");
-    io::print_decimal(1, answer / 65536);
-    io::write_all(1, b"\n");
-}
 
 // One task of period 40 and worst case 300, with 3 fixed ticks and damaged; 255 fixed ticks; a plan that only one fixed tick makes too much.
 fn the_editions(levels: &[u8]) {
@@ -26,10 +12,11 @@ fn the_editions(levels: &[u8]) {
     tell_plan(b"edition 2", kilmstra_plan_read(levels, &sensor));
     let third = [48u8, 128, 20, 0, 9, 96, 24];
     tell_plan(b"edition 3", kilmstra_plan_read(levels, &third));
-    let spare = [32u8, 128, 20, 0, 9, 96, 25];
-    tell_plan(b"a spare bit", kilmstra_plan_read(levels, &spare));
     let zero = [32u8, 128, 20, 0, 9, 96, 0];
-    tell_plan(b"no fixed tick", kilmstra_plan_read(levels, &zero));
+    tell_plan(
+        b"no fixed tick and no floor",
+        kilmstra_plan_read(levels, &zero),
+    );
     let most = [32u8, 128, 128, 0, 0, 87, 248];
     tell_plan(b"255 fixed ticks", kilmstra_plan_read(levels, &most));
     let over = [

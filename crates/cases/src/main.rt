@@ -1,6 +1,7 @@
 // Runs the cases that are not proved, and prints what each call gives.
 mod base;
 mod fixed_ticks;
+mod floors;
 mod level_blocks;
 mod lone_jobs;
 mod paired_tasks;
@@ -14,4 +15,5 @@ fn main() {
     lone_jobs::run();
     paired_tasks::run();
     totals::run();
+    floors::run();
 }

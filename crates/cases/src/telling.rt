@@ -24,3 +24,17 @@ pub fn tell_order(what: &[u8], answer: u64) {
     io::print_decimal(1, answer / 4294967296);
     io::write_all(1, b"\n");
 }
+
+// A line of a plan: its nominal level and hyperperiod, or a refusal.
+pub fn tell_plan(what: &[u8], answer: u64) {
+    io::write_all(1, what);
+    if answer < 256 {
+        tell_refusal(answer);
+        return;
+    }
+    io::write_all(1, b": level ");
+    io::print_decimal(1, answer / 256 % 256);
+    io::write_all(1, b", hyperperiod ");
+    io::print_decimal(1, answer / 65536);
+    io::write_all(1, b"\n");
+}

@@ -12,7 +12,7 @@ ghost use Rattle.reclaiming.specs.Replies.{isOrder};
 ghost use Rattle.reclaiming.specs.Calls.{startReply};
 ghost use Rattle.reclaiming.specs.Numbers.{replyNumber};
 ghost use Rattle.reclaiming.specs.Play.{playedPasses, playedState, playedReplies, PlayedOnTime, PlayedInTime, PlayedMostUrgent, PlayedPairsKept, PlayedTotalTold};
-ghost use Rattle.reclaiming.specs.Play.{PlayedByBooks, PlayedEarliness, PlayedAhead, PlayedWithin, PlayedPlainly};
+ghost use Rattle.reclaiming.specs.Play.{PlayedByBooks, PlayedEarliness, PlayedAhead, PlayedWithin, PlayedPlainly, PlayedAboveFloor};
 ghost use Rattle.reclaiming.specs.Play.{playedShown, playedQueue, PlayedQueueShown};
 
 // Whether a reply is an order, and no refusal.
@@ -52,6 +52,7 @@ pub fn play(
     ensures { λ r. ⌜ PlayedAhead (now (levels .entry)) (now (block .entry)) r (playedPasses (now (passes .entry)) (length (now (replies .entry)))) (now (replies .exit)) ⌝ }
     ensures { λ r. ⌜ PlayedWithin (now (levels .entry)) (now (block .entry)) r (playedPasses (now (passes .entry)) (length (now (replies .entry)))) (now (replies .exit)) ⌝ }
     ensures { λ r. ⌜ PlayedPlainly (now (levels .entry)) (now (block .entry)) r (playedPasses (now (passes .entry)) (length (now (replies .entry)))) (now (replies .exit)) ⌝ }
+    ensures { λ r. ⌜ PlayedAboveFloor (now (levels .entry)) (now (block .entry)) r (playedPasses (now (passes .entry)) (length (now (replies .entry)))) (now (replies .exit)) ⌝ }
 {
     let first = start(levels, block, pairs, state);
     if !is_order(first) {

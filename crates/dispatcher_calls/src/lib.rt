@@ -12,7 +12,7 @@ ghost use Rattle.plan.specs.Numbers.{writtenNumber};
 ghost use Rattle.reclaiming.specs.Calls.{startReply, startBuffer, passReply, passBytes, showReply, showBuffer, queuedReply};
 ghost use Rattle.reclaiming.specs.Numbers.{replyNumber, queuedNumber, isYes};
 
-// Starts a plan's block with its list of pairs over a level block into a state of 221 bytes: 18 to 20, 1 to 9, 21 or 22 is a refusal's
+// Starts a plan's block with its list of pairs over a level block into a state of 221 bytes: 18 to 20, 1 to 9, 21, 22 or 24 is a refusal's
 // number; else the order.
 #[no_mangle]
 pub extern "C" fn kilmstra_start(levels: &[u8], block: &[u8], pairs: &[u8], state: &mut [u8]) -> u64

@@ -1,6 +1,6 @@
-// Whether a plan is admitted: after its ranges and its hyperperiod, its nominal level.
+// Whether a plan is admitted: after its ranges, its floors and its hyperperiod, its nominal level.
 use crate::ranges::hyperperiod_of;
-use crate::ranges::in_range;
+use crate::ranges::ranges_number;
 use plan::Plan;
 use plan::Verdict;
 ghost use mathlib.Core.Path.{_≡_};
@@ -92,15 +92,16 @@ fn nominal_of(speeds: &[u32; 8], levels: usize, p: Plan, span: u32) -> usize
     level
 }
 
-// The questions 6, 7 and 8, in this order.
+// The questions 6, 24, 7 and 8, in this order.
 pub fn verdict_of(speeds: &[u32; 8], levels: usize, p: Plan) -> Verdict
     requires { ⌜ (p .count ≤ 16) × Table (now speeds) levels ⌝ }
     ensures { λ r. ⌜ r ≡ answered
         (firstNo (taskQuestions (loaded (now (speeds .entry)) levels) (tasksOf p)))
         (loaded (now (speeds .entry)) levels) (tasksOf p) ⌝ }
 {
-    if !in_range(p) {
-        return Verdict::Refused(6);
+    let number = ranges_number(p, levels);
+    if number != 0 {
+        return Verdict::Refused(number);
     }
     let span = hyperperiod_of(p);
     if span > 1000000 {

@@ -16,7 +16,7 @@ ghost use Rattle.plan.specs.Blocks.{tasksOf};
 ghost use Rattle.plan.specs.Answers.{judgedBy, judgedPlan};
 ghost use Rattle.levels.specs.Code.{loaded, Table};
 
-// A plan judged over a table of speeds: the questions 3, 6, 7, 8.
+// A plan judged over a table of speeds: the questions 3, 6, 24, 7, 8.
 fn judge_over(speeds: &[u32; 8], levels: usize, p: Plan) -> Judged
     requires { ⌜ Table (now speeds) levels ⌝ }
     ensures { λ r. ⌜ r ≡ judgedBy
@@ -33,7 +33,7 @@ fn judge_over(speeds: &[u32; 8], levels: usize, p: Plan) -> Judged
     judged_with(speeds, levels, p)
 }
 
-// A plan judged over a level block: the questions put to that, then 3, 6, 7, 8.
+// A plan judged over a level block: the questions put to that, then 3, 6, 24, 7, 8.
 pub fn judge(levels: &[u8], p: Plan) -> Judged
     ensures { λ r. ⌜ r ≡ judgedPlan (now (levels .entry)) p ⌝ }
 {

@@ -22,6 +22,7 @@ pub fn empty_plan() -> Plan
             period: 0,
             worst: 0,
             fixed: 0,
+            floor: 0,
         }; 16],
     }
 }

@@ -5,9 +5,8 @@ use mathlib.Core.Path.{_≡_, sym, ap, ap₂, subst, _∙_}
 use mathlib.Core.Bool.{Bool, true, false}
 use mathlib.Core.List.{List}
 use native.Mathlib.Numerals.{add-one}
-use native.Mathlib.Decide.{ℕ-discrete}
 use native.Mathlib.Omega.{arith}
-use borrow.Author.Tests.{leb-true, le-leb, eq-eqb, ne-eqb}
+use borrow.Author.Tests.{leb-true, leb-false, eq-eqb, ne-eqb}
 use lib.Dec.{leb, eqb}
 use lib.ListN.{length, getD}
 use Rattle.arith.specs.Choice.{pick}
@@ -15,15 +14,13 @@ use Rattle.arith.proofs.Tests.{passed, failed, tested}
 use Rattle.plan.specs.declared.Rest.{Rest}
 use Rattle.plan.specs.Times.{timeOf}
 use Rattle.plan.specs.Levels.{Rising, speedOf}
-use Rattle.plan.proofs.TimeLaws.{time-faster}
 use Rattle.levels.specs.Code.{loaded, Table}
 use Rattle.levels.proofs.Tables.{levels-are, speed-is}
-use Rattle.arith.proofs.Searches.{first-le, first-after}
 use Rattle.schedule.specs.PlainSchedule.{Timing, Pending}
 use Rattle.orders.specs.declared.Choice.{Choice}
 use Rattle.reclaiming.specs.declared.Reply.the-variants as reply
 use Rattle.reclaiming.specs.Orders.{nextArrival, allowance, lowestLevel, runningTime, holdOf, orderFor}
-use Rattle.reclaiming.specs.StateBlock.{State, remainingOf, restIn, restOf, decode, stateCount, places}
+use Rattle.reclaiming.specs.StateBlock.{State, floorOf, remainingOf, restIn, restOf, decode, stateCount, places}
 use Rattle.reclaiming.specs.States.{putOrder, viewOf, takeOrder}
 use Rattle.arith.specs.Ranges.{leastTo}
 use Rattle.state.specs.Code.{Holds, entryIn, timingIn}
@@ -31,41 +28,21 @@ use Rattle.urgency.specs.Code.{Keyed, noKey, deadlineIn}
 use Rattle.orders.specs.Code.{choiceOf, runOf, chosenIn, holdBy, orderOf, Runnable, Enough}
 use Rattle.reclaiming.proofs.Allowances.{allowance-is}
 use Rattle.reclaiming.proofs.Lone.{allowance-least}
+use Rattle.reclaiming.proofs.Lowest.{time-higher, lowest-le, lowest-above}
 use Rattle.state.proofs.BlockLaws.{count-in}
 use Rattle.urgency.proofs.KeyLaws as keys
-use Rattle.urgency.proofs.HeadLaws.{rest-is, Looked, none-open, Head, first-open, told-task}
+use Rattle.urgency.proofs.HeadLaws.{rest-is, Looked, none-open, Head, first-open, told-task, told-floor}
 use Rattle.orders.proofs.lone.LoneLaws.{Read, read-below, read-rest, read-allowed}
 use Rattle.urgency.proofs.OpenJobs.{timing-count}
 
--- the lowest level that meets an allowance is no higher than one that does
-module _ (speeds : List ℕ) (rest : Rest) (allowed : ℕ) where
-  abbrev meets : ℕ → Bool
-  meets speed = leb (timeOf speed rest) allowed
-
-  pub level-most : (level : ℕ) → level < length speeds → timeOf (speedOf speeds level) rest ≤ allowed → lowestLevel speeds rest allowed ≤ level
-  level-most level low h = first-le meets speeds level 0 low (le-leb (timeOf (speedOf speeds level) rest) allowed h)
-
-  -- a level above one that meets it meets it too
-  meets-higher :
-      Rising speeds → (i j : ℕ) → i ≤ j → j < length speeds → meets (speedOf speeds i) ≡ true → meets (speedOf speeds j) ≡ true
-  meets-higher rising i j le h m =
-      elim (ℕ-discrete i j) [
-        | yes e ↦ subst (λ (k : ℕ). meets (speedOf speeds k) ≡ true) e m
-        | no e ↦
-            let r : speedOf speeds i < speedOf speeds j = rising .faster i j (omega arith) h in
-            let f : timeOf (speedOf speeds j) rest ≤ timeOf (speedOf speeds i) rest =
-            time-faster (speedOf speeds i) (speedOf speeds j) rest (rising .positive i (omega arith)) (omega arith) in
-            le-leb (timeOf (speedOf speeds j) rest) allowed
-            (omega (arith, leb-true (timeOf (speedOf speeds i) rest) allowed m))
-      ]
-
 -- a level is tried by its speed
-pub record Tried (held : List ℕ) (levels : ℕ) (rest : Rest) (allowed level : ℕ) (found : Bool) : Type 0 where
+pub record Tried (held : List ℕ) (levels : ℕ) (rest : Rest) (allowed floor level : ℕ) (found : Bool) : Type 0 where
   pub table : Table held levels
+  pub above : floor ≤ level
   pub low : level < levels
   pub found-is : found ≡ leb (timeOf (getD held level 0) rest) allowed
 
-module _ {held : List ℕ} {levels : ℕ} {rest : Rest} {allowed level : ℕ} {found : Bool} (k : Tried held levels rest allowed level found) where
+module _ {held : List ℕ} {levels : ℕ} {rest : Rest} {allowed floor level : ℕ} {found : Bool} (k : Tried held levels rest allowed floor level found) where
   within : level < length (loaded held levels)
   within = omega (arith, k .low, levels-are (k .table))
 
@@ -73,15 +50,17 @@ module _ {held : List ℕ} {levels : ℕ} {rest : Rest} {allowed level : ℕ} {f
   told = ap (λ (x : ℕ). leb (timeOf x rest) allowed) (sym (speed-is (k .table) level (k .low))) ∙ sym (k .found-is)
 
   -- where the ticks are enough, or are not, it bounds the lowest level that will do
-  pub level-high : found ≡ true → lowestLevel (loaded held levels) rest allowed ≤ level
-  level-high e = first-le (meets (loaded held levels) rest allowed) (loaded held levels) level 0 within (told ∙ e)
+  abbrev time : ℕ
+  time = timeOf (speedOf (loaded held levels) level) rest
 
-  pub level-low : found ≡ false → level + 1 ≤ lowestLevel (loaded held levels) rest allowed
+  pub level-high : found ≡ true → lowestLevel (loaded held levels) floor rest allowed ≤ level
+  level-high e = lowest-le (loaded held levels) floor rest allowed level (k .above) within (leb-true time allowed (told ∙ e))
+
+  pub level-low : found ≡ false → level + 1 ≤ lowestLevel (loaded held levels) floor rest allowed
   level-low e =
       rw add-one
-      (first-after (meets (loaded held levels) rest allowed) (loaded held levels) 0
-      (meets-higher (loaded held levels) rest allowed (k .table .rising)) level within
-      (told ∙ e))
+      (lowest-above (loaded held levels) floor rest allowed (k .table .rising) (omega (arith, within, k .above)) level within
+      (leb-false time allowed (told ∙ e)))
 
 -- the hold, by each way out
 module _ (c : Choice) (next : ℕ) where
@@ -111,8 +90,18 @@ pub chosen-none :
     _≡_ {A = Choice} (record { task = 255; level = 0; time = 0 }) (choiceOf speeds (chosenIn speeds b))
 chosen-none {speeds} {b} k e = ap (λ (q : List Pending). choiceOf speeds (takeOrder (decode b) (orderFor speeds (timingIn speeds b) (viewOf (decode b)) q))) (sym (none-open k e))
 
--- one is: a level at which every job can be done in its own ticks meets the allowance, of which they are a part
-pub read-enough :
+-- one is: its floor is a level
+pub read-loaded :
+    {speeds b l : List ℕ} {count best i : ℕ} {rest : Rest} {next allowed floor highest : ℕ} →
+    Read speeds b l count best i rest next allowed →
+    floor ≡ entryIn b i .floor →
+    Enough speeds (decode b) highest →
+    floor < length speeds
+read-loaded {b = b} {i = i} k e enough =
+    omega (arith, told-floor (k .told) e, enough .floors i (omega (arith, read-below k, timing-count b, count-in b)))
+
+-- a level at which every job can be done in its own ticks meets the allowance, of which they are a part
+read-enough :
     {speeds b l : List ℕ} {count best i : ℕ} {rest : Rest} {next allowed highest : ℕ} →
     Read speeds b l count best i rest next allowed →
     Enough speeds (decode b) highest →
@@ -125,13 +114,27 @@ read-enough {speeds} {b} {i = i} {highest = highest} k enough =
     let can : timeOf (speedOf speeds highest) (restOf s i) ≤ remainingOf s i = enough .each i (omega (arith, read-below k, timing-count b, count-in b)) in
     omega (arith, read-allowed k, ap (timeOf (speedOf speeds highest)) (read-rest k))
 
+-- and so does a higher one
+pub enough-higher :
+    {speeds b l : List ℕ} {count best i : ℕ} {rest : Rest} {next allowed highest : ℕ} →
+    Read speeds b l count best i rest next allowed →
+    Rising speeds →
+    Enough speeds (decode b) highest →
+    (top : ℕ) →
+    highest ≤ top →
+    top < length speeds →
+    timeOf (speedOf speeds top) rest ≤ allowed
+enough-higher {speeds} {rest = rest} {highest = highest} k rising enough top le h =
+    omega (arith, read-enough k enough, time-higher speeds rising rest highest top le h)
+
 -- and its level was found
-pub record Picked (speeds b l : List ℕ) (count best i : ℕ) (rest : Rest) (next allowed level : ℕ) : Type 0 where
+pub record Picked (speeds b l : List ℕ) (count best i : ℕ) (rest : Rest) (next allowed floor level : ℕ) : Type 0 where
   pub read : Read speeds b l count best i rest next allowed
-  pub level-is : level ≡ lowestLevel speeds rest allowed
+  pub floor-in : floor ≡ entryIn b i .floor
+  pub level-is : level ≡ lowestLevel speeds floor rest allowed
   pub low : level < 8
 
-module _ {speeds b l : List ℕ} {count best i : ℕ} {rest : Rest} {next allowed level : ℕ} (k : Picked speeds b l count best i rest next allowed level) where
+module _ {speeds b l : List ℕ} {count best i : ℕ} {rest : Rest} {next allowed floor level : ℕ} (k : Picked speeds b l count best i rest next allowed floor level) where
   abbrev s : State
   s = decode b
 
@@ -139,16 +142,19 @@ module _ {speeds b l : List ℕ} {count best i : ℕ} {rest : Rest} {next allowe
   τ = timingIn speeds b
 
   abbrev lowest : ℕ
-  lowest = lowestLevel speeds (restOf s i) (allowance τ (viewOf s) i)
+  lowest = lowestLevel speeds (floorOf s i) (restOf s i) (allowance τ (viewOf s) i)
 
   level-lowest : level ≡ lowest
-  level-lowest = k .level-is ∙ ap₂ (lowestLevel speeds) (read-rest (k .read)) (read-allowed (k .read))
+  level-lowest =
+      k .level-is
+      ∙ ap₂ (lowestLevel speeds floor) (read-rest (k .read)) (read-allowed (k .read))
+      ∙ ap (λ (n : ℕ). lowestLevel speeds n (restOf s i) (allowance τ (viewOf s) i)) (told-floor (k .read .told) (k .floor-in))
 
   order-is : chosenIn speeds b ≡ putOrder s i lowest
   order-is =
       let h : Head speeds b l best i = first-open (k .read .told) in
       ap (λ (q : List Pending). takeOrder s (orderFor speeds τ (viewOf s) q)) (h .queue)
-      ∙ ap (λ (n : ℕ). putOrder s n (lowestLevel speeds (restOf s n) (allowance τ (viewOf s) n))) (h .task)
+      ∙ ap (λ (n : ℕ). putOrder s n (lowestLevel speeds (floorOf s n) (restOf s n) (allowance τ (viewOf s) n))) (h .task)
 
   pub chosen-small : {r : Choice} → r ≡ runOf speeds i level rest → (r .task < 256) × (r .level < 256)
   chosen-small e =

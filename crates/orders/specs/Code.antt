@@ -12,7 +12,7 @@ use Rattle.plan.specs.Levels.{speedOf}
 use Rattle.reclaiming.specs.declared.Reply.{Reply}
 use Rattle.reclaiming.specs.declared.Reply.the-variants as reply
 use Rattle.reclaiming.specs.Orders.{runningTime, holdOf, orderWith}
-use Rattle.reclaiming.specs.StateBlock.{State, remainingOf, restOf, decode}
+use Rattle.reclaiming.specs.StateBlock.{State, floorOf, remainingOf, restOf, decode}
 use Rattle.reclaiming.specs.States.{chosenState, viewOf}
 use Rattle.state.specs.Code.{timingIn}
 use Rattle.orders.specs.declared.Choice.{Choice}
@@ -49,7 +49,8 @@ pub record Runnable (levels : ℕ) (s : State) : Type 0 where
   pub task : (s .task ≡ 255 → ⊥) → s .task < length (s .entries)
   pub level : (s .task ≡ 255 → ⊥) → s .level < levels
 
--- at a level, every job can be done in its plain ticks left
+-- at a level, every job can be done in its plain ticks left; and each floor is a level
 pub record Enough (speeds : List ℕ) (s : State) (highest : ℕ) : Type 0 where
   pub level : highest < length speeds
+  pub floors : (i : ℕ) → i < length (s .entries) → floorOf s i < length speeds
   pub each : (i : ℕ) → i < length (s .entries) → timeOf (speedOf speeds highest) (restOf s i) ≤ remainingOf s i

@@ -10,12 +10,13 @@ use state::PLACES;
 use state::TASK_AT;
 use state::WORK_AT;
 use state::WORK_WIDTH;
+use state::floor_at;
 use state::rest_at;
 use urgency::NO_KEY;
 use urgency::most_urgent;
 use urgency::task_in;
 ghost use mathlib.Core.Path.{_≡_};
-ghost use Prim.Native.Nat.{_<_, _≤_};
+ghost use Prim.Native.Nat.{_<_, _≤_, max};
 ghost use Rattle.plan.specs.Times.{timeOf};
 ghost use Rattle.plan.specs.Levels.{speedOf};
 ghost use Rattle.levels.specs.Code.{loaded, Table};
@@ -32,14 +33,31 @@ pub struct Choice {
     pub time: u32,
 }
 
-// The lowest level at which what is left needs no more than is allowed: at which the ticks that are allowed are enough. At the highest
-// they are, and a faster level needs no more, so the levels up to it are halved.
-fn level_for(speeds: &[u32; 8], levels: usize, rest: Rest, allowed: u32, highest: usize) -> usize
-    requires { ⌜ Table (now speeds) levels × (allowed ≤ 1048560) × (highest < levels) ⌝ }
-    requires { ⌜ timeOf (speedOf (loaded (now speeds) levels) highest) rest ≤ allowed ⌝ }
-    ensures { λ r. ⌜ (r ≡ lowestLevel (loaded (now (speeds .entry)) levels) rest allowed) × (r ≤ highest) ⌝ }
+// The highest level that an order may have: the nominal one, or a higher floor.
+pub fn higher_of(nominal: usize, floor: usize) -> usize
+    ensures { λ r. ⌜ r ≡ max nominal floor ⌝ }
 {
-    let mut low: usize = 0;
+    if nominal < floor {
+        return floor;
+    }
+    nominal
+}
+
+// The lowest level from a floor on at which what is left needs no more than is allowed: at which the ticks that are allowed are enough. At
+// the highest they are, and a faster level needs no more, so the levels from the one to the other are halved.
+fn level_for(
+    speeds: &[u32; 8],
+    levels: usize,
+    rest: Rest,
+    allowed: u32,
+    floor: usize,
+    highest: usize,
+) -> usize
+    requires { ⌜ Table (now speeds) levels × (allowed ≤ 1048560) × (floor ≤ highest) × (highest < levels) ⌝ }
+    requires { ⌜ timeOf (speedOf (loaded (now speeds) levels) highest) rest ≤ allowed ⌝ }
+    ensures { λ r. ⌜ (r ≡ lowestLevel (loaded (now (speeds .entry)) levels) floor rest allowed) × (r ≤ highest) ⌝ }
+{
+    let mut low: usize = floor;
     let mut high: usize = highest;
     while low < high {
         let middle = (low + high) / 2;
@@ -93,7 +111,9 @@ pub(crate) fn chosen(
     let i = task_in(best);
     let rest = rest_at(block, i);
     let allowed = allowance_until(block, keys, count, best, next);
-    let level = level_for(speeds, levels, rest, allowed, highest);
+    let floor = floor_at(block, i);
+    let top = higher_of(highest, floor);
+    let level = level_for(speeds, levels, rest, allowed, floor, top);
     running_order(speeds, levels, i, level, rest)
 }
 

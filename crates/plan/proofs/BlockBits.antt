@@ -4,7 +4,7 @@ use Prim.Native.Nat.{ℕ, zero, suc, _+_, _-_, _*_, _/_, _%_, _^_, _<_, _≤_}
 use mathlib.Core.Path.{_≡_, refl, sym, subst, ap, ap₂, _∙_}
 use mathlib.Core.Bool.{Bool, true, false}
 use mathlib.Core.List.{List, [], _∷_, _++_}
-use native.Mathlib.Nat.{zero-div, not-suc-le-zero, mul-le-mul, mul-le-mul-left, mul-suc}
+use native.Mathlib.Nat.{not-suc-le-zero, mul-le-mul, mul-le-mul-left, mul-suc}
 use native.Mathlib.Omega.{arith}
 use lib.Dec.{eqb}
 use lib.ListN.{length, getD, drop, length-append, List·getD-eq-default}
@@ -24,9 +24,6 @@ use Rattle.plan.specs.Blocks.{widthsBy, taskWidths, taskNumbers, taskWid
 added-are : (second : Bool) (r : ℕ) → 36 ≤ r → r < widthOf (widthsBy second) → pick {A = List ℕ} second (8 ∷ 3 ∷ []) [] ≡ 8 ∷ 3 ∷ []
 added-are true r low high = refl
 added-are false r low high = absurd (omega arith)
-
-zero-bit : (n : ℕ) → 0 / 2 ^ n % 2 ≡ 0
-zero-bit n = ap (λ (x : ℕ). x % 2) (zero-div (2 ^ n))
 
 module _ (edition : ℕ) where
   -- how wide a task is: it has its period and its worst case, and in edition 2 its additions
@@ -155,15 +152,14 @@ module _ (edition : ℕ) where
           36 ≤ r → r < 44 → r < taskWidth edition → getD (planBits edition ts) k 0 ≡ getD ts i noTask .fixed / 2 ^ (43 - r) % 2
       planBits-fixed low high l =
           let t : Task = getD ts i noTask in
-          planBits-added low l ∙ field-bit 8 (t .fixed) (fieldsBits (3 ∷ []) (0 ∷ [])) (r - 36) (omega arith) (omega arith)
+          planBits-added low l ∙ field-bit 8 (t .fixed) (fieldsBits (3 ∷ []) (t .floor ∷ [])) (r - 36) (omega arith) (omega arith)
 
-      pub planBits-spare : 44 ≤ r → r < taskWidth edition → getD (planBits edition ts) k 0 ≡ 0
-      planBits-spare low l =
+      pub planBits-floor : 44 ≤ r → r < taskWidth edition → getD (planBits edition ts) k 0 ≡ getD ts i noTask .floor / 2 ^ (46 - r) % 2
+      planBits-floor low l =
           let t : Task = getD ts i noTask in
           planBits-added (omega arith) l
-          ∙ field-past 8 (t .fixed) (fieldsBits (3 ∷ []) (0 ∷ [])) (r - 36) (omega arith)
-          ∙ field-bit 3 0 [] (r - 36 - 8) (omega (arith, width-most)) refl
-          ∙ zero-bit (3 - suc (r - 36 - 8))
+          ∙ field-past 8 (t .fixed) (fieldsBits (3 ∷ []) (t .floor ∷ [])) (r - 36) (omega arith)
+          ∙ field-bit 3 (t .floor) [] (r - 36 - 8) (omega (arith, width-most)) (omega (arith, width-most))
 
   -- the tasks that bits are read as
   pub length-tasksFrom : (n : ℕ) (bits : List ℕ) → length (tasksFrom edition n bits) ≡ n

@@ -11,15 +11,15 @@ use lib.ListN.{length, getD, drop}
 use Rattle.arith.specs.Choice.{both, every}
 use Rattle.arith.specs.Bits.{unpacked}
 use Rattle.arith.specs.Asking.{firstNo, within}
-use Rattle.arith.proofs.Tests.{both-left, both-right, both-true}
-use Rattle.arith.proofs.ListLaws.{every-at}
+use Rattle.arith.proofs.Tests.{both-left, both-right}
+use Rattle.arith.proofs.ListLaws.{every-at, at-every}
 use Rattle.arith.proofs.QuestionLaws.{within-high, within-low, within-true, Yes, yes-all, replyTo, replied}
 use lib.Seq.{length-take-le}
 use Rattle.plan.specs.declared.Task.{Task}
 use Rattle.plan.specs.declared.Plan.{Plan}
 use Rattle.plan.specs.Levels.{hyperperiod, nominal}
-use Rattle.plan.specs.Blocks.{editionIn, countIn, tasksIn, sparesIn, blockLength, closingBits, noTask, tasksOf}
-use Rattle.plan.specs.Questions.{inRange, rangeQuestion, additionQuestion, spanQuestion, levelQuestion, taskQuestions, judging, reading}
+use Rattle.plan.specs.Blocks.{editionIn, countIn, tasksIn, blockLength, closingBits, noTask, tasksOf}
+use Rattle.plan.specs.Questions.{inRange, rangeQuestion, additionQuestion, floorLoaded, floorQuestion, spanQuestion, levelQuestion, taskQuestions, judging, reading}
 use Rattle.plan.proofs.BlockBits.{length-tasksFrom}
 
 -- a task in range
@@ -49,6 +49,14 @@ in-range t h =
 pub range-at : (ts : List Task) (i : ℕ) → every inRange ts ≡ true → i < length ts → InRange (getD ts i noTask)
 range-at ts i h l = in-range (getD ts i noTask) (every-at inRange ts i noTask h l)
 
+-- a floor that is one of so many levels is one of more
+pub floor-at : (levels : ℕ) (ts : List Task) (i : ℕ) → every (floorLoaded levels) ts ≡ true → i < length ts → getD ts i noTask .floor < levels
+floor-at levels ts i h l = leb-true (suc (getD ts i noTask .floor)) levels (every-at (floorLoaded levels) ts i noTask h l)
+
+pub floors-among : (few many : ℕ) (ts : List Task) → few ≤ many → every (floorLoaded few) ts ≡ true → every (floorLoaded many) ts ≡ true
+floors-among few many ts m h =
+    at-every (floorLoaded many) ts noTask (λ i l. le-leb (suc (getD ts i noTask .floor)) many (omega (arith, floor-at few ts i h l)))
+
 -- what each question asks: its yes as a fact, and back
 module _ (ts : List Task) where
   pub span-told : spanQuestion ts .reply ≡ true → hyperperiod ts ≤ 1000000
@@ -64,9 +72,10 @@ module _ (speeds : List ℕ) (ts : List Task) where
   pub level-asked : nominal speeds ts < length speeds → levelQuestion speeds ts .reply ≡ true
   level-asked h = le-leb (suc (nominal speeds ts)) (length speeds) h
 
--- tasks of which 6, 7 and 8 are answered yes
+-- tasks of which 6, 24, 7 and 8 are answered yes
 pub record FineTasks (speeds : List ℕ) (ts : List Task) : Type 0 where
   pub ranges : every inRange ts ≡ true
+  pub floors : every (floorLoaded (length speeds)) ts ≡ true
   pub span-most : hyperperiod ts ≤ 1000000
   pub admitted : nominal speeds ts < length speeds
 
@@ -74,19 +83,20 @@ pub record FineTasks (speeds : List ℕ) (ts : List Task) : Type 0 where
 tasks-fine :
     (speeds : List ℕ) (ts : List Task) →
     rangeQuestion ts .reply ≡ true →
+    floorQuestion speeds ts .reply ≡ true →
     spanQuestion ts .reply ≡ true →
     levelQuestion speeds ts .reply ≡ true →
     FineTasks speeds ts
-tasks-fine speeds ts six seven eight =
-    record { ranges = six; span-most = span-told ts seven; admitted = level-told speeds ts eight }
+tasks-fine speeds ts ranges floors seven eight =
+    record { ranges = ranges; floors = floors; span-most = span-told ts seven; admitted = level-told speeds ts eight }
 
 fine-yes : (speeds : List ℕ) (ts : List Task) → FineTasks speeds ts → Yes (taskQuestions speeds ts)
-fine-yes speeds ts f = (f .ranges, (span-asked ts (f .span-most), (level-asked speeds ts (f .admitted), tt)))
+fine-yes speeds ts f = (f .ranges, (f .floors, (span-asked ts (f .span-most), (level-asked speeds ts (f .admitted), tt))))
 
 pub fine-tasks : (speeds : List ℕ) (ts : List Task) → firstNo (taskQuestions speeds ts) ≡ 0 → FineTasks speeds ts
 fine-tasks speeds ts h =
     let told : (n : ℕ) → replyTo n (taskQuestions speeds ts) ≡ true = replied (taskQuestions speeds ts) refl h in
-    tasks-fine speeds ts (told 6) (told 7) (told 8)
+    tasks-fine speeds ts (told 6) (told 24) (told 7) (told 8)
 
 pub tasks-yes : (speeds : List ℕ) (ts : List Task) → FineTasks speeds ts → firstNo (taskQuestions speeds ts) ≡ 0
 tasks-yes speeds ts f = yes-all (taskQuestions speeds ts) (fine-yes speeds ts f)
@@ -106,7 +116,7 @@ fine-list speeds count ts h =
     record {
       count-low = within-low 1 16 count (told 3);
       count-high = within-high 1 16 count (told 3);
-      tasks = tasks-fine speeds ts (told 6) (told 7) (told 8);
+      tasks = tasks-fine speeds ts (told 6) (told 24) (told 7) (told 8);
     }
 
 pub list-yes :
@@ -124,7 +134,6 @@ pub record FineBlock (speeds block : List ℕ) : Type 0 where
   pub count-low : 1 ≤ countIn block
   pub count-high : countIn block ≤ 16
   pub size : length block ≡ blockLength (editionIn block) (countIn block)
-  pub spares : every (eqb 0) (sparesIn block) ≡ true
   pub closing : every (eqb 0) (closingBits block) ≡ true
   pub tasks : FineTasks speeds (tasksIn block)
   pub additions : additionQuestion (editionIn block) (tasksIn block) .reply ≡ true
@@ -139,9 +148,8 @@ fine-block speeds block h =
       count-low = within-low 1 16 (countIn block) (told 3);
       count-high = within-high 1 16 (countIn block) (told 3);
       size = eqb-true (length block) (blockLength (editionIn block) (countIn block)) (told 4);
-      spares = both-left (every (eqb 0) (sparesIn block)) (every (eqb 0) (closingBits block)) (told 5);
-      closing = both-right (every (eqb 0) (sparesIn block)) (every (eqb 0) (closingBits block)) (told 5);
-      tasks = tasks-fine speeds (tasksIn block) (told 6) (told 7) (told 8);
+      closing = told 5;
+      tasks = tasks-fine speeds (tasksIn block) (told 6) (told 24) (told 7) (told 8);
       additions = told 21;
     }
 
@@ -155,7 +163,7 @@ block-yes speeds block f =
           within-true 1 16 (countIn block) (f .count-low) (f .count-high),
           (
             eq-eqb (length block) (blockLength (editionIn block) (countIn block)) (f .size),
-            (both-true (f .spares) (f .closing), (f .tasks .ranges, (f .additions, fine-yes speeds (tasksIn block) (f .tasks) .1))),
+            (f .closing, (f .tasks .ranges, (f .additions, fine-yes speeds (tasksIn block) (f .tasks) .1))),
           ),
         ),
       ),

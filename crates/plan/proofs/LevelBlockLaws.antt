@@ -90,8 +90,8 @@ pub levelLength-eight : levelLength 8 ≡ 11
 unfolding need
 levelLength-eight = refl
 
--- a level of such a table fits a byte
-pub few-levels : {speeds : List ℕ} → FineTable speeds → length speeds ≤ 256
+-- a level of such a table fits four bits, and so a byte
+pub few-levels : {speeds : List ℕ} → FineTable speeds → length speeds ≤ 16
 few-levels t = omega (arith, t .few)
 
 -- an accepted level block has such a table

@@ -58,7 +58,16 @@ admits-faster ts r s h le a =
     le-leb (demandWithin span s ts) span
     (le-trans (demand-faster span r s ts h le) (leb-true (demandWithin span r ts) span a))
 
--- along a rising table, a level above one that admits admits too
+-- along a rising table a higher level is no slower
+pub speed-rises : (speeds : List ℕ) → Rising speeds → (low high : ℕ) → low ≤ high → high < length speeds → speedOf speeds low ≤ speedOf speeds high
+speed-rises speeds rising low high le h =
+    elim (decLe high low) [
+      | yes p ↦ let e : low ≡ high = omega arith in
+          subst (λ (k : ℕ). speedOf speeds low ≤ speedOf speeds k) e (omega arith)
+      | no p ↦ omega (arith, rising .faster low high (omega arith) h)
+    ]
+
+-- so a level above one that admits admits too
 pub admits-higher :
     (speeds : List ℕ) →
     Rising speeds →
@@ -68,12 +77,7 @@ pub admits-higher :
     admits ts (speedOf speeds low) ≡ true →
     admits ts (speedOf speeds high) ≡ true
 admits-higher speeds rising ts low high le h a =
-    elim (decLe high low) [
-      | yes p ↦ let e : low ≡ high = omega arith in
-          subst (λ (k : ℕ). admits ts (speedOf speeds k) ≡ true) e a
-      | no p ↦ admits-faster ts (speedOf speeds low) (speedOf speeds high) (rising .positive low (omega arith))
-          (omega (arith, rising .faster low high (omega arith) h)) a
-    ]
+    admits-faster ts (speedOf speeds low) (speedOf speeds high) (rising .positive low (omega arith)) (speed-rises speeds rising low high le h) a
 
 pub admits-from-nominal : (speeds : List ℕ) → Rising speeds → AdmitsFromNominal speeds
 admits-from-nominal speeds rising ts level h = (

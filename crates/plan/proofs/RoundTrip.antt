@@ -1,14 +1,14 @@
 -- Demand 2: a written plan reads back as the same plan, and an accepted block written again has the same bytes. One proof for every
 -- edition: of an edition it uses that a task's numbers fit its fields and that its fields are the whole task.
 -- Assumes nothing.
-use Prim.Native.Nat.{ℕ, zero, suc, _+_, _-_, _*_, _≤_}
+use Prim.Native.Nat.{ℕ, zero, suc, _+_, _-_, _*_, _<_, _≤_}
 use mathlib.Core.Path.{_≡_, refl, sym, subst, ap, ap₂, _∙_}
 use mathlib.Core.Bool.{Bool, true, false, not, true≢false}
-use mathlib.Core.List.{List, [], _∷_, _++_, map}
+use mathlib.Core.List.{List, [], _∷_, _++_}
 use native.Mathlib.Nat.{mul-suc}
 use native.Mathlib.Decide.{decLe}
 use native.Mathlib.Omega.{arith}
-use borrow.Author.Tests.{eq-eqb, eqb-true, not-true}
+use borrow.Author.Tests.{leb-true, eq-eqb, eqb-true, not-true}
 use lib.Dec.{eqb}
 use lib.ListN.{length, getD, take, drop, replicate, length-drop, length-take, List·getD-eq-default}
 use lib.Seq.{getD-drop, getD-take, drop-at, drop-drop, take-add, length-take-le, take-append-seam}
@@ -26,14 +26,15 @@ use Rattle.arith.proofs.BitLaws.{length-unpacked, unpacked-packed, unpacked-bel
 use Rattle.arith.proofs.FieldLaws.{Same, Below, same-drop, below-drop, fields-read, fields-bits, fields-same}
 use Rattle.plan.specs.declared.Task.{Task}
 use Rattle.plan.specs.declared.Plan.{Plan}
-use Rattle.plan.specs.Blocks.{widthsBy, taskWidths, taskNumbers, taskOf, spareOf, addsNothing, taskWidth, taskBits, tasksBits, planBits, editionBy, editionOf, planBlock, bitCount, blockLength}
-use Rattle.plan.specs.Blocks.{editionIn, countIn, eachFrom, tasksFrom, tasksIn, sparesFrom, sparesIn, closingBits, tasksOf, planOf, noTask}
+use Rattle.plan.specs.Blocks.{widthsBy, taskWidths, taskNumbers, taskOf, addsNothing, taskWidth, taskBits, tasksBits, planBits, editionBy, editionOf, planBlock, bitCount, blockLength}
+use Rattle.plan.specs.Blocks.{editionIn, countIn, tasksFrom, tasksIn, closingBits, tasksOf, planOf, noTask}
 use Rattle.plan.specs.LevelBlocks.{loading, speedsIn}
-use Rattle.plan.specs.Questions.{inRange, additionQuestion, judging, reading}
+use Rattle.plan.specs.Questions.{inRange, floorLoaded, additionQuestion, judging, reading}
 use Rattle.plan.specs.Answers.{verdictAnswer, answered, judgedBy}
 use Rattle.plan.specs.Laws.{Bytes, WrittenReadsBack, AcceptedWritesBack}
 use Rattle.plan.proofs.BlockBits.{length-taskBits, length-planBits, planBits-below, planBits-past, length-planBlock, blockLength-covers, blockLength-least, used}
-use Rattle.plan.proofs.Facts.{InRange, in-range, FineTasks, FineList, FineBlock, fine-list, fine-block, block-yes, list-yes, block-list, length-tasksIn}
+use Rattle.plan.proofs.LevelBlockLaws.{loaded-table}
+use Rattle.plan.proofs.Facts.{InRange, in-range, floors-among, FineTasks, FineList, FineBlock, fine-list, fine-block, block-yes, list-yes, block-list, length-tasksIn}
 
 -- what a task's fields are read as, by whether its edition is 2
 module _ (t : Task) where
@@ -41,106 +42,70 @@ module _ (t : Task) where
   numbers-back :
       (second : Bool) (rest : List ℕ) →
       InRange t →
+      t .floor < 8 →
       fieldsFrom (widthsBy second) (fieldsBits (widthsBy second) (taskNumbers t) ++ rest) ≡ take (length (widthsBy second)) (taskNumbers t)
-  numbers-back true rest r =
+  numbers-back true rest r low =
       fields-read (widthsBy true) (taskNumbers t) rest (omega arith) (omega arith, (omega arith, (omega arith, (omega arith, tt))))
-  numbers-back false rest r = fields-read (widthsBy false) (taskNumbers t) rest (omega arith) (omega arith, (omega arith, tt))
+  numbers-back false rest r low = fields-read (widthsBy false) (taskNumbers t) rest (omega arith) (omega arith, (omega arith, tt))
 
   -- they are the whole task where the edition has a field for what it adds, or it adds nothing
   task-kept : (second : Bool) → (second ≡ false → addsNothing t ≡ true) → taskOf (take (length (widthsBy second)) (taskNumbers t)) ≡ t
   task-kept true h = refl
   task-kept false h =
-      let none : t .fixed ≡ 0 = eqb-true (t .fixed) 0 (h refl) in
-      λ i. record { period = t .period; worst = t .worst; fixed = sym none i }
+      let fixed : t .fixed ≡ 0 = eqb-true (t .fixed) 0 (both-left (eqb (t .fixed) 0) (eqb (t .floor) 0) (h refl)) in
+      let floor : t .floor ≡ 0 = eqb-true (t .floor) 0 (both-right (eqb (t .fixed) 0) (eqb (t .floor) 0) (h refl)) in
+      λ i. record { period = t .period; worst = t .worst; fixed = sym fixed i; floor = sym floor i }
 
-  spare-kept : (second : Bool) → spareOf (take (length (widthsBy second)) (taskNumbers t)) ≡ 0
-  spare-kept true = refl
-  spare-kept false = refl
-
--- the fields of each task are read back
-module _ {A : Type 0} (says : List ℕ → A) (edition : ℕ) where
-  pub each-back :
-      (ts : List Task) →
-      every inRange ts ≡ true →
-      eachFrom says edition (length ts) (tasksBits edition ts)
-      ≡ map (λ (t : Task). says (take (length (taskWidths edition)) (taskNumbers t))) ts
-  each-back [] h = refl
-  each-back (t ∷ ts) h =
-      ap₂ (λ (x : A) (l : List A). x ∷ l)
-      (ap says (numbers-back t (eqb edition 2) (tasksBits edition ts) (in-range t (both-left (inRange t) (every inRange ts) h))))
-      (ap (λ (b : List ℕ). eachFrom says edition (length ts) b)
-      (drop-at (taskBits edition t) (tasksBits edition ts) (taskWidth edition) (length-taskBits edition t))
-      ∙ each-back ts (both-right (inRange t) (every inRange ts) h))
-
-  -- reading looks only at the bits
-  each-same : (n : ℕ) (xs ys : List ℕ) → Same xs ys → eachFrom says edition n xs ≡ eachFrom says edition n ys
-  each-same zero xs ys h = refl
-  each-same (suc n) xs ys h =
-      let w : ℕ = taskWidth edition in
-      ap₂ (λ (x : A) (l : List A). x ∷ l) (ap says (fields-same (taskWidths edition) xs ys h))
-      (each-same n (drop w xs) (drop w ys) (same-drop w xs ys h))
-
--- so tasks are read back in an edition that has a field for what they add, and their spare bits are zero
 module _ (edition : ℕ) where
-  tasks-kept :
-      (ts : List Task) →
-      (eqb edition 2 ≡ false → every addsNothing ts ≡ true) →
-      map (λ (t : Task). taskOf (take (length (taskWidths edition)) (taskNumbers t))) ts ≡ ts
-  tasks-kept [] c = refl
-  tasks-kept (t ∷ ts) c =
-      ap₂ (λ (x : Task) (l : List Task). x ∷ l)
-      (task-kept t (eqb edition 2) (λ h. both-left (addsNothing t) (every addsNothing ts) (c h)))
-      (tasks-kept ts (λ h. both-right (addsNothing t) (every addsNothing ts) (c h)))
-
+  -- so tasks are read back in an edition that has a field for what they add
   pub tasks-back :
       (ts : List Task) →
       every inRange ts ≡ true →
+      every (floorLoaded 8) ts ≡ true →
       (eqb edition 2 ≡ false → every addsNothing ts ≡ true) →
       tasksFrom edition (length ts) (tasksBits edition ts) ≡ ts
-  tasks-back ts h c = each-back taskOf edition ts h ∙ tasks-kept ts c
+  tasks-back [] h low c = refl
+  tasks-back (t ∷ ts) h low c =
+      ap₂ (λ (x : Task) (l : List Task). x ∷ l)
+      (ap taskOf
+      (numbers-back t (eqb edition 2) (tasksBits edition ts) (in-range t (both-left (inRange t) (every inRange ts) h))
+      (leb-true (suc (t .floor)) 8 (both-left (floorLoaded 8 t) (every (floorLoaded 8) ts) low)))
+      ∙ task-kept t (eqb edition 2) (λ h. both-left (addsNothing t) (every addsNothing ts) (c h)))
+      (ap (λ (b : List ℕ). tasksFrom edition (length ts) b)
+      (drop-at (taskBits edition t) (tasksBits edition ts) (taskWidth edition) (length-taskBits edition t))
+      ∙ tasks-back ts (both-right (inRange t) (every inRange ts) h) (both-right (floorLoaded 8 t) (every (floorLoaded 8) ts) low)
+      (λ h. both-right (addsNothing t) (every addsNothing ts) (c h)))
 
-  spares-kept :
-      (ts : List Task) →
-      every (eqb 0) (map (λ (t : Task). spareOf (take (length (taskWidths edition)) (taskNumbers t))) ts) ≡ true
-  spares-kept [] = refl
-  spares-kept (t ∷ ts) =
-      both-true (ap (eqb 0) (spare-kept t (eqb edition 2))) (spares-kept ts)
+  -- reading looks only at the bits
+  tasks-same : (n : ℕ) (xs ys : List ℕ) → Same xs ys → tasksFrom edition n xs ≡ tasksFrom edition n ys
+  tasks-same zero xs ys h = refl
+  tasks-same (suc n) xs ys h =
+      let w : ℕ = taskWidth edition in
+      ap₂ (λ (x : Task) (l : List Task). x ∷ l) (ap taskOf (fields-same (taskWidths edition) xs ys h))
+      (tasks-same n (drop w xs) (drop w ys) (same-drop w xs ys h))
 
-  pub spares-back :
-      (ts : List Task) → every inRange ts ≡ true → every (eqb 0) (sparesFrom edition (length ts) (tasksBits edition ts)) ≡ true
-  spares-back ts h = ap (every (eqb 0)) (each-back spareOf edition ts h) ∙ spares-kept ts
-
--- and the bits that a task is read from are its bits, where the spare ones are zero
+-- and the bits that a task is read from are its bits
 again-by :
     (second : Bool) (bits : List ℕ) →
     widthOf (widthsBy second) ≤ length bits →
     Below bits →
-    spareOf (fieldsFrom (widthsBy second) bits) ≡ 0 →
     fieldsBits (widthsBy second) (taskNumbers (taskOf (fieldsFrom (widthsBy second) bits))) ≡ take (widthOf (widthsBy second)) bits
-again-by true bits l h z =
-    let t : Task = taskOf (fieldsFrom (widthsBy true) bits) in
-    ap (λ (spare : ℕ). fieldsBits (widthsBy true) (t .period ∷ t .worst ∷ t .fixed ∷ spare ∷ [])) (sym z)
-    ∙ fields-bits (widthsBy true) bits l h
-again-by false bits l h z = fields-bits (widthsBy false) bits l h
+again-by true bits l h = fields-bits (widthsBy true) bits l h
+again-by false bits l h = fields-bits (widthsBy false) bits l h
 
 pub tasks-again :
     (edition n : ℕ) (bits : List ℕ) →
     taskWidth edition * n ≤ length bits →
     Below bits →
-    every (eqb 0) (sparesFrom edition n bits) ≡ true →
     tasksBits edition (tasksFrom edition n bits) ≡ take (taskWidth edition * n) bits
-tasks-again edition zero bits l h z =
+tasks-again edition zero bits l h =
     let e : 0 ≡ taskWidth edition * 0 = omega arith in
     ap (λ (k : ℕ). take k bits) e
-tasks-again edition (suc n) bits l h z =
+tasks-again edition (suc n) bits l h =
     let w : ℕ = taskWidth edition in
     let e : w + w * n ≡ w * suc n = omega (arith, mul-suc w n) in
-    let spare : ℕ = spareOf (fieldsFrom (taskWidths edition) bits) in
-    let rest : List ℕ = sparesFrom edition n (drop w bits) in
-    ap₂ (λ (x y : List ℕ). x ++ y)
-    (again-by (eqb edition 2) bits (omega arith) h (sym (eqb-true 0 spare (both-left (eqb 0 spare) (every (eqb 0) rest) z))))
-    (tasks-again edition n (drop w bits) (simp length-drop (omega arith)) (below-drop w bits h)
-    (both-right (eqb 0 spare) (every (eqb 0) rest) z))
+    ap₂ (λ (x y : List ℕ). x ++ y) (again-by (eqb edition 2) bits (omega arith) h)
+    (tasks-again edition n (drop w bits) (simp length-drop (omega arith)) (below-drop w bits h))
     ∙ sym (take-add w (w * n) bits)
     ∙ ap (λ (k : ℕ). take k bits) e
 
@@ -171,7 +136,7 @@ module _ (ts : List Task) where
   edition-adds = adds-by (every addsNothing ts)
 
 -- what a block written is read as
-module _ (ts : List Task) (high : length ts ≤ 16) (ranges : every inRange ts ≡ true) where
+module _ (ts : List Task) (high : length ts ≤ 16) (ranges : every inRange ts ≡ true) (floors : every (floorLoaded 8) ts ≡ true) where
   -- its bits are the plan's
   block-bits : Same (unpacked (planBlock ts)) (planBits (editionOf ts) ts)
   block-bits k =
@@ -190,21 +155,13 @@ module _ (ts : List Task) (high : length ts ≤ 16) (ranges : every inRange ts �
       number-drop-same 2 5 4 (unpacked (planBlock ts)) (planBits (editionOf ts) ts) block-bits
       ∙ number-digits 2 5 (length ts) (tasksBits (editionOf ts) ts) (omega arith) (omega arith)
 
-  block-each :
-      {A : Type 0} (says : List ℕ → A) →
-      eachFrom says (editionIn (planBlock ts)) (countIn (planBlock ts)) (drop 9 (unpacked (planBlock ts)))
-      ≡ eachFrom says (editionOf ts) (length ts) (tasksBits (editionOf ts) ts)
-  block-each says =
+  pub block-reads : tasksIn (planBlock ts) ≡ ts
+  block-reads =
       let u : List ℕ = unpacked (planBlock ts) in
       let bits : List ℕ = planBits (editionOf ts) ts in
-      ap₂ (λ (e n : ℕ). eachFrom says e n (drop 9 u)) block-edition block-count
-      ∙ each-same says (editionOf ts) (length ts) (drop 9 u) (drop 9 bits) (same-drop 9 u bits block-bits)
-
-  pub block-reads : tasksIn (planBlock ts) ≡ ts
-  block-reads = block-each taskOf ∙ tasks-back (editionOf ts) ts ranges (edition-carries ts)
-
-  block-spares : every (eqb 0) (sparesIn (planBlock ts)) ≡ true
-  block-spares = ap (every (eqb 0)) (block-each spareOf) ∙ spares-back (editionOf ts) ts ranges
+      ap₂ (λ (e n : ℕ). tasksFrom e n (drop 9 u)) block-edition block-count
+      ∙ tasks-same (editionOf ts) (length ts) (drop 9 u) (drop 9 bits) (same-drop 9 u bits block-bits)
+      ∙ tasks-back (editionOf ts) ts ranges floors (edition-carries ts)
 
   -- past its tasks they are zero
   block-closing : every (eqb 0) (closingBits (planBlock ts)) ≡ true
@@ -230,7 +187,6 @@ module _ (ts : List Task) (high : length ts ≤ 16) (ranges : every inRange ts �
         count-low = omega (arith, block-count);
         count-high = omega (arith, block-count);
         size = length-planBlock ts ∙ sym (ap₂ (λ (e n : ℕ). blockLength e n) block-edition block-count);
-        spares = block-spares;
         closing = block-closing;
         tasks = subst (λ (l : List Task). FineTasks speeds l) (sym block-reads) fine;
         additions = ap₂ (λ (e : ℕ) (l : List Task). additionQuestion e l .reply) block-edition block-reads ∙ edition-adds ts;
@@ -260,12 +216,14 @@ written-reads-back levels p len accepted =
     let n : length ts ≡ p .count = length-take-le (p .count) (p .tasks) (omega (arith, f .count-high)) in
     let low : 1 ≤ length ts = omega (arith, f .count-low) in
     let high : length ts ≤ 16 = omega (arith, f .count-high) in
+    let floors : every (floorLoaded 8) ts ≡ true =
+    floors-among (length speeds) 8 ts (loaded-table levels (yes-of (loading levels) (judging speeds (p .count) ts) all) .few) (f .tasks .floors) in
     same-answer speeds (firstNo (loading levels ++ reading speeds (planBlock ts))) (firstNo (loading levels ++ judging speeds (p .count) ts))
     (tasksIn (planBlock ts)) ts
     (yes-before (loading levels) (reading speeds (planBlock ts)) refl (yes-of (loading levels) (judging speeds (p .count) ts) all)
-    ∙ block-yes speeds (planBlock ts) (block-fine ts high (f .tasks .ranges) speeds low (f .tasks)))
+    ∙ block-yes speeds (planBlock ts) (block-fine ts high (f .tasks .ranges) floors speeds low (f .tasks)))
     all
-    (block-reads ts high (f .tasks .ranges))
+    (block-reads ts high (f .tasks .ranges) floors)
 
 -- tasks that are read in an edition without a field for it add nothing
 plain-by : (second : Bool) (bits : List ℕ) → second ≡ false → addsNothing (taskOf (fieldsFrom (widthsBy second) bits)) ≡ true
@@ -316,7 +274,7 @@ module _ (speeds block : List ℕ) (f : FineBlock speeds block) where
       ∙ ap₂ (λ (x y : List ℕ). x ++ y) (digits-number 2 4 u (omega arith) (λ k l. unpacked-below block k))
       (ap₂ (λ (x y : List ℕ). x ++ y)
       (digits-number 2 5 (drop 4 u) (simp length-drop (omega arith)) (λ k l. below-drop 4 u (unpacked-below block) k))
-      (tasks-again e n (drop 9 u) (simp length-drop (omega arith)) (below-drop 9 u (unpacked-below block)) (f .spares)
+      (tasks-again e n (drop 9 u) (simp length-drop (omega arith)) (below-drop 9 u (unpacked-below block))
       ∙ ap (λ (x : List ℕ). take m x) (sym (drop-drop 5 4 u))))
       ∙ ap (λ (x : List ℕ). take 4 u ++ x) (sym (take-add 5 m (drop 4 u)))
       ∙ sym (take-add 4 (5 + m) u)

@@ -1,5 +1,6 @@
 -- The laws of the time that a job needs, all that is used of it: more needs no less; a faster speed needs no more; no time is needed
--- exactly where nothing is left; d ticks make it d less. And how the code tells it, and bounds it, without dividing.
+-- exactly where nothing is left; d ticks make it d less, and take at least d from it where they run faster. And how the code tells it, and
+-- bounds it, without dividing.
 -- Assumes nothing.
 use Prim.Native.Nat.{ℕ, _+_, _-_, _*_, _<_, _≤_}
 use mathlib.Core.Path.{_≡_, ap, _∙_}
@@ -41,6 +42,18 @@ time-some s a h w = omega (arith, need-positive s (a .work) h w)
 pub time-after : (s d : ℕ) (a : Rest) → 0 < s → d ≤ timeOf s a → timeOf s (worn s d a) ≡ timeOf s a - d
 unfolding timeOf worn
 time-after s d a h le = omega (arith, need-after s (a .work) (d - a .fixed) h (omega arith))
+
+-- 5. d ticks at a speed that is no slower take at least d from it
+pub time-outrun : (r s d : ℕ) (a : Rest) → 0 < r → r ≤ s → d ≤ timeOf s a → timeOf r (worn s d a) + d ≤ timeOf r a
+unfolding timeOf worn
+time-outrun r s d a h le most =
+    let x : ℕ = d - a .fixed in
+    omega (
+      arith,
+      need-mono r (a .work - x * s) (a .work - x * r) h (omega (arith, mul-le-mul-left x le)),
+      need-after r (a .work) x h (omega (arith, need-faster r s (a .work) h le)),
+      need-faster r s (a .work) h le,
+    )
 
 -- they never leave more than there was
 pub worn-within : (s d : ℕ) (a : Rest) → Within (worn s d a) a

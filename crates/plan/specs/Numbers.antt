@@ -15,12 +15,13 @@ use Rattle.plan.specs.declared.Written.the-variants as written
 use Rattle.plan.specs.declared.Paired.{Paired}
 use Rattle.plan.specs.declared.Paired.the-variants as paired
 
--- task i of a list of numbers: a period, then a worst case, then fixed ticks, for each task; past the list's end they are 0
+-- task i of a list of numbers: a period, then a worst case, then fixed ticks, then a floor, for each task; past the list's end they are 0
 abbrev pub taskAt : List ℕ → ℕ → Task
 taskAt numbers i = record {
-  period = getD numbers (3 * i) 0;
-  worst = getD numbers (3 * i + 1) 0;
-  fixed = getD numbers (3 * i + 2) 0;
+  period = getD numbers (4 * i) 0;
+  worst = getD numbers (4 * i + 1) 0;
+  fixed = getD numbers (4 * i + 2) 0;
+  floor = getD numbers (4 * i + 3) 0;
 }
 
 abbrev pub planFrom : ℕ → List ℕ → Plan

@@ -1,11 +1,13 @@
 // Plans as values. What is right of them, and how they are judged, read and written, is in specs/ and proofs/.
 
-// A task: its period in ticks, its worst case in units of work, and the fixed ticks that its job takes at every level.
+// A task: its period in ticks, its worst case in units of work, the fixed ticks that its job takes at every level, and its floor, the lowest
+// level that its job is run at.
 #[repr(C)]
 pub struct Task {
     pub period: u32,
     pub worst: u32,
     pub fixed: u32,
+    pub floor: u32,
 }
 
 // What is left of a job: its fixed ticks, and its work.

@@ -52,7 +52,7 @@ pub extern "C" fn kilmstra_plan_read(levels: &[u8], block: &[u8]) -> u64
     verdict_number(v)
 }
 
-// Asks whether a list of pairs is good for a plan's block over a level block: 18 to 20, 1 to 8, 21 or 22 is a refusal's number; else the
+// Asks whether a list of pairs is good for a plan's block over a level block: 18 to 20, 1 to 8, 21, 22 or 24 is a refusal's number; else the
 // count of pairs stands from bit 8 on.
 #[no_mangle]
 pub extern "C" fn kilmstra_pairs(levels: &[u8], block: &[u8], pairs: &[u8]) -> u64

@@ -16,7 +16,8 @@ fn number_at(numbers: &[u32], k: usize) -> u32
     0
 }
 
-// A plan from plain numbers: for each task its period, then its worst case, then its fixed ticks; numbers that are not there are 0.
+// A plan from plain numbers: for each task its period, then its worst case, then its fixed ticks, then its floor; numbers that are not
+// there are 0.
 pub fn plan_from(count: usize, numbers: &[u32]) -> Plan
     ensures { λ r. ⌜ r ≡ planFrom count (now (numbers .entry)) ⌝ }
 {
@@ -24,13 +25,15 @@ pub fn plan_from(count: usize, numbers: &[u32]) -> Plan
     p.count = count;
     let mut i: usize = 0;
     while i < 16 {
-        let period = number_at(numbers, 3 * i);
-        let worst = number_at(numbers, 3 * i + 1);
-        let fixed = number_at(numbers, 3 * i + 2);
+        let period = number_at(numbers, 4 * i);
+        let worst = number_at(numbers, 4 * i + 1);
+        let fixed = number_at(numbers, 4 * i + 2);
+        let floor = number_at(numbers, 4 * i + 3);
         let t = Task {
             period,
             worst,
             fixed,
+            floor,
         };
         p.tasks[i] = t;
         i += 1;

@@ -8,19 +8,19 @@ use native.Mathlib.Omega.{arith}
 use borrow.Author.Tests.{le-leb, lt-leb, eq-eqb, ne-eqb}
 use lib.Dec.{eqb}
 use lib.ListN.{length, drop}
-use Rattle.arith.specs.Choice.{pick, both, every}
+use Rattle.arith.specs.Choice.{pick, every}
 use Rattle.arith.specs.Digits.{number}
 use Rattle.arith.specs.Bits.{unpacked}
 use Rattle.plan.specs.declared.Task.{Task}
 use Rattle.plan.specs.declared.Plan.{Plan}
 use Rattle.plan.specs.declared.Judged.{Judged}
 use Rattle.plan.specs.Blocks.{bitCount, blockLength, editionIn, countIn, closingBits, tasksFrom, tasksIn}
-use Rattle.plan.specs.Blocks.{sparesFrom, sparesIn, addsNothing, editionOf, tasksOf, planOf}
-use Rattle.plan.specs.Questions.{countQuestion, rangeQuestion, additionQuestion, spanQuestion, levelQuestion, taskQuestions, reading}
+use Rattle.plan.specs.Blocks.{addsNothing, editionOf, tasksOf, planOf}
+use Rattle.plan.specs.Questions.{countQuestion, rangeQuestion, additionQuestion, floorQuestion, spanQuestion, levelQuestion, taskQuestions, reading}
 use Rattle.arith.specs.Asking.{Question, ask, firstNo, within}
 use Rattle.plan.specs.Answers.{judgedBy, refusedWith}
 use Rattle.judging.proofs.verdicts.Judgements.{refused-as}
-use Rattle.arith.proofs.Tests.{both-true, both-false, passed, failed, tested}
+use Rattle.arith.proofs.Tests.{passed, failed, tested}
 use Rattle.arith.proofs.QuestionLaws.{within-true, ask-no, ask-yes, within-over, within-under}
 use Rattle.arith.proofs.BitLaws.{rest-zero}
 use Rattle.plan.proofs.BlockBits.{used}
@@ -42,12 +42,12 @@ misnamed-positive ts =
 
 -- the questions that a block is asked past its closing bits, by the reply to 21, and those past its count
 abbrev added : List ℕ → Bool → List Task → List Question
-added speeds said ts = rangeQuestion ts ∷ ask 21 said ∷ spanQuestion ts ∷ levelQuestion speeds ts ∷ []
+added speeds said ts = rangeQuestion ts ∷ ask 21 said ∷ floorQuestion speeds ts ∷ spanQuestion ts ∷ levelQuestion speeds ts ∷ []
 
 abbrev sized : List ℕ → List ℕ → List Question
 sized speeds block =
     ask 4 (eqb (length block) (blockLength (editionIn block) (countIn block)))
-    ∷ ask 5 (both (every (eqb 0) (sparesIn block)) (every (eqb 0) (closingBits block)))
+    ∷ ask 5 (every (eqb 0) (closingBits block))
     ∷ added speeds (additionQuestion (editionIn block) (tasksIn block) .reply) (tasksIn block)
 
 -- a block read over a table of speeds
@@ -133,35 +133,16 @@ module _ (speeds : List ℕ) {block : List ℕ} {edition count x : ℕ} (c : Clo
       let bits : ℕ → ℕ → ℕ = λ e k. number 2 (8 * length block - bitCount e k) (drop (bitCount e k) (unpacked block)) in
       rest-zero block (used block) ∙ sym (ap (λ (m : ℕ). eqb m 0) (c .closing ∙ by-block speeds (c .counts) bits))
 
-  -- the closing bits, and those that a task spares
-  unclear : {r : Judged} → r ≡ refusedWith 5 → both (every (eqb 0) (sparesIn block)) (every (eqb 0) (closingBits block)) ≡ false → Reads speeds block r
-  unclear a h = refused-at speeds block 4 a (counted speeds (c .counts) 5 (ask-yes 4 four (ask-no 5 _ h)))
-
   pub read-closing : {r : Judged} → r ≡ refusedWith 5 → (x ≡ 0 → ⊥) → Reads speeds block r
-  read-closing a h =
-      let spares : Bool = every (eqb 0) (sparesIn block) in
-      unclear a (ap (λ (b : Bool). both spares b) (clear ∙ ne-eqb x 0 h) ∙ both-false spares)
-
-  -- b is whether these are zero
-  module _ {b : Bool} (e : b ≡ every (eqb 0) (sparesFrom edition count (drop 9 (unpacked block)))) where
-    spares-are : every (eqb 0) (sparesIn block) ≡ b
-    spares-are = sym (e ∙ by-block speeds (c .counts) (λ n k. every (eqb 0) (sparesFrom n k (drop 9 (unpacked block)))))
-
-    pub read-spares : {r : Judged} → r ≡ refusedWith 5 → b ≡ false → Reads speeds block r
-    read-spares a h = unclear a (ap (λ (s : Bool). both s (every (eqb 0) (closingBits block))) (spares-are ∙ h))
-
-    five : x ≡ 0 → b ≡ true → both (every (eqb 0) (sparesIn block)) (every (eqb 0) (closingBits block)) ≡ true
-    five z h = both-true (spares-are ∙ h) (clear ∙ eq-eqb x 0 z)
+  read-closing a h = refused-at speeds block 4 a (counted speeds (c .counts) 5 (ask-yes 4 four (ask-no 5 _ (clear ∙ ne-eqb x 0 h))))
 
 -- 5 is answered yes too, and the plan is read
-pub record Planned (block : List ℕ) (edition count x : ℕ) (b : Bool) (q : Plan) : Type 0 where
+pub record Planned (block : List ℕ) (edition count x : ℕ) (q : Plan) : Type 0 where
   pub closes : Closing block edition count x
   pub closed : x ≡ 0
-  pub spared : b ≡ every (eqb 0) (sparesFrom edition count (drop 9 (unpacked block)))
-  pub spare : b ≡ true
   pub plan : q ≡ planOf (tasksFrom edition count (drop 9 (unpacked block)))
 
-module _ (speeds : List ℕ) {block : List ℕ} {edition count x : ℕ} {b : Bool} {q : Plan} (c : Planned block edition count x b q) where
+module _ (speeds : List ℕ) {block : List ℕ} {edition count x : ℕ} {q : Plan} (c : Planned block edition count x q) where
   abbrev opens : Opened block edition count
   opens = c .closes .counts .opens
 
@@ -179,7 +160,7 @@ module _ (speeds : List ℕ) {block : List ℕ} {edition count x : ℕ} {b : Boo
   planned : {s : Bool} → said ≡ s → firstNo (reading speeds block) ≡ firstNo (added speeds s (tasksIn block))
   planned {s} e =
       let asked : Bool → ℕ = λ t. firstNo (added speeds t (tasksIn block)) in
-      let clean = five speeds (c .closes) (c .spared) (c .closed) (c .spare) in
+      let clean : every (eqb 0) (closingBits block) ≡ true = clear speeds (c .closes) ∙ eq-eqb x 0 (c .closed) in
       counted speeds (c .closes .counts) (asked s) (ask-yes 4 (four speeds (c .closes)) (ask-yes 5 clean (ap asked e)))
 
   -- e is the edition that the plan is written in

@@ -1,14 +1,13 @@
-// The fields of a plan block: where each stands, and the tasks and spare bits that are read from them.
+// The fields of a plan block: where each stands, and the tasks that are read from them.
 use judging::verdicts::empty_plan;
 use plan::Plan;
 use plan::Task;
 ghost use mathlib.Core.Path.{_≡_};
 ghost use Prim.Native.Nat.{_+_, _*_, _<_, _≤_};
-ghost use lib.Dec.{eqb};
 ghost use lib.ListN.{length, drop};
-ghost use Rattle.arith.specs.Bits.{fieldsFrom, unpacked};
-ghost use Rattle.arith.specs.Choice.{every};
-ghost use Rattle.plan.specs.Blocks.{taskWidths, taskWidth, taskFrom, tasksFrom, spareOf, sparesFrom, bitCount, blockLength, editionOf, tasksOf, planOf};
+ghost use Rattle.arith.specs.Bits.{unpacked};
+ghost use Rattle.plan.specs.Blocks.{taskWidth, taskFrom, tasksFrom, bitCount, blockLength, editionOf, tasksOf, planOf};
+
 // How many bits a task takes in an edition.
 pub fn task_width(edition: u32) -> usize
     ensures { λ r. ⌜ r ≡ taskWidth edition ⌝ }
@@ -38,6 +37,17 @@ fn fixed_in(block: &[u8], edition: u32, at: usize) -> u32
     numeric::bits_at(block, at + 36, 8)
 }
 
+// The floor of the task that stands at a place; it too is in edition 2 alone.
+fn floor_in(block: &[u8], edition: u32, at: usize) -> u32
+    requires { ⌜ (at ≤ 761) × (at + taskWidth edition ≤ 8 * length (now block)) ⌝ }
+    ensures { λ r. ⌜ r ≡ taskFrom edition (drop at (unpacked (now (block .entry)))) .floor ⌝ }
+{
+    if edition != 2 {
+        return 0;
+    }
+    numeric::bits_at(block, at + 44, 3)
+}
+
 // Task i of a block.
 fn task_in(block: &[u8], edition: u32, i: usize) -> Task
     requires { ⌜ (i < 16) × (bitCount edition (i + 1) ≤ 8 * length (now block)) ⌝ }
@@ -47,10 +57,12 @@ fn task_in(block: &[u8], edition: u32, i: usize) -> Task
     let period = numeric::bits_at(block, at, 16);
     let worst = numeric::bits_at(block, at + 16, 20);
     let fixed = fixed_in(block, edition, at);
+    let floor = floor_in(block, edition, at);
     Task {
         period,
         worst,
         fixed,
+        floor,
     }
 }
 
@@ -70,33 +82,7 @@ pub(crate) fn plan_in(block: &[u8], edition: u32, count: usize) -> Plan
     q
 }
 
-// The number in the spare bits of task i; edition 1 has none, and it is 0.
-fn spare_in(block: &[u8], edition: u32, i: usize) -> u32
-    requires { ⌜ (i < 16) × (bitCount edition (i + 1) ≤ 8 * length (now block)) ⌝ }
-    ensures { λ r. ⌜ r ≡ spareOf (fieldsFrom (taskWidths edition) (drop (bitCount edition i) (unpacked (now (block .entry))))) ⌝ }
-{
-    if edition != 2 {
-        return 0;
-    }
-    numeric::bits_at(block, bit_count(edition, i) + 44, 3)
-}
-
-// Whether the spare bits of every task are zero.
-pub(crate) fn spares_clear(block: &[u8], edition: u32, count: usize) -> bool
-    requires { ⌜ (count ≤ 16) × (bitCount edition count ≤ 8 * length (now block)) ⌝ }
-    ensures { λ r. ⌜ r ≡ every (eqb 0) (sparesFrom edition count (drop 9 (unpacked (now (block .entry))))) ⌝ }
-{
-    let mut i: usize = 0;
-    while i < count {
-        if spare_in(block, edition, i) != 0 {
-            return false;
-        }
-        i += 1;
-    }
-    true
-}
-
-// The edition that a plan is written in: 2 where a task has fixed ticks.
+// The edition that a plan is written in: 2 where a task has fixed ticks or a floor.
 pub fn edition_of(p: Plan) -> u32
     requires { ⌜ p .count ≤ 16 ⌝ }
     ensures { λ r. ⌜ r ≡ editionOf (tasksOf p) ⌝ }
@@ -106,6 +92,9 @@ pub fn edition_of(p: Plan) -> u32
     while i < count {
         let t = p.tasks[i];
         if t.fixed != 0 {
+            return 2;
+        }
+        if t.floor != 0 {
             return 2;
         }
         i += 1;

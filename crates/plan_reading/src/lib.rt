@@ -5,7 +5,6 @@ use crate::fields::bit_count;
 use crate::fields::block_length;
 use crate::fields::edition_of;
 use crate::fields::plan_in;
-use crate::fields::spares_clear;
 use judging::ranges::in_range;
 use judging::verdicts::judged_with;
 use judging::verdicts::refused;
@@ -35,7 +34,7 @@ fn misnamed(p: Plan) -> u32
     6
 }
 
-// Questions 5, 6, 21, 7 and 8, of a block of which 1 to 4 are answered yes.
+// Questions 5, 6, 21, 24, 7 and 8, of a block of which 1 to 4 are answered yes.
 fn read_counted(
     speeds: &[u32; 8],
     levels: usize,
@@ -55,9 +54,6 @@ fn read_counted(
     if closing != 0 {
         return refused(5);
     }
-    if !spares_clear(block, edition, count) {
-        return refused(5);
-    }
     let p = plan_in(block, edition, count);
     if edition_of(p) != edition {
         return refused(misnamed(p));
@@ -65,7 +61,7 @@ fn read_counted(
     judged_with(speeds, levels, p)
 }
 
-// A block read over a table of speeds: the questions 1 to 6, 21, 7 and 8.
+// A block read over a table of speeds: the questions 1 to 6, 21, 24, 7 and 8.
 pub fn read_over(speeds: &[u32; 8], levels: usize, block: &[u8]) -> Judged
     requires { ⌜ Table (now speeds) levels ⌝ }
     ensures { λ r. ⌜ r ≡ judgedBy

@@ -39,7 +39,7 @@ fn task_bit(p: Plan, edition: u32, k: usize) -> u32
     if r < 44 {
         return bit_of(t.fixed, 43 - r);
     }
-    0
+    bit_of(t.floor, 46 - r)
 }
 
 // Bit k of a plan's block.

@@ -20,7 +20,7 @@ ghost use Rattle.plan.specs.Questions.{writing};
 ghost use Rattle.levels.specs.Code.{loaded, Table};
 ghost use Rattle.plan.specs.Answers.{writePlan, writeBuffer, writtenBy, storedBy};
 
-// A plan written over a table of speeds: the questions 3, 6, 7, 8, then 9.
+// A plan written over a table of speeds: the questions 3, 6, 24, 7, 8, then 9.
 fn write_over(speeds: &[u32; 8], levels: usize, p: Plan, buffer: &mut [u8]) -> Written
     requires { ⌜ Table (now speeds) levels ⌝ }
     ensures { λ r. ⌜ r ≡ writtenBy

@@ -44,9 +44,9 @@ module _ (speeds : List ℕ) (ts : List Task) where
   -- questions 11 and 12, of any two books
   within-reply : (a : DispatcherBook) (b : Book) (p : Pass) → isOrder (idealReply speeds ts a b p) ≡ true → WithinArrival τ a p
   within-reply a b p e =
-      let asked : firstNo (passQuestions speeds τ (viewOfBooks a b) (p .d) (p .finished)) ≡ 0 =
-      not-refused (firstNo (passQuestions speeds τ (viewOfBooks a b) (p .d) (p .finished))) (idealOrder speeds ts a b p) e in
-      let yes = all-yes (passQuestions speeds τ (viewOfBooks a b) (p .d) (p .finished)) refl asked in
+      let asked : firstNo (passQuestions speeds τ (viewOfBooks ts a b) (p .d) (p .finished)) ≡ 0 =
+      not-refused (firstNo (passQuestions speeds τ (viewOfBooks ts a b) (p .d) (p .finished))) (idealOrder speeds ts a b p) e in
+      let yes = all-yes (passQuestions speeds τ (viewOfBooks ts a b) (p .d) (p .finished)) refl asked in
       record { some = leb-true 1 (p .d) (yes .0); most = leb-true (p .d) (nextArrival τ (a .clock)) (yes .1 .0) }
 
   -- so of each pass of a list

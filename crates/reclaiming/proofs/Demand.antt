@@ -9,7 +9,7 @@ use native.Mathlib.Decide.{decLe, ℕ-discrete}
 use native.Mathlib.Omega.{arith}
 use borrow.Author.Tests.{eq-eqb}
 use lib.Dec.{eqb}
-use lib.ListN.{length, getD, take, drop}
+use lib.ListN.{length, getD, take, drop, List·getD-eq-default}
 use lib.Seq.{take-at, drop-at}
 use Rattle.arith.specs.Choice.{pick, both, every}
 use Rattle.arith.specs.Asking.{firstNo}
@@ -21,7 +21,7 @@ use Rattle.plan.specs.declared.Task.{Task}
 use Rattle.plan.specs.Times.{timeOf}
 use Rattle.plan.specs.Levels.{Rising, speedOf, hyperperiod, nominal}
 use Rattle.plan.specs.LevelBlocks.{speedsIn}
-use Rattle.plan.specs.Blocks.{tasksIn}
+use Rattle.plan.specs.Blocks.{noTask, tasksIn}
 use Rattle.plan.specs.Pairs.{Pair, pairsIn, periodOf, goodPair}
 use Rattle.plan.specs.Answers.{roomNumber, writtenBy, storedBy}
 use Rattle.plan.proofs.TimeLaws.{time-some}
@@ -55,8 +55,8 @@ use Rattle.reclaiming.specs.StateBlock.{State, encode, decode, planIn, w
 use Rattle.reclaiming.specs.States.{newEntry, stateWith, startState, passedState, passedHold, viewOf}
 use Rattle.reclaiming.specs.Calls.{startReply, startBuffer, startNumber, startOrder, queueBytes, readyQueue, shownBytes, passReply, showNumber, showReply, showBuffer, queuedBy, queuedReply}
 use Rattle.reclaiming.specs.Run.{bytesAfter, trace, startedBytes}
-use Rattle.reclaiming.specs.Promises.{Started, OpenActual, InGap, OnTime, ClosesByArrival, ClosesInTime, MostUrgent, NamesMostUrgent, Shows, Demand3, QueueShown, ticksIn, TotalTold, PairsKept, arrivedWith, StaysSound, SameSpeeds, RunsMostUrgent, NoDeadEnd, Open, OneSchedule, EveryArrival, timeLeft, isRun, holdIn, lastOrder, stateAfter, actualBook, plainBook, replies}
-use Rattle.reclaiming.proofs.Fine.{Ahead, Gap, Fine, Accepted, nominalSpeed}
+use Rattle.reclaiming.specs.Promises.{Started, OpenActual, InGap, OnTime, ClosesByArrival, ClosesInTime, MostUrgent, NamesMostUrgent, Shows, Demand3, QueueShown, ticksIn, TotalTold, PairsKept, AboveFloor, NeverCrawls, arrivedWith, StaysSound, SameSpeeds, RunsMostUrgent, NoDeadEnd, Open, OneSchedule, EveryArrival, timeLeft, isRun, holdIn, lastOrder, stateAfter, actualBook, plainBook, replies}
+use Rattle.reclaiming.proofs.Fine.{Ahead, Gap, Fine, fine-floor, Accepted, nominalSpeed}
 use Rattle.reclaiming.proofs.Replies.{is-idle, is-run, viewOrder, order-accepted, order-booked, order-runs, order-held, not-refused}
 use Rattle.reclaiming.proofs.Plans.{nominal-positive, plan-fits}
 use Rattle.reclaiming.proofs.StateCodec.{StorableTable, length-encode}
@@ -65,7 +65,7 @@ use Rattle.reclaiming.proofs.NextArrival.{next-soonest}
 use Rattle.reclaiming.proofs.PassedStates.{choose-clock, choose-entries, choose-speeds}
 use Rattle.reclaiming.proofs.PassSound.{start-fine, hold-accepted, finish-accepted}
 use Rattle.reclaiming.proofs.Books.{OpenLatest, Held, held-start, Ended, ended-start, latest-arrived, latest-deadline, OpenSince, since-start, in-plain}
-use Rattle.reclaiming.proofs.OrderFacts.{Runs, Ordered, idles, runs}
+use Rattle.reclaiming.proofs.OrderFacts.{Runs, Ordered, idles, runs, order-facts}
 use Rattle.reclaiming.proofs.Worked as worked
 use Rattle.reclaiming.proofs.Runs.{Tied, Kept, idle-level, kept-pass, stored-sound, stored-length, speeds-are, decoded, reply-is}
 
@@ -634,6 +634,26 @@ pairs-kept levels block pairs buffer passes ok p m =
     (after-run levels block pairs buffer passes ok .tied)
     p
     (good-pair (tasksIn block) p (every-in (goodPair (tasksIn block)) (pairsIn pairs) (pairs-are levels block pairs buffer ok) p m))
+
+-- the order of a state that is tied to the books runs no task below its floor; a plan has none for the number of an idle order
+floor-kept :
+    (speeds : List ℕ) (ts : List Task) →
+    FineList speeds (length ts) ts →
+    {s : State} {a : DispatcherBook} {b : Book} {last : Reply} →
+    Tied speeds ts s a b last →
+    AboveFloor ts a
+floor-kept speeds ts good {s} {a} t =
+    subst₂ (λ (task level : ℕ). getD ts task noTask .floor ≤ level) (sym (t .task)) (sym (t .level))
+    (elim (order-facts speeds (timing speeds ts) (nominal speeds ts) s (t .fine .order)) [
+      | idles e l none ↦
+          let past : getD ts (s .task) noTask ≡ noTask = List·getD-eq-default ts noTask (omega (arith, good .count-high)) in
+          omega (arith, ap (λ (t : Task). t .floor) past)
+      | runs r ↦ omega (arith, fine-floor (t .fine .entries) (s .task), r .floor)
+    ])
+
+pub never-crawls : NeverCrawls
+never-crawls levels block pairs buffer passes ok =
+    floor-kept (speedsIn levels) (tasksIn block) (good levels block pairs buffer ok) (after-run levels block pairs buffer passes ok .tied)
 
 pub stays-sound : StaysSound
 stays-sound levels block pairs buffer passes ok =

@@ -5,24 +5,21 @@ use mathlib.Core.Path.{_≡_, refl, sym, ap, subst, _∙_}
 use mathlib.Core.Bool.{Bool, true, true≢false}
 use mathlib.Core.List.{List, [], _∷_}
 use mathlib.Core.Logic.{_⊎_, inl, inr, ⊎-elim}
-use native.Mathlib.Decide.{decLe}
 use native.Mathlib.Omega.{arith}
-use borrow.Author.Tests.{leb-true, le-leb}
-use lib.Dec.{leb, eqb}
-use lib.ListN.{length, take}
+use lib.Dec.{eqb}
+use lib.ListN.{length, getD, take}
 use Rattle.arith.specs.Choice.{pick}
 use Rattle.arith.specs.Asking.{firstNo}
 use Rattle.arith.proofs.Tests.{passed, failed, tested}
-use Rattle.arith.proofs.Searches.{first-le, first-passes}
 use Rattle.plan.specs.declared.Task.{Task}
 use Rattle.plan.specs.declared.Rest.{Rest}
 use Rattle.plan.specs.Times.{timeOf}
-use Rattle.plan.specs.Levels.{speedOf, nominal}
+use Rattle.plan.specs.Levels.{Rising, nominal}
 use Rattle.plan.specs.LevelBlocks.{speedsIn}
-use Rattle.plan.specs.Blocks.{tasksIn}
+use Rattle.plan.specs.Blocks.{noTask, tasksIn}
 use Rattle.plan.proofs.TimeLaws.{time-some}
 use Rattle.plan.proofs.LevelBlockLaws.{FineTable}
-use Rattle.plan.proofs.Facts.{FineList}
+use Rattle.plan.proofs.Facts.{FineTasks, FineList, floor-at}
 use Rattle.schedule.specs.PlainSchedule.{Timing, Pending, Book, leftIn, opened}
 use Rattle.schedule.specs.Feasibility.{In}
 use Rattle.schedule.proofs.QueueLaws.{in-queueOf}
@@ -46,6 +43,7 @@ use Rattle.reclaiming.proofs.Replies.{not-refused}
 use Rattle.reclaiming.proofs.Plans.{nominal-positive}
 use Rattle.reclaiming.proofs.Soundness.{pass-accepted}
 use Rattle.reclaiming.proofs.OrderFacts.{head-below}
+use Rattle.reclaiming.proofs.Lowest.{lowest-floor, lowest-most, lowest-meets, lowest-least}
 use Rattle.reclaiming.proofs.Lone.{gap-least}
 use Rattle.reclaiming.proofs.Allowances.{allowance-is}
 use Rattle.reclaiming.proofs.PassSound.{anew-ahead}
@@ -54,7 +52,7 @@ use Rattle.reclaiming.proofs.Runs.{Tied, Kept, kept-pass}
 use Rattle.reclaiming.proofs.Demand.{table, good, entry, plain-is, open-latest, open-gap, tied-start, kept-start, after-run}
 use Rattle.reclaiming.proofs.Ideal.{NonePast, ordered-left, past-booked, past-first, view-is, asked, ticked-is, same-reply, first-is}
 
-module _ (speeds : List ℕ) (ts : List Task) where
+module _ (speeds : List ℕ) (rising : Rising speeds) (ts : List Task) where
   abbrev τ : Timing
   τ = timing speeds ts
 
@@ -63,7 +61,7 @@ module _ (speeds : List ℕ) (ts : List Task) where
   AheadAt v = (i : ℕ) → i < length ts → timeAtNominal speeds ts v i ≤ v .remaining i
 
   -- so an order that is chosen there takes the full earliness
-  module _ (admitted : nominal speeds ts < length speeds) (v : View) (ahead : AheadAt v) where
+  module _ (plan : FineTasks speeds ts) (v : View) (floors : v .floor ≡ (λ i. getD ts i noTask .floor)) (ahead : AheadAt v) where
     -- where task x has a job, the allowance is its time at nominal and the earliness
     exact-at : (x : ℕ) → x < length ts → plainAllowance τ v x ≡ timeAtNominal speeds ts v x + earliness speeds ts v x
     exact-at x h = omega (arith, ahead x h, allowance-is τ (v .clock) (v .remaining) (length ts) x h)
@@ -71,31 +69,25 @@ module _ (speeds : List ℕ) (ts : List Task) where
     full-at : (x : ℕ) → x < length ts → allowance τ v x ≡ fullTime speeds ts v x
     full-at x h = ap (λ (t : ℕ). withGap (isLone τ v x) t (nextArrival τ (v .clock))) (exact-at x h)
 
-    -- the lowest level within a time that the nominal one meets
-    module _ (x within : ℕ) (met : timeAtNominal speeds ts v x ≤ within) where
-      abbrev test : ℕ → Bool
-      test speed = leb (timeOf speed (v .rest x)) within
-
-      low : lowestLevel speeds (v .rest x) within ≤ nominal speeds ts
-      low = first-le test speeds (nominal speeds ts) 0 admitted (le-leb (timeAtNominal speeds ts v x) within met)
-
-      lowest-meets : timeOf (speedOf speeds (lowestLevel speeds (v .rest x) within)) (v .rest x) ≤ within
-      lowest-meets = leb-true (timeOf (speedOf speeds (lowestLevel speeds (v .rest x) within)) (v .rest x)) within (first-passes test speeds 0 (omega (arith, low)))
-
-      lowest-least : (l : ℕ) → l < lowestLevel speeds (v .rest x) within → within < timeOf (speedOf speeds l) (v .rest x)
-      lowest-least l h =
-          elim (decLe (timeOf (speedOf speeds l) (v .rest x)) within) [
-            | no more ↦ omega arith
-            | yes less ↦ absurd (omega (arith, low, first-le test speeds l 0 (omega (arith, low)) (le-leb (timeOf (speedOf speeds l) (v .rest x)) within less)))
-          ]
-
-    full : (x : ℕ) → x < length ts → FullEarliness speeds ts v x (lowestLevel speeds (v .rest x) (allowance τ v x))
-    full x h =
-        subst (λ (t : ℕ). FullEarliness speeds ts v x (lowestLevel speeds (v .rest x) t)) (sym (full-at x h))
-        (record { ahead = ahead x h; exact = exact-at x h; meets = lowest-meets x (fullTime speeds ts v x) met; lowest = lowest-least x (fullTime speeds ts v x) met })
+    full : (x : ℕ) → x < length ts → v .floor x < length speeds → FullEarliness speeds ts v x (lowestLevel speeds (v .floor x) (v .rest x) (allowance τ v x))
+    full x h loaded =
+        subst (λ (t : ℕ). FullEarliness speeds ts v x (lowestLevel speeds (v .floor x) (v .rest x) t)) (sym (full-at x h))
+        (record {
+          ahead = ahead x h;
+          exact = exact-at x h;
+          meets = lowest-meets speeds (v .floor x) (v .rest x) time loaded within;
+          floor = lowest-floor speeds (v .floor x) (v .rest x) time;
+          lowest = lowest-least speeds (v .floor x) (v .rest x) time within;
+        })
       where
-        met : timeAtNominal speeds ts v x ≤ fullTime speeds ts v x
+        time : ℕ
+        time = fullTime speeds ts v x
+
+        met : timeAtNominal speeds ts v x ≤ time
         met = omega (arith, gap-least (isLone τ v x) (timeAtNominal speeds ts v x + earliness speeds ts v x) (nextArrival τ (v .clock)))
+
+        within : lowestLevel speeds (v .floor x) (v .rest x) time < length speeds
+        within = omega (arith, loaded, plan .admitted, lowest-most speeds (v .floor x) (v .rest x) time rising loaded (nominal speeds ts) (plan .admitted) met)
 
     takes : TakesEarliness speeds ts v (newOrder speeds τ v)
     takes = go (openJobs τ v) refl (holdOf speeds τ (chooseOrder speeds τ v))
@@ -103,11 +95,13 @@ module _ (speeds : List ℕ) (ts : List Task) where
         go : (q : List Pending) → openJobs τ v ≡ q → (hold : ℕ) → TakesEarliness speeds ts v (orderWith (orderFor speeds τ v q) hold)
         go [] e hold = tt
         go (f ∷ q) e hold =
-            elim (tested (eqb (f .job .task) 255))
+            let x : ℕ = f .job .task in
+            let below : x < length ts = head-below τ (v .clock) (λ i. v .rest i .work) (length ts) f q e in
+            elim (tested (eqb x 255))
             as (λ b _.
             TakesEarliness speeds ts v
-            (pick b (reply.Idle hold) (reply.Run (f .job .task) (lowestLevel speeds (v .rest (f .job .task)) (allowance τ v (f .job .task))) hold)))
-            [ passed ↦ tt | failed ↦ full (f .job .task) (head-below τ (v .clock) (λ i. v .rest i .work) (length ts) f q e) ]
+            (pick b (reply.Idle hold) (reply.Run x (lowestLevel speeds (v .floor x) (v .rest x) (allowance τ v x)) hold)))
+            [ passed ↦ tt | failed ↦ full x below (subst (λ (g : ℕ → ℕ). g x < length speeds) (sym floors) (floor-at (length speeds) ts x (plan .floors) below)) ]
 
 -- a plan that was accepted, over a table of speeds
 module _ (speeds : List ℕ) (table : FineTable speeds) (ts : List Task) (good : FineList speeds (length ts) ts) where
@@ -150,12 +144,12 @@ module _ (speeds : List ℕ) (table : FineTable speeds) (ts : List Task) (good :
       Kept speeds ts bytes a b last →
       NonePast speeds ts a →
       isOrder (passReply bytes (p .d) (p .finished)) ≡ true →
-      choosesAnew (timing speeds ts) (viewOfBooks a b) (p .d) (p .finished) ≡ true →
+      choosesAnew (timing speeds ts) (viewOfBooks ts a b) (p .d) (p .finished) ≡ true →
       TakesEarliness speeds ts (tickedView speeds ts a b p) (passReply bytes (p .d) (p .finished))
   takes-pass p {bytes} {a} {b} {last} k past e anew =
       subst (TakesEarliness speeds ts (tickedView speeds ts a b p)) (sym chosen)
-      (takes speeds ts (good .tasks .admitted) (tickedView speeds ts a b p)
-      (subst (AheadAt speeds ts) (ticked-is speeds table ts good t past p ok) (anew-ahead speeds (table .rising) ts good s (t .fine) (p .d) (p .finished) ok renews)))
+      (takes speeds (table .rising) ts (good .tasks) (tickedView speeds ts a b p) refl
+      (subst (AheadAt speeds (table .rising) ts) (ticked-is speeds table ts good t past p ok) (anew-ahead speeds (table .rising) ts good s (t .fine) (p .d) (p .finished) ok renews)))
     where
       s : State
       s = k .state
@@ -164,7 +158,7 @@ module _ (speeds : List ℕ) (table : FineTable speeds) (ts : List Task) (good :
       t = k .tied
 
       number : ℕ
-      number = firstNo (passQuestions speeds (timing speeds ts) (viewOfBooks a b) (p .d) (p .finished))
+      number = firstNo (passQuestions speeds (timing speeds ts) (viewOfBooks ts a b) (p .d) (p .finished))
 
       replied : passReply bytes (p .d) (p .finished) ≡ idealReply speeds ts a b p
       replied = same-reply speeds table ts good k past p
@@ -176,7 +170,7 @@ module _ (speeds : List ℕ) (table : FineTable speeds) (ts : List Task) (good :
       chosen =
           replied
           ∙ ap (λ (n : ℕ). repliedBy n (idealOrder speeds ts a b p)) none
-          ∙ ap (λ (x : Bool). pick x (newOrder speeds (timing speeds ts) (tickedView speeds ts a b p)) (orderWith (tickedView speeds ts a b p) (holdOf speeds (timing speeds ts) (viewOfBooks a b) - p .d))) anew
+          ∙ ap (λ (x : Bool). pick x (newOrder speeds (timing speeds ts) (tickedView speeds ts a b p)) (orderWith (tickedView speeds ts a b p) (holdOf speeds (timing speeds ts) (viewOfBooks ts a b) - p .d))) anew
 
       ok : Accepted speeds (timing speeds ts) s (p .d) (p .finished)
       ok =
@@ -192,7 +186,7 @@ module _ (speeds : List ℕ) (table : FineTable speeds) (ts : List Task) (good :
       NonePast speeds ts a →
       isOrder (answerAt (trace bytes passes) n .reply) ≡ true →
       choosesAnew (timing speeds ts)
-      (viewOfBooks (bookedAll speeds ts a (take n (trace bytes passes))) (ranAll (timing speeds ts) b (take n (trace bytes passes))))
+      (viewOfBooks ts (bookedAll speeds ts a (take n (trace bytes passes))) (ranAll (timing speeds ts) b (take n (trace bytes passes))))
       (answerAt (trace bytes passes) n .pass .d) (answerAt (trace bytes passes) n .pass .finished)
       ≡ true →
       TakesEarliness speeds ts
@@ -211,7 +205,7 @@ theorem-1 levels block pairs buffer passes ok =
 
 pub with-full-earliness : WithFullEarliness
 with-full-earliness levels block pairs buffer passes ok = record {
-  at-first = subst (TakesEarliness speeds ts begun) (sym (first-is levels block pairs buffer ok)) (takes speeds ts (plan .tasks .admitted) begun ahead-begun);
+  at-first = subst (TakesEarliness speeds ts begun) (sym (first-is levels block pairs buffer ok)) (takes speeds rise ts (plan .tasks) begun refl ahead-begun);
   at-pass = λ n e anew.
       takes-run speeds (table levels block pairs buffer ok) ts plan passes n (kept-start levels block pairs buffer ok)
       (past-first levels block pairs buffer ok) e anew;
@@ -223,6 +217,9 @@ with-full-earliness levels block pairs buffer passes ok = record {
     ts : List Task
     ts = tasksIn block
 
+    rise : Rising speeds
+    rise = table levels block pairs buffer ok .rising
+
     begun : View
     begun = firstView speeds ts
 
@@ -233,10 +230,10 @@ with-full-earliness levels block pairs buffer passes ok = record {
     first = startReply levels block pairs (length buffer)
 
     -- at the start every job is whole, and has its whole allotment
-    ahead-begun : AheadAt speeds ts begun
+    ahead-begun : AheadAt speeds rise ts begun
     ahead-begun =
         subst (λ (f : ℕ → Rest). (i : ℕ) → i < length ts → timeOf (nominalSpeed speeds ts) (f i) ≤ leftIn i (opened (timing speeds ts) .pending))
         (ordered-left (unopenedBook ts) first)
-        (subst (AheadAt speeds ts) (view-is speeds ts (tied-start levels block pairs buffer ok) (past-first levels block pairs buffer ok))
+        (subst (AheadAt speeds rise ts) (view-is speeds ts (tied-start levels block pairs buffer ok) (past-first levels block pairs buffer ok))
         (λ i h.
         subst (λ (e : Entry). timeOf (nominalSpeed speeds ts) (restIn e) ≤ e .remaining) (sym (entry levels block pairs buffer ok i h)) (omega arith)))

@@ -1,11 +1,11 @@
 -- What a sound state and an accepted pass are, as facts with names.
 -- Assumes nothing.
 use Prim.Native.Nat.{ℕ, _≤_, _<_}
-use mathlib.Core.Path.{_≡_}
+use mathlib.Core.Path.{_≡_, sym, ap, _∙_}
 use mathlib.Core.Bool.{Bool, true, false}
 use mathlib.Core.List.{List}
 use mathlib.Core.Logic.{_≢_, _⊎_}
-use lib.ListN.{length, getD}
+use lib.ListN.{length, getD, List·getD-map}
 use Rattle.plan.specs.declared.Task.{Task}
 use Rattle.plan.specs.Times.{whole, Within, timeOf}
 use Rattle.plan.specs.Levels.{speedOf, nominal}
@@ -13,7 +13,7 @@ use Rattle.plan.specs.Blocks.{noTask}
 use Rattle.schedule.specs.PlainSchedule.{Timing}
 use Rattle.reclaiming.specs.Allotments.{timing}
 use Rattle.reclaiming.specs.Orders.{nextArrival, openJobs, runningTime, running}
-use Rattle.reclaiming.specs.StateBlock.{State, queuedIn, workOf, remainingOf, restOf, planIn}
+use Rattle.reclaiming.specs.StateBlock.{State, noEntry, queuedIn, floorOf, workOf, remainingOf, restOf, taskOf, planIn}
 use Rattle.reclaiming.specs.States.{viewOf}
 use Rattle.reclaiming.specs.Questions.{orderSound}
 
@@ -28,6 +28,11 @@ pub record FineEntries (speeds : List ℕ) (ts : List Task) (s : State) : Type 0
   pub closed : (i : ℕ) → i < length ts → workOf s i ≡ 0 → restOf s i .fixed ≡ 0
   pub remaining : (i : ℕ) → i < length ts → remainingOf s i ≤ timing speeds ts .allotment i
   pub total : s .total ≡ queuedIn (s .entries)
+
+-- each task's entry has its floor
+pub fine-floor : {speeds : List ℕ} {ts : List Task} {s : State} → FineEntries speeds ts s → (i : ℕ) → floorOf s i ≡ getD ts i noTask .floor
+fine-floor {s = s} f i =
+    ap (λ (t : Task). t .floor) (sym (List·getD-map taskOf (s .entries) i noEntry) ∙ ap (λ (l : List Task). getD l i noTask) (f .plan))
 
 -- each task's job can be done at the nominal level in its plain ticks left
 abbrev pub Ahead : List ℕ → List Task → State → Type 0

@@ -39,7 +39,7 @@ use Rattle.reclaiming.specs.States.{viewOf, chosenState, newEntry, state
 use Rattle.reclaiming.specs.Calls.{passReply, startReply, passBytes}
 use Rattle.reclaiming.specs.Run.{trace, startedBytes}
 use Rattle.reclaiming.specs.Promises.{Started, stateOfBooks, IdealRun, SameLeft, orderAfter, replies, stateAfter, actualBook, plainBook, lastOrder}
-use Rattle.reclaiming.proofs.Fine.{Accepted}
+use Rattle.reclaiming.proofs.Fine.{fine-floor, Accepted}
 use Rattle.reclaiming.proofs.Soundness.{planIn-at, fine-length, pass-accepted}
 use Rattle.reclaiming.proofs.Runs.{Tied, Kept, idle-level, order-recorded, order-ran, tied-next, kept-pass, reply-is}
 use Rattle.reclaiming.proofs.Demand.{table, good, tied-start, kept-start, is-state, after-run}
@@ -95,9 +95,16 @@ module _ (speeds : List ℕ) (ts : List Task) where
   past-start r = past-ordered (unopenedBook ts) r no-task
 
   -- what a tied state knows is what the books know
-  pub view-is : {s : State} {a : DispatcherBook} {b : Book} {last : Reply} → Tied speeds ts s a b last → NonePast a → viewOf s ≡ viewOfBooks a b
+  pub view-is : {s : State} {a : DispatcherBook} {b : Book} {last : Reply} → Tied speeds ts s a b last → NonePast a → viewOf s ≡ viewOfBooks ts a b
   view-is {s} {a} {b} t past =
-      λ k. record { clock = sym (t .clock) k; task = sym (t .task) k; level = sym (t .level) k; rest = λ i. rest i k; remaining = λ i. left i k }
+      λ k. record {
+        clock = sym (t .clock) k;
+        task = sym (t .task) k;
+        level = sym (t .level) k;
+        floor = λ i. fine-floor (t .fine .entries) i k;
+        rest = λ i. rest i k;
+        remaining = λ i. left i k;
+      }
     where
       missing : (i : ℕ) → length ts ≤ i → getD (s .entries) i noEntry ≡ noEntry
       missing i h = List·getD-eq-default (s .entries) noEntry (omega (arith, fine-length (t .fine .entries)))
@@ -179,11 +186,11 @@ module _ (speeds : List ℕ) (table : FineTable speeds) (ts : List Task) (good :
     abbrev order : Reply
     order = orderWith (viewOf (passedState speeds τ s d finished)) (passedHold speeds τ s d finished)
 
-    seen : viewOf s ≡ viewOfBooks a b
+    seen : viewOf s ≡ viewOfBooks ts a b
     seen = view-is speeds ts t past
 
     -- the questions are the books'
-    pub asked : firstNo (passQuestions speeds (timing speeds (planIn s)) (viewOf s) d finished) ≡ firstNo (passQuestions speeds τ (viewOfBooks a b) d finished)
+    pub asked : firstNo (passQuestions speeds (timing speeds (planIn s)) (viewOf s) d finished) ≡ firstNo (passQuestions speeds τ (viewOfBooks ts a b) d finished)
     asked = ap₂ (λ (l : List Task) (v : View). firstNo (passQuestions speeds (timing speeds l) v d finished)) (t .fine .entries .plan) seen
 
     -- accepted, its ticks make of the state what they make of the books
@@ -193,7 +200,7 @@ module _ (speeds : List ℕ) (table : FineTable speeds) (ts : List Task) (good :
         as (λ x _. viewOf ticks ≡ withOrder (viewOf (pick x (chosenState speeds τ ticks) ticks)) (s .task) (s .level))
         [ passed ↦ refl | failed ↦ refl ]
         ∙ ap (λ (v : View). withOrder v (s .task) (s .level)) (view-is speeds ts after-it (past-booked speeds ts a p order past))
-        ∙ (λ k. withOrder (viewOfBooks (recorded k) (order-ran speeds ts p next hold τ b k)) (sym (t .task) k) (sym (t .level) k))
+        ∙ (λ k. withOrder (viewOfBooks ts (recorded k) (order-ran speeds ts p next hold τ b k)) (sym (t .task) k) (sym (t .level) k))
       where
         next : State
         next = passedState speeds τ s d finished
@@ -268,10 +275,11 @@ trace-take (suc n) bytes (p ∷ ps) =
     (trace-take n (passBytes bytes (p .d) (p .finished)) ps)
 
 -- an order changes nothing but the order
-unordered : (b : DispatcherBook) (c : Book) (r : Reply) → withOrder (viewOfBooks (ordered b r) c) 255 0 ≡ withOrder (viewOfBooks b c) 255 0
-unordered b c (reply.Run task level hold) = refl
-unordered b c (reply.Idle hold) = refl
-unordered b c (reply.Refused n) = refl
+unordered :
+    (ts : List Task) (b : DispatcherBook) (c : Book) (r : Reply) → withOrder (viewOfBooks ts (ordered b r) c) 255 0 ≡ withOrder (viewOfBooks ts b c) 255 0
+unordered ts b c (reply.Run task level hold) = refl
+unordered ts b c (reply.Idle hold) = refl
+unordered ts b c (reply.Refused n) = refl
 
 module _ (levels block pairs buffer : List ℕ) (ok : Started levels block pairs buffer) where
   abbrev speeds : List ℕ
@@ -292,7 +300,7 @@ module _ (levels block pairs buffer : List ℕ) (ok : Started levels block pairs
       tied-start levels block pairs buffer ok .order-is
       ∙ new-order speeds (timing speeds ts) (stateWith 0 255 0 (listTo (length ts) (newEntry (timing speeds ts) ts)) speeds)
       ∙ ap (newOrder speeds (timing speeds ts))
-      (ap (λ (v : View). withOrder v 255 0) (view-is speeds ts (tied-start levels block pairs buffer ok) past-first) ∙ unordered (unopenedBook ts) (opened (timing speeds ts)) first)
+      (ap (λ (v : View). withOrder v 255 0) (view-is speeds ts (tied-start levels block pairs buffer ok) past-first) ∙ unordered ts (unopenedBook ts) (opened (timing speeds ts)) first)
 
   -- every reply is that of the books
   pub all-replies : (passes : List Pass) → replies levels block pairs buffer passes ≡ idealReplies speeds ts passes

@@ -4,6 +4,7 @@ pub mod Plans
 pub mod FieldLaws
 pub mod StateCodec
 pub mod OrderFacts
+pub mod Lowest
 pub mod Lone
 pub mod Soundness
 pub mod NextArrival

@@ -1,6 +1,6 @@
 -- The order of a sound state, as facts about each task: what `orderSound` tests of the head of the open jobs, both ways.
 -- Assumes nothing.
-use Prim.Native.Nat.{ℕ, _≤_, _<_}
+use Prim.Native.Nat.{ℕ, _≤_, _<_, max}
 use mathlib.Core.Path.{_≡_, refl, sym, ap, subst, _∙_}
 use mathlib.Core.Bool.{Bool, true}
 use mathlib.Core.List.{List, [], _∷_}
@@ -11,21 +11,23 @@ use borrow.Author.Tests.{leb-true, le-leb, eqb-true, eq-eqb}
 use lib.Dec.{leb, eqb}
 use Rattle.arith.specs.Choice.{both}
 use Rattle.arith.proofs.Tests.{both-left, both-right, both-true}
+use Rattle.arith.proofs.QuestionLaws.{within-low, within-high, within-true}
 use Rattle.schedule.specs.PlainSchedule.{Timing, Job, Pending, latest, queueOf}
 use Rattle.schedule.specs.Feasibility.{In}
 use Rattle.schedule.proofs.Urgency.{MoreUrgent, asymmetric}
 use Rattle.schedule.proofs.Queue.{Sorted, leads-in}
 use Rattle.schedule.proofs.QueueLaws.{latestPending, Stands, queueOf-in, in-queueOf, queueOf-sorted}
 use Rattle.reclaiming.specs.Orders.{allowance, openJobs, runningTime}
-use Rattle.reclaiming.specs.StateBlock.{State, workOf}
+use Rattle.reclaiming.specs.StateBlock.{State, floorOf, workOf}
 use Rattle.reclaiming.specs.States.{viewOf}
-use Rattle.reclaiming.specs.Questions.{orderSound}
+use Rattle.reclaiming.specs.Questions.{levelSound, orderSound}
 
--- the order runs the most urgent open job, at a level that meets its allowance
+-- the order runs the most urgent open job, at a level from its floor on that meets its allowance
 pub record Runs (speeds : List ℕ) (τ : Timing) (highest : ℕ) (s : State) : Type 0 where
   pub below : s .task < τ .count
   pub work : 0 < workOf s (s .task)
-  pub level : s .level ≤ highest
+  pub floor : floorOf s (s .task) ≤ s .level
+  pub level : s .level ≤ max highest (floorOf s (s .task))
   pub meets : runningTime speeds (viewOf s) ≤ allowance τ (viewOf s) (s .task)
   pub urgent :
       (i : ℕ) → i < τ .count → 0 < workOf s i → i ≢ s .task → MoreUrgent τ (latest τ (s .clock) (s .task)) (latest τ (s .clock) i)
@@ -89,7 +91,8 @@ module _ (speeds : List ℕ) (τ : Timing) (highest : ℕ) (s : State) where
           idles (eqb-true (s .task) 255 (both-left (eqb (s .task) 255) (eqb (s .level) 0) h))
           (eqb-true (s .level) 0 (both-right (eqb (s .task) 255) (eqb (s .level) 0) h)) (none-left τ (s .clock) (workOf s) (τ .count) e)
       go (f ∷ q) e h =
-          let a : Bool = leb (s .level) highest in
+          let floor : ℕ = floorOf s (s .task) in
+          let a : Bool = levelSound highest floor (s .level) in
           let b : Bool = leb (runningTime speeds (viewOf s)) (allowance τ (viewOf s) (s .task)) in
           let x : f .job .task ≡ s .task = sym (eqb-true (s .task) (f .job .task) (both-left (eqb (s .task) (f .job .task)) (both a b) h)) in
           let r : both a b ≡ true = both-right (eqb (s .task) (f .job .task)) (both a b) h in
@@ -99,7 +102,8 @@ module _ (speeds : List ℕ) (τ : Timing) (highest : ℕ) (s : State) where
           (record {
             below = subst (λ (k : ℕ). k < τ .count) x (head-below τ (s .clock) (workOf s) (τ .count) f q e);
             work = subst (λ (k : ℕ). 0 < workOf s k) x (head-left τ (s .clock) (workOf s) (τ .count) f q e);
-            level = leb-true (s .level) highest (both-left a b r);
+            floor = within-low floor (max highest floor) (s .level) (both-left a b r);
+            level = within-high floor (max highest floor) (s .level) (both-left a b r);
             meets = leb-true (runningTime speeds (viewOf s)) (allowance τ (viewOf s) (s .task)) (both-right a b r);
             urgent = λ i k w ne.
                 subst (λ (y : Job). MoreUrgent τ y (latest τ (s .clock) i)) j
@@ -117,7 +121,8 @@ module _ (speeds : List ℕ) (τ : Timing) (highest : ℕ) (s : State) where
           (omega (arith, head-left τ (s .clock) (workOf s) (τ .count) f q e, z (f .job .task) (head-below τ (s .clock) (workOf s) (τ .count) f q e)))
       go (f ∷ q) e (runs r) =
           both-true (eq-eqb (s .task) (f .job .task) (head (ℕ-discrete (s .task) (f .job .task))))
-          (both-true (le-leb (s .level) highest (r .level)) (le-leb (runningTime speeds (viewOf s)) (allowance τ (viewOf s) (s .task)) (r .meets)))
+          (both-true (within-true (floorOf s (s .task)) (max highest (floorOf s (s .task))) (s .level) (r .floor) (r .level))
+          (le-leb (runningTime speeds (viewOf s)) (allowance τ (viewOf s) (s .task)) (r .meets)))
         where
           -- if the head were another job, each would be more urgent than the other
           head : Dec (s .task ≡ f .job .task) → s .task ≡ f .job .task

@@ -1,6 +1,6 @@
 -- A started state is sound, an accepted pass keeps it so, and the hold that stands is always accepted.
 -- Assumes nothing.
-use Prim.Native.Nat.{ℕ, _+_, _-_, _%_, _≤_, _<_, min}
+use Prim.Native.Nat.{ℕ, _+_, _-_, _%_, _≤_, _<_, min, max}
 use mathlib.Core.Path.{_≡_, refl, sym, ap, ap₂, subst, _∙_}
 use mathlib.Core.Bool.{Bool, true, false, true≢false}
 use mathlib.Core.List.{List, [], _∷_, map}
@@ -17,13 +17,13 @@ use Rattle.arith.specs.Ranges.{listTo, someTo}
 use Rattle.arith.proofs.Tests.{passed, failed, tested, both-left, both-true, neither-first, neither-second, either-second}
 use Rattle.arith.proofs.Sums.{sumTo-eq}
 use Rattle.arith.proofs.RangeLaws.{length-listTo, getD-listTo, no-none}
-use Rattle.arith.proofs.Searches.{first-le, first-passes}
+use Rattle.arith.proofs.QuestionLaws.{within-true}
 use Rattle.plan.specs.declared.Task.{Task}
 use Rattle.plan.specs.declared.Rest.{Rest}
 use Rattle.plan.specs.Times.{whole, noRest, Within, timeOf, worn}
 use Rattle.plan.specs.Levels.{Rising, speedOf, nominal}
 use Rattle.plan.specs.Blocks.{noTask}
-use Rattle.plan.proofs.Facts.{FineList, range-at}
+use Rattle.plan.proofs.Facts.{FineTasks, FineList, range-at, floor-at}
 use Rattle.plan.proofs.TimeLaws.{within-self, within-trans}
 use Rattle.plan.proofs.LevelLaws.{Positive, range-positive}
 use Rattle.schedule.specs.PlainSchedule.{Timing, Job, Pending, moreUrgent, latest}
@@ -33,10 +33,11 @@ use Rattle.reclaiming.specs.declared.Entry.{Entry}
 use Rattle.reclaiming.specs.Allotments.{timing}
 use Rattle.reclaiming.specs.Orders.{nextArrival, plainAllowance, allowance, openJobs, lowestLevel, runningTime, holdOf, orderFor, running}
 use Rattle.reclaiming.specs.Passes.{arrivesAt, choosesAnew}
-use Rattle.reclaiming.specs.StateBlock.{State, noEntry, taskOf, workOf, remainingOf, restIn, restOf, planIn}
+use Rattle.reclaiming.specs.StateBlock.{State, noEntry, taskOf, floorOf, workOf, remainingOf, restIn, restOf, planIn}
 use Rattle.reclaiming.specs.States.{putOrder, chosenState, newEntry, stateWith, startState, drainedOf, workedOf, agedEntry, entryAfter, movedState, passedState, passedHold, viewOf, takeOrder}
 use Rattle.reclaiming.specs.Questions.{orderSound}
-use Rattle.reclaiming.proofs.Fine.{nominalSpeed, FineEntries, Ahead, Gap, Fine, Accepted}
+use Rattle.reclaiming.proofs.Fine.{nominalSpeed, FineEntries, fine-floor, Ahead, Gap, Fine, Accepted}
+use Rattle.reclaiming.proofs.Lowest.{lowest-floor, lowest-most, lowest-meets}
 use Rattle.reclaiming.proofs.PassedStates.{passed-entries}
 use Rattle.reclaiming.proofs.OrderFacts.{Runs, Ordered, idles, runs, facts-order, head-below}
 use Rattle.reclaiming.proofs.NextArrival.{next-positive, next-quiet, before-next, not-next, next-on}
@@ -47,19 +48,25 @@ use Rattle.reclaiming.proofs.Worked.{Reclaims, paced, stays-ahead, gap-
 use Rattle.reclaiming.proofs.Lone.{closed-lone, allowance-least, allowance-gap}
 
 -- the order that is chosen where every task is ahead
-module _ (speeds : List ℕ) (ts : List Task) (admitted : nominal speeds ts < length speeds) (s : State)
+module _ (speeds : List ℕ) (rising : Rising speeds) (ts : List Task) (plan : FineTasks speeds ts) (s : State) (fine : FineEntries speeds ts s)
     (ahead : Ahead speeds ts s) where
-  -- the nominal level meets an allowance, so the lowest that does is no higher
-  chosen-level : (x : ℕ) → x < length ts → lowestLevel speeds (restOf s x) (allowance (timing speeds ts) (viewOf s) x) ≤ nominal speeds ts
-  chosen-level x h =
-      first-le (λ (speed : ℕ). leb (timeOf speed (restOf s x)) (allowance (timing speeds ts) (viewOf s) x)) speeds (nominal speeds ts) 0 admitted
-      (le-leb (timeOf (nominalSpeed speeds ts) (restOf s x)) (allowance (timing speeds ts) (viewOf s) x)
+  -- the level for task x
+  abbrev levelFor : ℕ → ℕ
+  levelFor x = lowestLevel speeds (floorOf s x) (restOf s x) (allowance (timing speeds ts) (viewOf s) x)
+
+  floor-loaded : (x : ℕ) → x < length ts → floorOf s x < length speeds
+  floor-loaded x h = omega (arith, fine-floor fine x, floor-at (length speeds) ts x (plan .floors) h)
+
+  -- the nominal level meets an allowance, so the lowest from the floor on that does is no higher, or it is the floor
+  chosen-most : (x : ℕ) → x < length ts → levelFor x ≤ max (nominal speeds ts) (floorOf s x)
+  chosen-most x h =
+      lowest-most speeds (floorOf s x) (restOf s x) (allowance (timing speeds ts) (viewOf s) x) rising (floor-loaded x h) (nominal speeds ts) (plan .admitted)
       (omega (
         arith,
         ahead x h,
         allowance-is (timing speeds ts) (s .clock) (remainingOf s) (length ts) x h,
         allowance-least (timing speeds ts) s x,
-      )))
+      ))
 
   order-for : (q : List Pending) → openJobs (timing speeds ts) (viewOf s) ≡ q →
       orderSound speeds (timing speeds ts) (nominal speeds ts) (viewOf (takeOrder s (orderFor speeds (timing speeds ts) (viewOf s) q)))
@@ -69,12 +76,15 @@ module _ (speeds : List ℕ) (ts : List Task) (admitted : nominal speeds ts < le
       subst (λ (l : List Pending). orderSound speeds (timing speeds ts) (nominal speeds ts) (viewOf (putOrder s 255 0)) l ≡ true) (sym e) refl
   order-for (f ∷ q) e =
       let x : ℕ = f .job .task in
-      let l : ℕ = lowestLevel speeds (restOf s x) (allowance (timing speeds ts) (viewOf s) x) in
-      let low : l ≤ nominal speeds ts = chosen-level x (head-below (timing speeds ts) (s .clock) (workOf s) (length ts) f q e) in
-      subst (λ (k : List Pending). orderSound speeds (timing speeds ts) (nominal speeds ts) (viewOf (putOrder s x l)) k ≡ true) (sym e)
+      let floor : ℕ = floorOf s x in
+      let time : ℕ = allowance (timing speeds ts) (viewOf s) x in
+      let h : x < length ts = head-below (timing speeds ts) (s .clock) (workOf s) (length ts) f q e in
+      let most : levelFor x ≤ max (nominal speeds ts) floor = chosen-most x h in
+      subst (λ (k : List Pending). orderSound speeds (timing speeds ts) (nominal speeds ts) (viewOf (putOrder s x (levelFor x))) k ≡ true) (sym e)
       (both-true (eq-eqb x x refl)
-      (both-true (le-leb l (nominal speeds ts) low)
-      (first-passes (λ (speed : ℕ). leb (timeOf speed (restOf s x)) (allowance (timing speeds ts) (viewOf s) x)) speeds 0 (omega arith))))
+      (both-true (within-true floor (max (nominal speeds ts) floor) (levelFor x) (lowest-floor speeds floor (restOf s x) time) most)
+      (le-leb (timeOf (speedOf speeds (levelFor x)) (restOf s x)) time
+      (lowest-meets speeds floor (restOf s x) time (floor-loaded x h) (omega (arith, most, floor-loaded x h, plan .admitted))))))
 
   pub order-chosen :
       orderSound speeds (timing speeds ts) (nominal speeds ts) (viewOf (chosenState speeds (timing speeds ts) s))
@@ -88,19 +98,21 @@ with-order task level f = record { plan = f .plan; left = f .left; closed = f .c
 
 -- so choosing an order makes a sound state, where every task is ahead
 pub fine-chosen :
-    (speeds : List ℕ) (ts : List Task) →
-    nominal speeds ts < length speeds →
+    (speeds : List ℕ) →
+    Rising speeds →
+    (ts : List Task) →
+    FineTasks speeds ts →
     (s : State) →
     FineEntries speeds ts s →
     Ahead speeds ts s →
     Fine speeds ts (chosenState speeds (timing speeds ts) s)
-fine-chosen speeds ts admitted s f ahead = go (openJobs (timing speeds ts) (viewOf s)) refl
+fine-chosen speeds rising ts plan s f ahead = go (openJobs (timing speeds ts) (viewOf s)) refl
   where
     go : (q : List Pending) → openJobs (timing speeds ts) (viewOf s) ≡ q → Fine speeds ts (takeOrder s (orderFor speeds (timing speeds ts) (viewOf s) q))
-    go [] e = record { entries = with-order 255 0 f; order = order-for speeds ts admitted s ahead [] e; pace = inl ahead }
+    go [] e = record { entries = with-order 255 0 f; order = order-for speeds rising ts plan s f ahead [] e; pace = inl ahead }
     go (g ∷ q) e = record {
-      entries = with-order (g .job .task) (lowestLevel speeds (restOf s (g .job .task)) (allowance (timing speeds ts) (viewOf s) (g .job .task))) f;
-      order = order-for speeds ts admitted s ahead (g ∷ q) e;
+      entries = with-order (g .job .task) (levelFor speeds rising ts plan s f ahead (g .job .task)) f;
+      order = order-for speeds rising ts plan s f ahead (g ∷ q) e;
       pace = inl ahead;
     }
 
@@ -116,7 +128,7 @@ plan-listTo ts f h =
 
 pub start-fine : (speeds : List ℕ) (ts : List Task) → FineList speeds (length ts) ts → Rising speeds → Fine speeds ts (startState speeds ts)
 start-fine speeds ts plan rising =
-    fine-chosen speeds ts (plan .tasks .admitted)
+    fine-chosen speeds rising ts (plan .tasks)
     (stateWith 0 255 0 (listTo (length ts) new) speeds)
     (record {
       plan = plan-listTo ts new (λ i h. refl);
@@ -307,7 +319,8 @@ module _ (speeds : List ℕ) (rising : Rising speeds) (ts : List Task) (plan : F
               (record {
                 below = r .below;
                 work = rw (work-kept (s .task) (r .below)) (worked-open speeds rising ts plan s fine d finished pass goes (s .task) (r .below) (r .work));
-                level = r .level;
+                floor = subst (λ (e : Entry). e .floor ≤ s .level) (sym (kept-at (s .task) (r .below))) (r .floor);
+                level = subst (λ (e : Entry). s .level ≤ max (nominal speeds ts) (e .floor)) (sym (kept-at (s .task) (r .below))) (r .level);
                 meets = meets-kept r;
                 urgent = λ i h w ne.
                     subst (λ (j : Job). MoreUrgent τ (latest τ (s .clock + d) (s .task)) j) (sym (job-kept i h))
@@ -325,7 +338,7 @@ module _ (speeds : List ℕ) (rising : Rising speeds) (ts : List Task) (plan : F
     pub pass-fine : Fine speeds ts (passedState speeds τ s d finished)
     pass-fine =
         elim (tested anew) as (λ b _. anew ≡ b → Fine speeds ts (pick b (chosenState speeds τ moved) moved)) [
-          | passed ↦ λ e. fine-chosen speeds ts (plan .tasks .admitted) moved moved-fine (anew-ahead e)
+          | passed ↦ λ e. fine-chosen speeds rising ts (plan .tasks) moved moved-fine (anew-ahead e)
           | failed ↦ λ e. record {
             entries = moved-fine;
             order = facts-order speeds τ (nominal speeds ts) moved (order-kept (goes-on e) (none-arrives e));
@@ -384,7 +397,7 @@ module _ (speeds : List ℕ) (rising : Rising speeds) (ts : List Task) (plan : F
         go : Ordered speeds τ (nominal speeds ts) s → 1 ≤ holdOf speeds τ (viewOf s)
         go (idles t l z) = rw (eq-eqb (s .task) 255 t) next
         go (runs r) =
-            rw (not-true (eqb (s .task) 255) (runs-running speeds rising ts plan s r)) (omega (arith, next, time-positive speeds rising ts plan s r))
+            rw (not-true (eqb (s .task) 255) (runs-running speeds rising ts plan s r)) (omega (arith, next, time-positive speeds rising ts plan s (fine .entries) r))
 
     -- a pass of that hold is accepted, finished exactly if it is the whole time needed
     pub hold-accepted :

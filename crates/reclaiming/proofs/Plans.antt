@@ -5,7 +5,6 @@ use Prim.Native.Nat.{ℕ, _*_, _/_, _<_, _≤_}
 use mathlib.Core.Path.{_≡_, subst, ap, _∙_}
 use mathlib.Core.List.{List}
 use native.Mathlib.Nat.{div-self, mod-eq-zero-of-dvd, mul-one}
-use native.Mathlib.Decide.{ℕ-discrete}
 use native.Mathlib.Omega.{arith}
 use borrow.Author.Tests.{leb-true}
 use lib.ListN.{length, getD}
@@ -13,7 +12,7 @@ use Rattle.arith.proofs.Sums.{sumOf-places, sumTo-term}
 use Rattle.arith.proofs.Searches.{first-passes}
 use Rattle.plan.specs.declared.Task.{Task}
 use Rattle.plan.specs.Times.{whole, taskTime}
-use Rattle.plan.specs.Levels.{Rising, speedOf, hyperperiod, demandWithin, admits, nominal}
+use Rattle.plan.specs.Levels.{Rising, hyperperiod, demandWithin, admits, nominal}
 use Rattle.plan.specs.Blocks.{noTask}
 use Rattle.plan.proofs.TimeLaws.{time-some}
 use Rattle.plan.proofs.Facts.{FineList, InRange, range-at}
@@ -25,19 +24,8 @@ use Rattle.reclaiming.specs.Allotments.{timing}
 use Rattle.reclaiming.proofs.Fine.{nominalSpeed}
 
 module _ (speeds : List ℕ) (ts : List Task) (fine : FineList speeds (length ts) ts) (rising : Rising speeds) where
-  -- a level up to the nominal one has a speed above 0, and is no faster
-  pub level-positive : (l : ℕ) → l ≤ nominal speeds ts → 0 < speedOf speeds l
-  level-positive l h = rising .positive l (omega (arith, fine .tasks .admitted))
-
-  pub level-slower : (l : ℕ) → l ≤ nominal speeds ts → speedOf speeds l ≤ nominalSpeed speeds ts
-  level-slower l h =
-      elim (ℕ-discrete l (nominal speeds ts)) [
-        | yes e ↦ let z : speedOf speeds l ≡ nominalSpeed speeds ts = ap (speedOf speeds) e in omega arith
-        | no e ↦ omega (arith, rising .faster l (nominal speeds ts) (omega arith) (fine .tasks .admitted))
-      ]
-
   pub nominal-positive : 0 < nominalSpeed speeds ts
-  nominal-positive = level-positive (nominal speeds ts) (omega arith)
+  nominal-positive = rising .positive (nominal speeds ts) (fine .tasks .admitted)
 
   pub task-range : (i : ℕ) → i < length ts → InRange (getD ts i noTask)
   task-range i l = range-at ts i (fine .tasks .ranges) l

@@ -34,9 +34,9 @@ use Rattle.reclaiming.specs.States.{startState, passedState, passedHold,
 use Rattle.reclaiming.specs.Questions.{passing, starting}
 use Rattle.reclaiming.specs.Calls.{startNumber, startReply, startBuffer, startOrder, passNumber, passReply, passBytes, passOrder, queuedReply}
 use Rattle.reclaiming.specs.Run.{trace, bytesAfter, startedBytes}
-use Rattle.reclaiming.specs.Promises.{Started, OnTime, ClosesByArrival, EarlierClosed, NamesMostUrgent, ticksIn, lastOrder, actualBook, stateAfter, FollowsBooks, PassWithin, replies, OfNewOrders, AllAhead, TakesEarliness}
+use Rattle.reclaiming.specs.Promises.{Started, OnTime, ClosesByArrival, EarlierClosed, AboveFloor, NamesMostUrgent, ticksIn, lastOrder, actualBook, stateAfter, FollowsBooks, PassWithin, replies, OfNewOrders, AllAhead, TakesEarliness}
 use Rattle.reclaiming.specs.Numbers.{replyNumber}
-use Rattle.reclaiming.specs.Play.{replyFrom, replyNumbers, answersFrom, leftBy, playedState, playedReplies, PlayedOnTime, PlayedInTime, PlayedMostUrgent, PlayedPairsKept, PlayedTotalTold, PlayedByBooks, PlayedWithin, playedActual, PlayedEarliness, PlayedAhead, PlayedPlainly}
+use Rattle.reclaiming.specs.Play.{replyFrom, replyNumbers, answersFrom, leftBy, playedState, playedReplies, PlayedOnTime, PlayedInTime, PlayedMostUrgent, PlayedPairsKept, PlayedAboveFloor, PlayedTotalTold, PlayedByBooks, PlayedWithin, playedActual, PlayedEarliness, PlayedAhead, PlayedPlainly}
 use Rattle.reclaiming.proofs.Fine.{Fine, Accepted}
 use Rattle.reclaiming.proofs.Replies.{is-idle, is-run, viewOrder, order-accepted, not-refused}
 use Rattle.reclaiming.proofs.Soundness.{sound-state, sound-fine, sound-table, sound-own, pass-accepted, fine-small, Starts, start-facts}
@@ -44,7 +44,7 @@ use Rattle.reclaiming.proofs.PassSound.{start-fine, pass-fine}
 use Rattle.reclaiming.proofs.Ideal.{ideal-run, trace-take}
 use Rattle.reclaiming.proofs.Bounds.{passes-within}
 use Rattle.reclaiming.proofs.Earliness.{theorem-1, with-full-earliness}
-use Rattle.reclaiming.proofs.Demand.{demand-3, closes-in-time, runs-most-urgent, pairs-kept, total-told, room, after-length, untouched, one-schedule, every-arrival}
+use Rattle.reclaiming.proofs.Demand.{demand-3, closes-in-time, runs-most-urgent, pairs-kept, never-crawls, total-told, room, after-length, untouched, one-schedule, every-arrival}
 
 -- a reply whose parts each fit their place in the number
 abbrev pub Small : Reply → Type 0
@@ -252,6 +252,11 @@ module _ (levels : List ℕ) where
         carried (λ (r : Reply) (l : List Answered). EarlierClosed τ (pairsIn pairs) (actual r l)) ok n
         (pairs-kept levels block pairs state (take n passes) ok)
 
+    played-above-floor : PlayedAboveFloor levels block first-number passes replies-found
+    played-above-floor accepted n =
+        let ok : Started levels block pairs state = number-accepted accepted in
+        carried (λ (r : Reply) (l : List Answered). AboveFloor ts (actual r l)) ok n (never-crawls levels block pairs state (take n passes) ok)
+
     -- the state that is left begins with the run's
     pub left-front : Started levels block pairs state → take stateLength (playedState levels block pairs state passes) ≡ stateAfter levels block pairs state passes
     left-front ok =
@@ -311,7 +316,8 @@ module _ (levels : List ℕ) where
         × (PlayedByBooks levels block first passes replies m
         × (PlayedEarliness levels block first passes replies
         × (PlayedAhead levels block first passes replies
-        × (PlayedWithin levels block first passes replies × PlayedPlainly levels block first passes replies))))))))
+        × (PlayedWithin levels block first passes replies
+        × (PlayedPlainly levels block first passes replies × PlayedAboveFloor levels block first passes replies)))))))))
 
     abbrev PlayLeaves : ℕ → List ℕ → List ℕ → Type 0
     PlayLeaves first m replies =
@@ -337,12 +343,20 @@ module _ (levels : List ℕ) where
         books :
             PlayedByBooks levels block number passes left (playedState levels block pairs state passes)
             × (PlayedEarliness levels block number passes left
-            × (PlayedAhead levels block number passes left × (PlayedWithin levels block number passes left × PlayedPlainly levels block number passes left)))
+            × (PlayedAhead levels block number passes left
+            × (PlayedWithin levels block number passes left
+            × (PlayedPlainly levels block number passes left × PlayedAboveFloor levels block number passes left))))
         books = (
           played-by-books block pairs state found passes,
           (
             played-earliness block pairs state found passes,
-            (played-ahead block pairs state found passes, (played-within block pairs state found passes, played-plainly block pairs state found passes)),
+            (
+              played-ahead block pairs state found passes,
+              (
+                played-within block pairs state found passes,
+                (played-plainly block pairs state found passes, played-above-floor block pairs state found passes),
+              ),
+            ),
           ),
         )
 

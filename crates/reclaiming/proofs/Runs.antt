@@ -115,7 +115,7 @@ module _ (speeds : List ℕ) (table : FineTable speeds) (ts : List Task) (good :
   rising : Rising speeds
   rising = table .rising
 
-  few : length speeds ≤ 256
+  few : length speeds ≤ 16
   few = few-levels table
 
   fits : Fitting τ (hyperperiod ts)

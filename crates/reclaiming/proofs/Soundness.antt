@@ -25,7 +25,7 @@ use Rattle.plan.specs.Blocks.{noTask, tasksIn}
 use Rattle.plan.specs.Pairs.{pairsGood, pairsQuestion, pairedReading}
 use Rattle.plan.specs.Questions.{judging, reading, roomQuestion}
 use Rattle.plan.proofs.LevelBlockLaws.{FineTable, fine-table, loaded-table}
-use Rattle.plan.proofs.Facts.{FineList, InRange, fine-list, list-yes, fine-block, block-list}
+use Rattle.plan.proofs.Facts.{FineList, InRange, floor-at, fine-list, list-yes, fine-block, block-list}
 use Rattle.reclaiming.specs.declared.Entry.{Entry}
 use Rattle.reclaiming.specs.Allotments.{timing}
 use Rattle.reclaiming.specs.Orders.{nextArrival, isLone, openJobs, runningTime, running}
@@ -34,7 +34,7 @@ use Rattle.reclaiming.specs.Fields.{widthOf}
 use Rattle.reclaiming.specs.StateBlock.{State, noEntry, queuedIn, endFields, totalField, restOf, remainingOf, restIn, taskOf, planIn, decode, laidOut, stateLength}
 use Rattle.reclaiming.specs.States.{viewOf}
 use Rattle.reclaiming.specs.Questions.{fixedSound, entrySound, entryAhead, orderSound, fitsGap, totalSound, stateSound, soundAt, sound, starting}
-use Rattle.reclaiming.proofs.Fine.{nominalSpeed, FineEntries, Ahead, Gap, Fine, Accepted}
+use Rattle.reclaiming.proofs.Fine.{nominalSpeed, FineEntries, fine-floor, Ahead, Gap, Fine, Accepted}
 use Rattle.reclaiming.proofs.Plans.{task-range, allotment-short}
 use Rattle.reclaiming.proofs.StateCodec.{StorableEntry, StorableTable, Storable}
 use Rattle.reclaiming.proofs.OrderFacts.{idles, runs, order-facts}
@@ -308,13 +308,22 @@ start-facts levels block pairs room h =
 pub fine-small :
     (speeds : List ℕ) (ts : List Task) (s : State) →
     FineList speeds (length ts) ts →
-    length speeds ≤ 256 →
+    length speeds ≤ 16 →
     Fine speeds ts s →
     (s .task < 256) × (s .level < 256)
 fine-small speeds ts s l few f =
     elim (order-facts speeds (timing speeds ts) (nominal speeds ts) s (f .order)) [
       | idles t h none ↦ (omega arith, omega arith)
-      | runs r ↦ (omega (arith, r .below, l .count-high), omega (arith, r .level, l .tasks .admitted))
+      | runs r ↦ (
+        omega (arith, r .below, l .count-high),
+        omega (
+          arith,
+          r .level,
+          l .tasks .admitted,
+          fine-floor (f .entries) (s .task),
+          floor-at (length speeds) ts (s .task) (l .tasks .floors) (r .below),
+        ),
+      )
     ]
 
 -- a table that may be loaded fits the block
@@ -326,11 +335,12 @@ pub entries-storable :
     (speeds : List ℕ) (ts : List Task) (s : State) →
     FineList speeds (length ts) ts →
     Rising speeds →
+    length speeds ≤ 16 →
     FineEntries speeds ts s →
     (i : ℕ) →
     i < length (s .entries) →
     StorableEntry (getD (s .entries) i noEntry)
-entries-storable speeds ts s l rising f i h =
+entries-storable speeds ts s l rising few f i h =
     let k : i < length ts = omega (arith, fine-length f) in
     let same : getD ts i noTask ≡ taskOf (getD (s .entries) i noEntry) =
     ap (λ (us : List Task). getD us i noTask) (sym (f .plan)) ∙ planIn-at s i in
@@ -339,6 +349,7 @@ entries-storable speeds ts s l rising f i h =
     subst (λ (t : Task). Within (restOf s i) (whole t)) same (f .left i k) in
     record {
       period = omega (arith, r .period-high);
+      floor = omega (arith, few, fine-floor f i, floor-at (length speeds) ts i (l .tasks .floors) k);
       worst = omega (arith, r .worst-high);
       work = omega (arith, r .worst-high, left .work);
       remaining = omega (arith, f .remaining i k, allotment-short speeds ts l rising i k);
@@ -351,16 +362,17 @@ pub total-storable :
     (speeds : List ℕ) (ts : List Task) (s : State) →
     FineList speeds (length ts) ts →
     Rising speeds →
+    length speeds ≤ 16 →
     FineEntries speeds ts s →
     s .total < 256 ^ widthOf endFields totalField
-total-storable speeds ts s l rising f =
+total-storable speeds ts s l rising few f =
     omega (
       arith,
       f .total,
       fine-length f,
       l .count-high,
       sumOf-most (λ (e : Entry). e .remaining) (s .entries) 65535 noEntry
-          (λ i h. omega (arith, entries-storable speeds ts s l rising f i h .remaining)),
+          (λ i h. omega (arith, entries-storable speeds ts s l rising few f i h .remaining)),
     )
 
 -- a fine state whose clock is in range fits its block, with a table that does
@@ -368,7 +380,7 @@ pub fine-storable :
     (speeds : List ℕ) (ts : List Task) (s : State) →
     FineList speeds (length ts) ts →
     Rising speeds →
-    length speeds ≤ 256 →
+    length speeds ≤ 16 →
     Fine speeds ts s →
     s .clock ≤ largestClock →
     StorableTable (s .speeds) →
@@ -381,7 +393,7 @@ fine-storable speeds ts s l rising few f late table =
       task = o .0;
       level = o .1;
       count = omega (arith, l .count-high);
-      entries = entries-storable speeds ts s l rising (f .entries);
+      entries = entries-storable speeds ts s l rising few (f .entries);
       table = table;
-      total = total-storable speeds ts s l rising (f .entries);
+      total = total-storable speeds ts s l rising few (f .entries);
     }

@@ -17,7 +17,7 @@ use Rattle.reclaiming.specs.Fields.{Field, zeros, width, valueIn, fields
 use Rattle.reclaiming.specs.StateBlock.{State, noEntry, headFields, clockField, taskField, levelField, countField, tailFields, places}
 use Rattle.reclaiming.specs.StateBlock.{levelPlaces, speedRow, levelsField, speedField, endFields, totalField, tailAt, totalAt, tailBytes}
 use Rattle.reclaiming.specs.StateBlock.{levelCount, speedIn, totalIn}
-use Rattle.reclaiming.specs.StateBlock.{entryFields, periodField, worstField, workField, remainingField, fixedField, unspentField, headLength, entryLength, stateLength}
+use Rattle.reclaiming.specs.StateBlock.{floorAndWorst, floorPart, worstPart, entryFields, periodField, worstField, workField, remainingField, fixedField, unspentField, headLength, entryLength, stateLength}
 use Rattle.reclaiming.specs.StateBlock.{entryBytes, entriesBytes, unusedBytes, encode, entryFrom, entriesFrom, stateCount, decode, sameBytes, laidOut}
 use Rattle.reclaiming.proofs.FieldLaws.{length-fields, read-field}
 
@@ -31,10 +31,21 @@ entry-length = refl
 pub state-length : stateLength ≡ 221
 state-length = refl
 
--- an entry whose numbers fit their bytes
+-- a number made of a floor and a worst case has both in it, and is made of the two in it
+pub floor-part : (floor worst : ℕ) → worst < 1048576 → floorPart (floorAndWorst floor worst) ≡ floor
+floor-part floor worst h = omega arith
+
+pub worst-part : (floor worst : ℕ) → worst < 1048576 → worstPart (floorAndWorst floor worst) ≡ worst
+worst-part floor worst h = omega arith
+
+pub both-parts : (n : ℕ) → floorAndWorst (floorPart n) (worstPart n) ≡ n
+both-parts n = omega arith
+
+-- an entry whose numbers fit their bits
 pub record StorableEntry (e : Entry) : Type 0 where
   pub period : e .period < 256 ^ widthOf entryFields periodField
-  pub worst : e .worst < 256 ^ widthOf entryFields worstField
+  pub floor : e .floor < 16
+  pub worst : e .worst < 1048576
   pub work : e .work < 256 ^ widthOf entryFields workField
   pub remaining : e .remaining < 256 ^ widthOf entryFields remainingField
   pub fixed : e .fixed < 256 ^ widthOf entryFields fixedField
@@ -70,12 +81,16 @@ entry-back : (e : Entry) (rest : List ℕ) → StorableEntry e → entryFrom (en
 entry-back e rest h =
     λ i. record {
       period = read-field entryFields periodField e rest (h .period) i;
-      worst = read-field entryFields worstField e rest (h .worst) i;
+      floor = (ap floorPart shared ∙ floor-part (e .floor) (e .worst) (h .worst)) i;
+      worst = (ap worstPart shared ∙ worst-part (e .floor) (e .worst) (h .worst)) i;
       work = read-field entryFields workField e rest (h .work) i;
       remaining = read-field entryFields remainingField e rest (h .remaining) i;
       fixed = read-field entryFields fixedField e rest (h .fixed) i;
       unspent = read-field entryFields unspentField e rest (h .unspent) i;
     }
+  where
+    shared : readField entryFields worstField (entryBytes e ++ rest) ≡ floorAndWorst (e .floor) (e .worst)
+    shared = read-field entryFields worstField e rest (omega (arith, h .floor, h .worst))
 
 entries-back :
     (es : List Entry) (rest : List ℕ) →

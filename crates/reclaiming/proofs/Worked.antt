@@ -18,16 +18,17 @@ use Rattle.plan.specs.declared.Task.{Task}
 use Rattle.plan.specs.declared.Rest.{Rest}
 use Rattle.plan.specs.Times.{noRest, Within, timeOf, worn}
 use Rattle.plan.specs.Levels.{Rising, speedOf, nominal}
-use Rattle.plan.proofs.TimeLaws.{time-more, time-faster, time-none, time-some, time-after, worn-within, worn-open, none-within, within-self}
-use Rattle.plan.proofs.Facts.{FineList}
+use Rattle.plan.proofs.TimeLaws.{time-more, time-faster, time-none, time-some, time-after, time-outrun, worn-within, worn-open, none-within, within-self}
+use Rattle.plan.proofs.LevelLaws.{speed-rises}
+use Rattle.plan.proofs.Facts.{FineList, floor-at}
 use Rattle.schedule.specs.PlainSchedule.{Timing, moreUrgent, latest}
 use Rattle.schedule.proofs.Ahead.{left-drain}
 use Rattle.reclaiming.specs.Allotments.{timing}
 use Rattle.reclaiming.specs.Orders.{nextArrival, plainAllowance, runningTime, running}
 use Rattle.reclaiming.specs.StateBlock.{State, workOf, remainingOf, restOf}
 use Rattle.reclaiming.specs.States.{drainedOf, workedOf, viewOf}
-use Rattle.reclaiming.proofs.Fine.{nominalSpeed, Ahead, Gap, Fine, Accepted}
-use Rattle.reclaiming.proofs.Plans.{level-positive, level-slower, nominal-positive}
+use Rattle.reclaiming.proofs.Fine.{nominalSpeed, FineEntries, fine-floor, Ahead, Gap, Fine, Accepted}
+use Rattle.reclaiming.proofs.Plans.{nominal-positive}
 use Rattle.reclaiming.proofs.OrderFacts.{Runs, Ordered, idles, runs, order-facts}
 use Rattle.reclaiming.proofs.Lone.{lone-closed, allowance-which}
 use Rattle.reclaiming.proofs.Allowances.{allowed, allowance-is, allowance-before, drained-le, drained-part}
@@ -102,10 +103,23 @@ module _ (speeds : List ℕ) (rising : Rising speeds) (ts : List Task) (plan : F
   pub runs-running : (s : State) → Runs speeds τ (nominal speeds ts) s → running (viewOf s) ≡ true
   runs-running s r = ap not (ne-eqb (s .task) 255 (λ e. omega (arith, r .below, plan .count-high)))
 
+  -- its level is a loaded one, above the nominal one only where the floor is
+  pub runs-loaded : (s : State) → FineEntries speeds ts s → Runs speeds τ (nominal speeds ts) s → s .level < length speeds
+  runs-loaded s f r =
+      omega (
+        arith,
+        r .level,
+        plan .tasks .admitted,
+        fine-floor f (s .task),
+        floor-at (length speeds) ts (s .task) (plan .tasks .floors) (r .below),
+      )
+
+  runs-positive : (s : State) → FineEntries speeds ts s → Runs speeds τ (nominal speeds ts) s → 0 < speedOf speeds (s .level)
+  runs-positive s f r = rising .positive (s .level) (runs-loaded s f r)
+
   -- an open job needs time
-  pub time-positive : (s : State) → Runs speeds τ (nominal speeds ts) s → 0 < runningTime speeds (viewOf s)
-  time-positive s r =
-      time-some (speedOf speeds (s .level)) (restOf s (s .task)) (level-positive speeds ts plan rising (s .level) (r .level)) (r .work)
+  pub time-positive : (s : State) → FineEntries speeds ts s → Runs speeds τ (nominal speeds ts) s → 0 < runningTime speeds (viewOf s)
+  time-positive s f r = time-some (speedOf speeds (s .level)) (restOf s (s .task)) (runs-positive s f r) (r .work)
 
   -- a pass from a sound state
   module _ (s : State) (fine : Fine speeds ts s) (d : ℕ) (finished : Bool) (pass : Accepted speeds τ s d finished) where
@@ -119,8 +133,7 @@ module _ (speeds : List ℕ) (rising : Rising speeds) (ts : List Task) (plan : F
     -- a job that ran on needs d ticks less
     pub runs-on : Runs speeds τ (nominal speeds ts) s → timeOf rate rest ≡ runningTime speeds (viewOf s) - d
     runs-on r =
-        time-after rate d (restOf s (s .task)) (level-positive speeds ts plan rising (s .level) (r .level))
-        (pass .time (runs-running s r))
+        time-after rate d (restOf s (s .task)) (runs-positive s (fine .entries) r) (pass .time (runs-running s r))
 
     -- a job that did not finish is still open
     pub worked-open : finished ≡ false → (i : ℕ) → i < length ts → 0 < workOf s i → 0 < workedOf speeds s d finished i .work
@@ -128,8 +141,7 @@ module _ (speeds : List ℕ) (rising : Rising speeds) (ts : List Task) (plan : F
       where
         some-left : Runs speeds τ (nominal speeds ts) s → 0 < rest .work
         some-left r =
-            worn-open rate d (restOf s (s .task)) (level-positive speeds ts plan rising (s .level) (r .level)) (r .work)
-            (pass .unfinished (runs-running s r) f)
+            worn-open rate d (restOf s (s .task)) (runs-positive s (fine .entries) r) (r .work) (pass .unfinished (runs-running s r) f)
 
         go : Ordered speeds τ (nominal speeds ts) s → Dec (i ≡ s .task) → 0 < workedOf speeds s d finished i .work
         go (idles t l z) x = omega (arith, z i h)
@@ -164,15 +176,12 @@ module _ (speeds : List ℕ) (rising : Rising speeds) (ts : List Task) (plan : F
         let none : workedOf speeds s d finished i ≡ noRest = λ k. record { fixed = worked-closed i h z k; work = z k } in
         ap (timeOf (nominalSpeed speeds ts)) none ∙ time-none (nominalSpeed speeds ts) (nominal-positive speeds ts plan rising)
 
-    -- the running job, where it meets 01's allowance
-    ahead-mine :
-        Reclaims speeds ts s →
-        Runs speeds τ (nominal speeds ts) s →
-        timeOf (nominalSpeed speeds ts) (pick finished noRest rest) ≤ drainedOf τ s d (s .task)
-    ahead-mine k r =
-        elim (tested finished) as (λ b _. timeOf (nominalSpeed speeds ts) (pick b noRest rest) ≤ drainedOf τ s d (s .task)) [
-          | passed ↦ omega (arith, time-none (nominalSpeed speeds ts) (nominal-positive speeds ts plan rising))
-          | failed ↦
+    -- the running job went on, where it meets 01's allowance: up to the nominal level by that, above it since each tick takes a tick's work
+    -- at nominal and more
+    ahead-on : Reclaims speeds ts s → Runs speeds τ (nominal speeds ts) s → timeOf (nominalSpeed speeds ts) rest ≤ drainedOf τ s d (s .task)
+    ahead-on k r =
+        elim (decLe (s .level) (nominal speeds ts)) [
+          | yes low ↦
               omega (
                 arith,
                 left-drain τ (s .clock) (remainingOf s) (length ts) d (s .task) (r .below),
@@ -182,9 +191,28 @@ module _ (speeds : List ℕ) (rising : Rising speeds) (ts : List Task) (plan : F
                 k .ahead (s .task) (r .below),
                 time-more (nominalSpeed speeds ts) rest (restOf s (s .task)) (nominal-positive speeds ts plan rising)
                     (worn-within rate d (restOf s (s .task))),
-                time-faster rate (nominalSpeed speeds ts) rest
-                    (level-positive speeds ts plan rising (s .level) (r .level)) (level-slower speeds ts plan rising (s .level) (r .level)),
+                time-faster rate (nominalSpeed speeds ts) rest (runs-positive s (fine .entries) r)
+                    (speed-rises speeds rising (s .level) (nominal speeds ts) low (plan .tasks .admitted)),
               )
+          | no high ↦
+              omega (
+                arith,
+                left-drain τ (s .clock) (remainingOf s) (length ts) d (s .task) (r .below),
+                k .ahead (s .task) (r .below),
+                time-outrun (nominalSpeed speeds ts) rate d (restOf s (s .task)) (nominal-positive speeds ts plan rising)
+                    (speed-rises speeds rising (nominal speeds ts) (s .level) (omega arith) (runs-loaded s (fine .entries) r))
+                    (pass .time (runs-running s r)),
+              )
+        ]
+
+    ahead-mine :
+        Reclaims speeds ts s →
+        Runs speeds τ (nominal speeds ts) s →
+        timeOf (nominalSpeed speeds ts) (pick finished noRest rest) ≤ drainedOf τ s d (s .task)
+    ahead-mine k r =
+        elim (tested finished) as (λ b _. timeOf (nominalSpeed speeds ts) (pick b noRest rest) ≤ drainedOf τ s d (s .task)) [
+          | passed ↦ omega (arith, time-none (nominalSpeed speeds ts) (nominal-positive speeds ts plan rising))
+          | failed ↦ ahead-on k r
         ]
 
     pub stays-ahead :

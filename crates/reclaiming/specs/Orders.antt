@@ -1,9 +1,10 @@
 -- 01, "Orders and passes": which order is chosen, from what is seen at a moment, wherever that is kept. No byte is read here.
 -- Assumes nothing.
-use Prim.Native.Nat.{ℕ, _-_, _%_, min, max}
+use Prim.Native.Nat.{ℕ, _+_, _-_, _%_, min, max}
 use mathlib.Core.Bool.{Bool, not}
 use mathlib.Core.List.{List, [], _∷_}
 use lib.Dec.{leb, eqb}
+use lib.ListN.{drop}
 use Rattle.arith.specs.Choice.{pick, both, first}
 use Rattle.arith.specs.Sum.{sumTo}
 use Rattle.arith.specs.Ranges.{leastTo, someTo}
@@ -14,12 +15,13 @@ use Rattle.schedule.specs.PlainSchedule.{Timing, Pending, deadline, moreUrgent,
 use Rattle.reclaiming.specs.declared.Reply.{Reply}
 use Rattle.reclaiming.specs.declared.Reply.the-variants as reply
 
--- what is seen at a moment: its clock, the order that stands (255 and 0 for idle) and, by task number, what is left of each job and its
--- plain ticks left
+-- what is seen at a moment: its clock, the order that stands (255 and 0 for idle) and, by task number, each task's floor, what is left of its
+-- job and its plain ticks left
 pub record View : Type 0 where
   pub clock : ℕ
   pub task : ℕ
   pub level : ℕ
+  pub floor : ℕ → ℕ
   pub rest : ℕ → Rest
   pub remaining : ℕ → ℕ
 
@@ -49,9 +51,9 @@ allowance τ v x = withGap (isLone τ v x) (plainAllowance τ v x) (nextArrival 
 abbrev pub openJobs : Timing → View → List Pending
 openJobs τ v = queueOf τ (v .clock) (λ i. v .rest i .work) (τ .count)
 
--- 01: "The level is the lowest at which the work left needs no more than the allowance."
-abbrev pub lowestLevel : List ℕ → Rest → ℕ → ℕ
-lowestLevel speeds rest allowed = first (λ (speed : ℕ). leb (timeOf speed rest) allowed) speeds
+-- 01: "The level is the lowest at which the work left needs no more than the allowance."; 02, No. 8: "the lowest at or above the floor"
+abbrev pub lowestLevel : List ℕ → ℕ → Rest → ℕ → ℕ
+lowestLevel speeds floor rest allowed = floor + first (λ (speed : ℕ). leb (timeOf speed rest) allowed) (drop floor speeds)
 
 -- a job is running unless the order is to stay idle
 abbrev pub running : View → Bool
@@ -70,13 +72,21 @@ holdOf speeds τ v =
 
 -- the same moment with another order
 abbrev pub withOrder : View → ℕ → ℕ → View
-withOrder v task level = record { clock = v .clock; task = task; level = level; rest = v .rest; remaining = v .remaining }
+withOrder v task level = record {
+  clock = v .clock;
+  task = task;
+  level = level;
+  floor = v .floor;
+  rest = v .rest;
+  remaining = v .remaining;
+}
 
 -- 01: "An order is either to run a task or to stay idle. A run order names the most urgent open job, a level and a hold."
 abbrev pub orderFor : List ℕ → Timing → View → List Pending → View
 orderFor speeds τ v [] = withOrder v 255 0
 orderFor speeds τ v (e ∷ q) =
-    withOrder v (e .job .task) (lowestLevel speeds (v .rest (e .job .task)) (allowance τ v (e .job .task)))
+    let x : ℕ = e .job .task in
+    withOrder v x (lowestLevel speeds (v .floor x) (v .rest x) (allowance τ v x))
 
 abbrev pub chooseOrder : List ℕ → Timing → View → View
 chooseOrder speeds τ v = orderFor speeds τ v (openJobs τ v)

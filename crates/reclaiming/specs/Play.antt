@@ -25,7 +25,7 @@ use Rattle.reclaiming.specs.Books.{Answered, DispatcherBook, actualOf, p
 use Rattle.reclaiming.specs.StateBlock.{stateLength}
 use Rattle.reclaiming.specs.Calls.{startNumber, showReply, showBuffer, queuedReply}
 use Rattle.reclaiming.specs.Run.{trace, bytesAfter, startedBytes}
-use Rattle.reclaiming.specs.Promises.{OnTime, ClosesByArrival, EarlierClosed, NamesMostUrgent, Shows, ticksIn, lastOrder, FollowsBooks, TakesEarliness, OfNewOrders, AllAhead, PassWithin}
+use Rattle.reclaiming.specs.Promises.{OnTime, ClosesByArrival, EarlierClosed, AboveFloor, NamesMostUrgent, Shows, ticksIn, lastOrder, FollowsBooks, TakesEarliness, OfNewOrders, AllAhead, PassWithin}
 use Rattle.reclaiming.specs.Numbers.{replyNumber}
 
 -- a pass as a number: d in its lower 32 bits, and the next bit says whether the job finished
@@ -122,6 +122,10 @@ module _ (levels block : List ℕ) (first : ℕ) (passes : List Pass) (replies :
   -- 02, No. 5: before pass n, where the later task of a pair runs in it, the earlier's job that arrived with the running one is closed
   abbrev pub PlayedPairsKept : List ℕ → Type 0
   PlayedPairsKept pairs = isOrder (replyFrom first) ≡ true → (n : ℕ) → EarlierClosed τ (pairsIn pairs) (playedActual n)
+
+  -- 02, No. 8: the order that stands before pass n runs no task below its floor
+  abbrev pub PlayedAboveFloor : Type 0
+  PlayedAboveFloor = isOrder (replyFrom first) ≡ true → (n : ℕ) → AboveFloor ts (playedActual n)
 
   -- 02, No. 6: the total that all passes leave in the state is the sum over the ready queue of the plain schedule's book
   abbrev pub PlayedTotalTold : List ℕ → Type 0

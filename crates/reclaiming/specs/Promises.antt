@@ -130,6 +130,11 @@ arrivedWith τ b i = record { task = i; arrival = latest τ (b .clock) (b .task)
 abbrev pub EarlierClosed : Timing → List Pair → DispatcherBook → Type 0
 EarlierClosed τ pairs b = (p : Pair) → In p pairs → b .task ≡ p .later → In (arrivedWith τ b (p .earlier)) (b .closed)
 
+-- 02, No. 8: "The valve never crawls.": by the book, the order that stands runs no task below its floor; an idle one names 255, a number that
+-- no task has, so there is no floor
+abbrev pub AboveFloor : List Task → DispatcherBook → Type 0
+AboveFloor ts b = getD ts (b .task) noTask .floor ≤ b .level
+
 -- "on an accepted plan": starting answered with an order, so the level block before it and the pairs with it were accepted too
 abbrev pub Started : List ℕ → List ℕ → List ℕ → List ℕ → Type 0
 Started levels block pairs buffer = isOrder (startReply levels block pairs (length buffer)) ≡ true
@@ -245,6 +250,13 @@ PairsKept =
     Started levels block pairs buffer →
     EarlierClosed (timing (speedsIn levels) (tasksIn block)) (pairsIn pairs) (actualBook levels block pairs buffer passes)
 
+-- 02, No. 8: after any list of passes, so of every order of a run.
+abbrev pub NeverCrawls : Type 0
+NeverCrawls =
+    (levels block pairs buffer : List ℕ) (passes : List Pass) →
+    Started levels block pairs buffer →
+    AboveFloor (tasksIn block) (actualBook levels block pairs buffer passes)
+
 -- What is answered about a list before the start is what starting with it is answered; then only the room is left to ask.
 abbrev pub AskedBefore : Type 0
 AskedBefore =
@@ -293,7 +305,7 @@ stateOfBooks speeds ts actual plain =
 pub record FollowsBooks (speeds : List ℕ) (ts : List Task) (order : Reply) (answers : List Answered) (passes : List Pass) (bytes : List ℕ) : Type 0 where
   pub first : order ≡ idealFirst speeds ts
   pub each : (n : ℕ) → take n answers ≡ idealReplies speeds ts (take n passes)
-  pub view : viewOf (decode bytes) ≡ viewOfBooks (actualOf speeds ts order answers) (plainOf speeds ts answers)
+  pub view : viewOf (decode bytes) ≡ viewOfBooks ts (actualOf speeds ts order answers) (plainOf speeds ts answers)
   pub stored : bytes ≡ encode (stateOfBooks speeds ts (actualOf speeds ts order answers) (plainOf speeds ts answers))
 
 -- Demand 2: "Each order is the one that the Dynamic Reclaiming Algorithm (RTSS 2001) gives", as 01 puts it: for every accepted start and every
@@ -331,7 +343,7 @@ NoDeadEnd =
 pub record AheadOfPlain (speeds : List ℕ) (ts : List Task) (actual : DispatcherBook) (plain : Book) (j : Job) : Type 0 where
   pub left : ℕ
   pub entry : In (record { job = j; remaining = left }) (plain .pending)
-  pub ahead : timeAtNominal speeds ts (viewOfBooks actual plain) (j .task) ≤ left
+  pub ahead : timeAtNominal speeds ts (viewOfBooks ts actual plain) (j .task) ≤ left
 
 -- the paper: "At any time t during the execution of GDRA, w_i(t) ≤ rem_i(t), for any ready task T_i"; with rule 5.3, of every open job but the
 -- lone one in the gap
@@ -348,13 +360,15 @@ Theorem1 =
     Started levels block pairs buffer →
     AllAhead (speedsIn levels) (tasksIn block) (actualBook levels block pairs buffer passes) (plainBook levels block pairs buffer passes)
 
--- an order newly chosen, to run task x at a level: the job is ahead, so the earliness cuts nothing off, and the level is the lowest at which
--- the job's time is at most its time at nominal and the full earliness, or, alone, the ticks to the next arrival if these are more
+-- an order newly chosen, to run task x at a level: the job is ahead, so the earliness cuts nothing off, and the level is the lowest, at or
+-- above the floor, at which the job's time is at most its time at nominal and the full earliness, or, alone, the ticks to the next arrival if
+-- these are more
 pub record FullEarliness (speeds : List ℕ) (ts : List Task) (v : View) (x level : ℕ) : Type 0 where
   pub ahead : timeAtNominal speeds ts v x ≤ v .remaining x
   pub exact : plainAllowance (timing speeds ts) v x ≡ timeAtNominal speeds ts v x + earliness speeds ts v x
   pub meets : timeOf (speedOf speeds level) (v .rest x) ≤ fullTime speeds ts v x
-  pub lowest : (l : ℕ) → l < level → fullTime speeds ts v x < timeOf (speedOf speeds l) (v .rest x)
+  pub floor : v .floor x ≤ level
+  pub lowest : (l : ℕ) → v .floor x ≤ l → l < level → fullTime speeds ts v x < timeOf (speedOf speeds l) (v .rest x)
 
 abbrev pub TakesEarliness : List ℕ → List Task → View → Reply → Type 0
 TakesEarliness speeds ts v (reply.Run x level hold) = FullEarliness speeds ts v x level
@@ -368,7 +382,7 @@ pub record OfNewOrders (P : View → Reply → Type 0) (speeds : List ℕ) (ts :
   pub at-pass :
       (n : ℕ) →
       isOrder (answerAt answers n .reply) ≡ true →
-      choosesAnew (timing speeds ts) (viewOfBooks (actualOf speeds ts first (take n answers)) (plainOf speeds ts (take n answers))) (answerAt answers n .pass .d)
+      choosesAnew (timing speeds ts) (viewOfBooks ts (actualOf speeds ts first (take n answers)) (plainOf speeds ts (take n answers))) (answerAt answers n .pass .d)
       (answerAt answers n .pass .finished)
       ≡ true →
       P (tickedView speeds ts (actualOf speeds ts first (take n answers)) (plainOf speeds ts (take n answers)) (answerAt answers n .pass))

@@ -1,12 +1,12 @@
 -- 01, "Questions put to every call": those put to a state, and what each call asks, in its order.
 -- Assumes nothing.
-use Prim.Native.Nat.{ℕ}
+use Prim.Native.Nat.{ℕ, max}
 use mathlib.Core.Bool.{Bool, true}
 use mathlib.Core.List.{List, [], _∷_, _++_}
 use lib.Dec.{leb, eqb}
 use lib.ListN.{length}
 use Rattle.arith.specs.Choice.{pick, both, every}
-use Rattle.arith.specs.Asking.{Question, ask, firstNo}
+use Rattle.arith.specs.Asking.{Question, ask, firstNo, within}
 use Rattle.plan.specs.Times.{timeOf, taskTime}
 use Rattle.plan.specs.Levels.{speedOf, nominal}
 use Rattle.plan.specs.LevelBlocks.{tableGood, loading, speedsIn}
@@ -39,18 +39,23 @@ entryAhead speed e = leb (timeOf speed (restIn e)) (e .remaining)
 abbrev pub fitsGap : List ℕ → Timing → View → Bool
 fitsGap speeds τ v = both (isLone τ v (v .task)) (leb (runningTime speeds v) (nextArrival τ (v .clock)))
 
--- 01: "an idle order exactly if no job is open, else the most urgent open job at a level no higher than nominal that meets its allowance"
+-- 02, No. 8: "a run order's level at or above the floor, and at most the higher of nominal and floor"
+abbrev pub levelSound : ℕ → ℕ → ℕ → Bool
+levelSound highest floor level = within floor (max highest floor) level
+
+-- 01: "an idle order exactly if no job is open, else the most urgent open job at a level [as above] that meets its allowance"
 abbrev pub orderSound : List ℕ → Timing → ℕ → View → List Pending → Bool
 orderSound speeds τ highest v [] = both (eqb (v .task) 255) (eqb (v .level) 0)
 orderSound speeds τ highest v (e ∷ q) =
     both (eqb (v .task) (e .job .task))
-    (both (leb (v .level) highest) (leb (runningTime speeds v) (allowance τ v (v .task))))
+    (both (levelSound highest (v .floor (v .task)) (v .level)) (leb (runningTime speeds v) (allowance τ v (v .task))))
 
 -- 02, No. 6: "A state whose total differs is unsound."
 abbrev pub totalSound : State → Bool
 totalSound s = eqb (s .total) (queuedIn (s .entries))
 
--- 01: "Sound means [..] a plan that passes 3, 6, 7, 8;" the entries, the total and the order as above, whatever the clock
+-- 01: "Sound means [..] a plan that passes 3, 6, 7, 8;" 02, No. 8: "it also puts 24"; the entries, the total and the order as above, whatever
+-- the clock
 abbrev pub stateSound : List ℕ → State → Bool
 stateSound speeds s =
     let τ : Timing = timing speeds (planIn s) in

@@ -1,6 +1,6 @@
 -- 01, "Blocks": the state, and its block; 02, No. 1 and No. 6: it grows to 217 bytes, then to 221.
 -- Assumes nothing.
-use Prim.Native.Nat.{ℕ, zero, suc, _+_, _-_, _*_}
+use Prim.Native.Nat.{ℕ, zero, suc, _+_, _-_, _*_, _/_, _%_}
 use mathlib.Core.Bool.{Bool, true, false}
 use mathlib.Core.List.{List, [], _∷_, _++_, map}
 use lib.Dec.{eqb}
@@ -24,9 +24,12 @@ pub record State : Type 0 where
   pub total : ℕ
 
 abbrev pub noEntry : Entry
-noEntry = record { period = 0; worst = 0; work = 0; remaining = 0; fixed = 0; unspent = 0 }
+noEntry = record { period = 0; floor = 0; worst = 0; work = 0; remaining = 0; fixed = 0; unspent = 0 }
 
--- of task i's job: the work left, "0 once finished", and the plain ticks left; an entry's fixed ticks left are called unspent
+-- task i's floor; of its job: the work left, "0 once finished", and the plain ticks left; an entry's fixed ticks left are called unspent
+abbrev pub floorOf : State → ℕ → ℕ
+floorOf s i = getD (s .entries) i noEntry .floor
+
 abbrev pub workOf : State → ℕ → ℕ
 workOf s i = getD (s .entries) i noEntry .work
 
@@ -46,7 +49,7 @@ restOf s i = restIn (getD (s .entries) i noEntry)
 
 -- the plan in a state
 abbrev pub taskOf : Entry → Task
-taskOf e = record { period = e .period; worst = e .worst; fixed = e .fixed }
+taskOf e = record { period = e .period; worst = e .worst; fixed = e .fixed; floor = e .floor }
 
 abbrev pub planIn : State → List Task
 planIn s = map taskOf (s .entries)
@@ -55,6 +58,7 @@ planIn s = map taskOf (s .entries)
 abbrev pub entryWith : Task → Rest → ℕ → Entry
 entryWith t r remaining = record {
   period = t .period;
+  floor = t .floor;
   worst = t .worst;
   work = r .work;
   remaining = remaining;
@@ -89,14 +93,24 @@ abbrev pub zeroField : ℕ
 zeroField = 4
 
 -- 01: "sixteen entries of 12 bytes: period (2), worst case (3), work left (3; 0 once finished), plain ticks left (2), two zero bytes"; 02, No. 2:
--- "the two zero bytes become fixed ticks and fixed ticks left"
+-- "the two zero bytes become fixed ticks and fixed ticks left"; No. 8: a floor "in the top four bits of the worst case's three bytes"
 abbrev pub places : ℕ
 places = 16
+
+-- the number in those three bytes, made of both, and the two in it
+abbrev pub floorAndWorst : ℕ → ℕ → ℕ
+floorAndWorst floor worst = 1048576 * floor + worst
+
+abbrev pub floorPart : ℕ → ℕ
+floorPart n = n / 1048576
+
+abbrev pub worstPart : ℕ → ℕ
+worstPart n = n % 1048576
 
 abbrev pub entryFields : List (Field Entry)
 entryFields =
     field 2 (λ e. e .period)
-    ∷ field 3 (λ e. e .worst)
+    ∷ field 3 (λ e. floorAndWorst (e .floor) (e .worst))
     ∷ field 3 (λ e. e .work)
     ∷ field 2 (λ e. e .remaining)
     ∷ field 1 (λ e. e .fixed)
@@ -182,7 +196,8 @@ encode s = fieldsBytes headFields s ++ (entriesBytes (s .entries) ++ (unusedByte
 abbrev pub entryFrom : List ℕ → Entry
 entryFrom bytes = record {
   period = readField entryFields periodField bytes;
-  worst = readField entryFields worstField bytes;
+  floor = floorPart (readField entryFields worstField bytes);
+  worst = worstPart (readField entryFields worstField bytes);
   work = readField entryFields workField bytes;
   remaining = readField entryFields remainingField bytes;
   fixed = readField entryFields fixedField bytes;

@@ -16,11 +16,18 @@ use Rattle.reclaiming.specs.declared.Entry.{Entry}
 use Rattle.reclaiming.specs.Allotments.{timing}
 use Rattle.reclaiming.specs.Orders.{View, holdOf, chooseOrder}
 use Rattle.reclaiming.specs.Passes.{workedBy, arrivesAt, choosesAnew}
-use Rattle.reclaiming.specs.StateBlock.{State, noEntry, queuedIn, remainingOf, restOf, taskOf, planIn, entryWith}
+use Rattle.reclaiming.specs.StateBlock.{State, noEntry, queuedIn, floorOf, remainingOf, restOf, taskOf, planIn, entryWith}
 
 -- what a state shows of its moment
 abbrev pub viewOf : State → View
-viewOf s = record { clock = s .clock; task = s .task; level = s .level; rest = restOf s; remaining = remainingOf s }
+viewOf s = record {
+  clock = s .clock;
+  task = s .task;
+  level = s .level;
+  floor = floorOf s;
+  rest = restOf s;
+  remaining = remainingOf s;
+}
 
 -- the same state with another order
 abbrev pub putOrder : State → ℕ → ℕ → State

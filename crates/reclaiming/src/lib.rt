@@ -1,9 +1,10 @@
 // What the dispatcher promises is in specs/ and proofs/. The code has the types alone.
 
-// A task's entry in the state: its plan, the work left of its job, the remaining ticks of that job in the plain schedule, the task's fixed
-// ticks, and those of them that are left of the job, unspent.
+// A task's entry in the state: its plan, with its floor, the work left of its job, the remaining ticks of that job in the plain schedule, the
+// task's fixed ticks, and those of them that are left of the job, unspent.
 pub struct Entry {
     pub period: u32,
+    pub floor: u32,
     pub worst: u32,
     pub work: u32,
     pub remaining: u32,

@@ -12,14 +12,14 @@ use Rattle.plan.specs.declared.Task.{Task}
 use Rattle.plan.specs.Levels.{Rising, nominal}
 use Rattle.arith.specs.Asking.{firstNo}
 use Rattle.plan.specs.Questions.{taskQuestions}
-use Rattle.plan.proofs.Facts.{FineList, InRange, tasks-yes}
+use Rattle.plan.proofs.Facts.{FineTasks, FineList, InRange, floor-at, tasks-yes}
 use Rattle.plan.specs.Times.{whole, Within}
 use Rattle.state.specs.Code.{Holds, FitTask, FitRest}
 use Rattle.schedule.specs.PlainSchedule.{Timing}
 use Rattle.reclaiming.specs.Allotments.{timing}
 use Rattle.reclaiming.specs.Orders.{nextArrival}
 use Rattle.reclaiming.specs.Passes.{inTime}
-use Rattle.reclaiming.specs.StateBlock.{State, noEntry, taskOf, remainingOf, restOf, planIn, encode, decode, laidOut, stateLength, stateCount, places}
+use Rattle.reclaiming.specs.StateBlock.{State, noEntry, taskOf, floorOf, remainingOf, restOf, planIn, encode, decode, laidOut, stateLength, stateCount, places}
 use Rattle.reclaiming.specs.Questions.{soundAt, stateSound}
 use Rattle.orders.specs.Code.{Runnable}
 use Rattle.reclaiming.proofs.Fine.{Fine}
@@ -31,16 +31,21 @@ use Rattle.reclaiming.proofs.OrderFacts.{Ordered, idles, runs}
 use Rattle.reclaiming.proofs.Worked.{ordered}
 use Rattle.state.proofs.BlockLaws.{count-in}
 
+-- the floor of a state's task is one of the levels
+pub floor-most : (speeds : List ℕ) (s : State) → FineTasks speeds (planIn s) → (i : ℕ) → i < length (planIn s) → floorOf s i < length speeds
+floor-most speeds s plan i h =
+    subst (λ (t : Task). t .floor < length speeds) (planIn-at s i) (floor-at (length speeds) (planIn s) i (plan .floors) h)
+
 -- an order that stands is to stay idle, or runs one of the tasks at one of the levels
 pub ordered-runnable :
     (speeds : List ℕ) (s : State) →
-    nominal speeds (planIn s) < length speeds →
+    FineTasks speeds (planIn s) →
     Ordered speeds (timing speeds (planIn s)) (nominal speeds (planIn s)) s →
     Runnable (length speeds) s
-ordered-runnable speeds s small (idles t x z) = record { task = λ ne. absurd (ne t); level = λ ne. absurd (ne t) }
-ordered-runnable speeds s small (runs r) = record {
+ordered-runnable speeds s plan (idles t x z) = record { task = λ ne. absurd (ne t); level = λ ne. absurd (ne t) }
+ordered-runnable speeds s plan (runs r) = record {
   task = λ ne. omega (arith, r .below, length-planIn s);
-  level = λ ne. omega (arith, r .level);
+  level = λ ne. omega (arith, r .level, plan .admitted, floor-most speeds s plan (s .task) (r .below));
 }
 
 -- what a sound state has
@@ -61,7 +66,7 @@ module _ (speeds : List ℕ) (rising : Rising speeds) (s : State) (ok : stateSou
   nominal-small = sound-plan .tasks .admitted
 
   pub runnable : Runnable (length speeds) s
-  runnable = ordered-runnable speeds s nominal-small (ordered speeds (planIn s) s sound-facts)
+  runnable = ordered-runnable speeds s (sound-plan .tasks) (ordered speeds (planIn s) s sound-facts)
 
   -- its numbers are in range
   module _ (i : ℕ) (h : i < length (s .entries)) where
@@ -72,14 +77,19 @@ module _ (speeds : List ℕ) (rising : Rising speeds) (s : State) (ok : stateSou
     range-of =
         subst (λ (t : Task). InRange t) (planIn-at s i) (task-range speeds (planIn s) sound-plan rising i within-plan)
 
-    pub task-fits : FitTask (taskOf (getD (s .entries) i noEntry))
-    task-fits = record { period = range-of .period-high; worst = omega (arith, range-of .worst-high); fixed = range-of .fixed-high }
+    pub task-fits : length speeds ≤ 16 → FitTask (taskOf (getD (s .entries) i noEntry))
+    task-fits few = record {
+      period = range-of .period-high;
+      worst = range-of .worst-high;
+      fixed = range-of .fixed-high;
+      floor = omega (arith, few, floor-most speeds s (sound-plan .tasks) i within-plan);
+    }
 
     pub rest-fits : FitRest (restOf s i)
     rest-fits =
         let left : Within (restOf s i) (whole (taskOf (getD (s .entries) i noEntry))) =
         subst (λ (t : Task). Within (restOf s i) (whole t)) (planIn-at s i) (sound-facts .entries .left i within-plan) in
-        record { fixed = omega (arith, left .fixed, task-fits .fixed); work = omega (arith, left .work, task-fits .worst) }
+        record { fixed = omega (arith, left .fixed, range-of .fixed-high); work = omega (arith, left .work, range-of .worst-high) }
 
     pub remaining-most : remainingOf s i ≤ 65535
     remaining-most =

@@ -33,7 +33,7 @@ use Rattle.reclaiming.specs.declared.Entry.{Entry}
 use Rattle.reclaiming.specs.Allotments.{timing}
 use Rattle.reclaiming.specs.Orders.{nextArrival, isLone, openJobs, runningTime}
 use Rattle.reclaiming.specs.Passes.{largestClock, inTime}
-use Rattle.reclaiming.specs.StateBlock.{State, noEntry, workOf, remainingOf, restOf, taskOf, planIn, decode, laidOut, places, stateCount}
+use Rattle.reclaiming.specs.StateBlock.{State, noEntry, floorOf, workOf, remainingOf, restOf, taskOf, planIn, decode, laidOut, places, stateCount}
 use Rattle.reclaiming.specs.States.{viewOf}
 use Rattle.reclaiming.specs.Questions.{entrySound, entryAhead, orderSound, fitsGap, totalSound, stateSound, soundAt}
 use Rattle.state.specs.Code.{Holds, entryIn, timingIn}
@@ -49,7 +49,7 @@ use Rattle.soundness.specs.SoundOrder.{orderIn}
 use Rattle.soundness.specs.Code.{Good, timedSound, testedBy}
 use Rattle.levels.specs.Code.{loaded, Table}
 use Rattle.levels.proofs.Tables.{levels-are, speed-is, speed-positive, speed-most}
-use Rattle.soundness.proofs.SoundFacts.{ordered-runnable, sound-holds, sound-plan-yes}
+use Rattle.soundness.proofs.SoundFacts.{floor-most, ordered-runnable, sound-holds, sound-plan-yes}
 use Rattle.reclaiming.proofs.OrderFacts.{Ordered, idles, runs, order-facts}
 use Rattle.reclaiming.proofs.Soundness.{FineEntry, fine-entry, length-planIn, sound-clock}
 use Rattle.urgency.proofs.HeadLaws.{task-is, period-is}
@@ -182,6 +182,12 @@ module _ {held : List ℕ} {levels : ℕ} {b : List ℕ} {count clock level spee
   admitted-speed =
       subst (λ (x : ℕ). (0 < x) × (x ≤ 1000)) (sym (k .speed-read)) (speed-positive (k .table) level level-low, speed-most (k .table) level level-low)
 
+  pub admitted-floors : (i : ℕ) → i < count → floorOf (decode b) i < levels
+  admitted-floors i h =
+      subst (λ (n : ℕ). floorOf (decode b) i < n) (levels-are (k .table))
+      (floor-most (loaded held levels) (decode b) (fine-tasks (loaded held levels) (planIn (decode b)) (k .yes-all)) i
+      (omega (arith, k .same, count-in b, length-planIn (decode b))))
+
   pub admitted-periods : (i : ℕ) → i < count → 1 ≤ entryIn b i .period
   admitted-periods i h = periods-in (loaded held levels) b (k .yes-all) i (subst (λ (n : ℕ). i < n) (k .same) h) .0
 
@@ -275,7 +281,7 @@ module _ {held : List ℕ} {levels : ℕ} {b : List ℕ} {count clock level spee
     pub admitted-runnable : Runnable levels S
     admitted-runnable =
         subst (λ (n : ℕ). Runnable n S) (levels-are (k .admitted .table))
-        (ordered-runnable table-speeds S (nominal-below table-speeds b (k .admitted .yes-all) (nominal table-speeds (planIn S)) refl) stands)
+        (ordered-runnable table-speeds S (fine-tasks table-speeds (planIn S) (k .admitted .yes-all)) stands)
 
     -- while idle every job is ahead, since none is open
     pub behind-runs : found .ahead ≡ false → S .task ≡ 255 → ⊥

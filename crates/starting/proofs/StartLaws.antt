@@ -20,7 +20,7 @@ use Rattle.plan.specs.Questions.{judging, reading, roomQuestion}
 use Rattle.arith.specs.Asking.{Question, firstNo}
 use Rattle.plan.specs.Answers.{roomNumber, judgedBy, storedBy}
 use Rattle.plan.specs.Pairs.{pairsQuestion, pairedReading}
-use Rattle.plan.proofs.Facts.{FineList, fine-list}
+use Rattle.plan.proofs.Facts.{FineList, floor-at, fine-list}
 use Rattle.plan.proofs.RoundTrip.{read-judged}
 use Rattle.plan.proofs.AnswerLaws.{Refusal}
 use Rattle.plan.proofs.JudgedLaws.{judged-refused, Admitted, none-answered-no, plan-is, tasks-are, level-is}
@@ -102,7 +102,7 @@ module _ (speeds : List ℕ) where
 -- the image of a new state of an accepted plan, at its nominal speed, over a rising table of speeds
 pub record Newly (speeds : List ℕ) (ts : List Task) (image : List ℕ) : Type 0 where
   pub rising : Rising speeds
-  pub few : length speeds ≤ 256
+  pub few : length speeds ≤ 16
   pub stored : StorableTable speeds
   pub good : FineList speeds (length ts) ts
   pub bytes : image ≡ encode (newState speeds (nominalSpeed speeds ts) ts)
@@ -200,6 +200,9 @@ module _ {speeds : List ℕ} {ts : List Task} {image : List ℕ} (new : Newly sp
   new-enough : (highest : ℕ) → highest ≡ nominal speeds ts → Enough speeds (decode image) highest
   new-enough highest e = record {
     level = omega (arith, new .good .tasks .admitted);
+    floors = λ i h.
+        let k : i < length ts = omega (arith, count-in image, new-tasks) in
+        subst (λ (x : Entry). x .floor < length speeds) (sym (new-at i k)) (floor-at (length speeds) ts i (new .good .tasks .floors) k);
     each = λ i h.
         let k : i < length ts = omega (arith, count-in image, new-tasks) in
         subst (λ (x : Entry). timeOf (speedOf speeds highest) (restIn x) ≤ x .remaining) (sym (new-at i k))

@@ -12,7 +12,7 @@ ghost use Prim.Native.Nat.{_<_, _≤_};
 ghost use mathlib.Core.Bool.{true};
 ghost use lib.ListN.{replicate};
 ghost use Rattle.plan.specs.Blocks.{tasksOf};
-ghost use Rattle.plan.specs.Questions.{inRange};
+ghost use Rattle.plan.specs.Questions.{inRange, floorLoaded};
 ghost use lib.Seq.{sets};
 ghost use Rattle.arith.specs.Arrays.{padded};
 ghost use Rattle.arith.specs.Choice.{every};
@@ -38,7 +38,8 @@ fn blank(speeds: &[u32; 8], levels: usize, count: usize) -> [u8; STATE_LENGTH]
 // A fresh image, filled at its offsets: every task of a plan has a new job at a speed, and no order is chosen.
 pub fn fresh(speeds: &[u32; 8], levels: usize, p: Plan, speed: u32) -> [u8; STATE_LENGTH]
     requires { ⌜ (levels ≤ 8) × (now speeds ≡ padded 8 0 (loaded (now speeds) levels)) ⌝ }
-    requires { ⌜ (p .count ≤ places) × (every inRange (tasksOf p) ≡ true) × (0 < speed) × (speed ≤ 1000) ⌝ }
+    requires { ⌜ (p .count ≤ places) × (every inRange (tasksOf p) ≡ true) × (every (floorLoaded levels) (tasksOf p) ≡ true) ⌝ }
+    requires { ⌜ (0 < speed) × (speed ≤ 1000) ⌝ }
     ensures { λ r. ⌜ r ≡ encode (newState (loaded (now (speeds .entry)) levels) speed (tasksOf p)) ⌝ }
 {
     let count = p.count;
@@ -51,6 +52,7 @@ pub fn fresh(speeds: &[u32; 8], levels: usize, p: Plan, speed: u32) -> [u8; STAT
         let remaining = times::task_time(speed, t);
         let e = Entry {
             period: t.period,
+            floor: t.floor,
             worst: t.worst,
             work: rest.work,
             remaining,

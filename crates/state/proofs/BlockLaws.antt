@@ -18,11 +18,11 @@ use Rattle.arith.proofs.DigitLaws.{length-digits, number-below}
 use Rattle.reclaiming.specs.declared.Entry.{Entry}
 use Rattle.plan.specs.declared.Rest.{Rest}
 use Rattle.reclaiming.specs.Fields.{valueIn, fieldsBytes, fieldsLength, fieldAt, widthOf, offsetOf, readField}
-use Rattle.reclaiming.specs.StateBlock.{State, noEntry, queuedIn, remainingOf, restIn, restOf, taskOf, entryWith, headFields, clockField, taskField, levelField, countField, tailFields, endFields, totalField, places, entryFields, periodField, worstField, workField, remainingField, fixedField, unspentField, headLength, entryLength, tailAt, totalAt, stateLength, entryBytes, entriesBytes, unusedBytes, tailBytes, encode, entryFrom, entriesFrom, stateCount, decode}
+use Rattle.reclaiming.specs.StateBlock.{State, noEntry, queuedIn, remainingOf, restIn, restOf, taskOf, entryWith, floorAndWorst, floorPart, worstPart, headFields, clockField, taskField, levelField, countField, tailFields, endFields, totalField, places, entryFields, periodField, worstField, workField, remainingField, fixedField, unspentField, headLength, entryLength, tailAt, totalAt, stateLength, entryBytes, entriesBytes, unusedBytes, tailBytes, encode, entryFrom, entriesFrom, stateCount, decode}
 use Rattle.reclaiming.specs.States.{putOrder}
 use Rattle.state.specs.Code.{entryAt, entryIn, fieldPlace, fieldIn, numberIn, entryStored, headStored, changed, withJobs, withClock, withTotal, FitTask, FitRest, restStored, totalStored, queuedTo}
 use Rattle.reclaiming.proofs.FieldLaws.{fieldsValues, sets-past, sets-over, length-fields, read-field, fields-same, store-field, store-next}
-use Rattle.reclaiming.proofs.StateCodec.{pastHead, pastEntries, past-head, length-entriesFrom, length-entriesBytes, length-tail, upToPlaces, two-parts, length-places}
+use Rattle.reclaiming.proofs.StateCodec.{floor-part, worst-part, pastHead, pastEntries, past-head, length-entriesFrom, length-entriesBytes, length-tail, upToPlaces, two-parts, length-places}
 use Rattle.reclaiming.proofs.Soundness.{queued-places}
 use Rattle.arith.proofs.RangeLaws.{length-listTo, getD-listTo, listTo-is, listTo-same}
 
@@ -263,9 +263,13 @@ module _ (s : State) (i : ℕ) (h : i < length (s .entries)) where
   pub encode-task : FitTask (taskOf (getD (s .entries) i noEntry)) → taskOf (entryIn (encode s) i) ≡ taskOf (getD (s .entries) i noEntry)
   encode-task f = λ k. record {
     period = encode-field periodField (omega (arith, f .period)) k;
-    worst = encode-field worstField (omega (arith, f .worst)) k;
+    worst = (ap worstPart shared ∙ worst-part (entry .floor) (entry .worst) (omega (arith, f .worst))) k;
     fixed = encode-field fixedField (omega (arith, f .fixed)) k;
+    floor = (ap floorPart shared ∙ floor-part (entry .floor) (entry .worst) (omega (arith, f .worst))) k;
   }
+    where
+      shared : readField entryFields worstField (drop (entryAt i) (encode s)) ≡ floorAndWorst (entry .floor) (entry .worst)
+      shared = encode-field worstField (omega (arith, f .worst, f .floor))
 
   pub encode-rest : FitRest (restOf s i) → restIn (entryIn (encode s) i) ≡ restOf s i
   encode-rest f = λ k. record {

@@ -12,7 +12,7 @@ use Rattle.arith.specs.Digits.{number, digits}
 use Rattle.arith.proofs.DigitLaws.{length-digits, number-digits, number-same}
 use Rattle.arith.proofs.Stores.{sets-else}
 use Rattle.reclaiming.specs.Fields.{widthOf, offsetOf, readField}
-use Rattle.reclaiming.specs.StateBlock.{entryFields, periodField, worstField, workField, remainingField, fixedField, unspentField}
+use Rattle.reclaiming.specs.StateBlock.{floorPart, worstPart, entryFields, periodField, worstField, workField, remainingField, fixedField, unspentField}
 use Rattle.reclaiming.specs.StateBlock.{entryLength, stateLength, places}
 use Rattle.state.specs.Code.{entryAt, entryIn, fieldPlace, entryStored}
 
@@ -63,7 +63,8 @@ module _ (b : List ℕ) (k i x : ℕ) (within : offsetOf entryFields k + widthOf
     pub stored-else : entryIn after j ≡ entryIn b j
     stored-else = λ m. record {
       period = field-else periodField (omega arith) m;
-      worst = field-else worstField (omega arith) m;
+      floor = floorPart (field-else worstField (omega arith) m);
+      worst = worstPart (field-else worstField (omega arith) m);
       work = field-else workField (omega arith) m;
       remaining = field-else remainingField (omega arith) m;
       fixed = field-else fixedField (omega arith) m;

@@ -73,11 +73,12 @@ withJobs s left remaining = record {
   total = s .total;
 }
 
--- a task, and what is left of a job, whose numbers fit their bytes
+-- a task, and what is left of a job, whose numbers fit their bits
 pub record FitTask (t : Task) : Type 0 where
   pub period : t .period ≤ 65535
-  pub worst : t .worst ≤ 16777215
+  pub worst : t .worst ≤ 1048575
   pub fixed : t .fixed ≤ 255
+  pub floor : t .floor ≤ 15
 
 pub record FitRest (r : Rest) : Type 0 where
   pub fixed : r .fixed ≤ 255

@@ -45,6 +45,9 @@ pub const WORST_AT: usize = PERIOD_AT + PERIOD_WIDTH;
 
 pub const WORST_WIDTH: usize = 3;
 
+// The floor stands above the worst case, in the top four bits of its bytes: a floor of 1 counts for so much in the number there.
+pub const FLOOR_UNIT: u32 = 1_048_576;
+
 pub const WORK_AT: usize = WORST_AT + WORST_WIDTH;
 
 pub const WORK_WIDTH: usize = 3;
@@ -129,13 +132,23 @@ fn field_at(block: &[u8], at: usize, n: usize, i: usize) -> u32
 // Task i.
 pub fn task_at(block: &[u8], i: usize) -> Task
     requires { ⌜ (i < places) × (length (now block) ≡ stateLength) ⌝ }
-    ensures { λ r. ⌜ (r ≡ taskOf (entryIn (now (block .entry)) i)) × (r .worst ≤ 16777215) × (r .fixed ≤ 255) ⌝ }
+    ensures { λ r. ⌜ (r ≡ taskOf (entryIn (now (block .entry)) i)) × (r .worst ≤ 1048575) × (r .fixed ≤ 255) ⌝ }
 {
+    let shared = field_at(block, WORST_AT, WORST_WIDTH, i);
     Task {
         period: period_at(block, i),
-        worst: field_at(block, WORST_AT, WORST_WIDTH, i),
+        worst: shared % FLOOR_UNIT,
         fixed: field_at(block, FIXED_AT, FIXED_WIDTH, i),
+        floor: shared / FLOOR_UNIT,
     }
+}
+
+// The floor of task i.
+pub fn floor_at(block: &[u8], i: usize) -> usize
+    requires { ⌜ (i < places) × (length (now block) ≡ stateLength) ⌝ }
+    ensures { λ r. ⌜ r ≡ entryIn (now (block .entry)) i .floor ⌝ }
+{
+    (field_at(block, WORST_AT, WORST_WIDTH, i) / FLOOR_UNIT) as usize
 }
 
 // What is left of task i's job.

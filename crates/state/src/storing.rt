@@ -2,6 +2,7 @@
 use crate::ENTRY_LENGTH;
 use crate::FIXED_AT;
 use crate::FIXED_WIDTH;
+use crate::FLOOR_UNIT;
 use crate::PERIOD_AT;
 use crate::PERIOD_WIDTH;
 use crate::REMAINING_AT;
@@ -57,12 +58,17 @@ pub fn put_total(block: &mut [u8], x: u32)
 
 // Stores an entry.
 pub fn put_entry(image: &mut [u8], i: usize, e: Entry)
-    requires { ⌜ (i < places) × (length (now image) ≡ stateLength) ⌝ }
+    requires { ⌜ (i < places) × (length (now image) ≡ stateLength) × (e .floor ≤ 15) × (e .worst ≤ 1048575) ⌝ }
     ensures { λ _. ⌜ now (image .exit) ≡ sets (now (image .entry)) (entryAt i) (entryBytes e) ⌝ }
 {
     let at = ENTRY_LENGTH * i;
     numeric::put_number(image, PERIOD_AT + at, PERIOD_WIDTH, e.period);
-    numeric::put_number(image, WORST_AT + at, WORST_WIDTH, e.worst);
+    numeric::put_number(
+        image,
+        WORST_AT + at,
+        WORST_WIDTH,
+        FLOOR_UNIT * e.floor + e.worst,
+    );
     numeric::put_number(image, WORK_AT + at, WORK_WIDTH, e.work);
     numeric::put_number(image, REMAINING_AT + at, REMAINING_WIDTH, e.remaining);
     numeric::put_number(image, FIXED_AT + at, FIXED_WIDTH, e.fixed);

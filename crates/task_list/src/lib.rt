@@ -39,7 +39,7 @@ pub fn gathered(tasks: &[Task]) -> Plan
     q
 }
 
-// A lent list judged over a level block: the questions put to that, then 3, 6, 7, 8.
+// A lent list judged over a level block: the questions put to that, then 3, 6, 24, 7, 8.
 pub fn judge_list(levels: &[u8], tasks: &[Task]) -> Judged
     ensures { λ r. ⌜ r ≡ judgedList (now (levels .entry)) (length (now (tasks .entry))) (now (tasks .entry)) ⌝ }
 {

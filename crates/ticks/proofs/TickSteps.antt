@@ -274,8 +274,11 @@ module _ {held : List ℕ} {levels : ℕ} {bytes keys : List ℕ} {highest d : �
   there-task : (i : ℕ) → i < count → taskOf (getD (there .entries) i noEntry) ≡ taskOf (getD (start .entries) i noEntry)
   there-task i h = timed-task table-speeds start keys count d finished all i (in-start i h)
 
+  few-speeds : length table-speeds ≤ 16
+  few-speeds = omega (arith, moving .table .few, levels-are (moving .table))
+
   there-fits : (i : ℕ) → i < count → FitTask (taskOf (getD (there .entries) i noEntry))
-  there-fits i h = subst FitTask (sym (there-task i h)) (task-fits table-speeds rising start (ok moving) i (in-start i h))
+  there-fits i h = subst FitTask (sym (there-task i h)) (task-fits table-speeds rising start (ok moving) i (in-start i h) few-speeds)
 
   speed-nominal : getD held highest 0 ≡ nominalSpeed table-speeds (planIn start)
   speed-nominal = speed-is (moving .table) highest (highest-small moving) ∙ ap (speedOf table-speeds) (moving .step .good .nominal)

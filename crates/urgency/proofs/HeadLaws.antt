@@ -14,7 +14,7 @@ use Rattle.plan.specs.Blocks.{noTask}
 use Rattle.schedule.specs.PlainSchedule.{Timing, Pending}
 use Rattle.reclaiming.specs.declared.Entry.{Entry}
 use Rattle.reclaiming.specs.Orders.{plainAllowance, openJobs}
-use Rattle.reclaiming.specs.StateBlock.{State, workOf, remainingOf, restIn, restOf, taskOf, planIn, workField, stateCount, decode, places}
+use Rattle.reclaiming.specs.StateBlock.{State, workOf, floorOf, remainingOf, restIn, restOf, taskOf, planIn, workField, stateCount, decode, places}
 use Rattle.reclaiming.specs.States.{viewOf}
 use Rattle.state.specs.Code.{Holds, entryIn, timingIn, numberIn}
 use Rattle.urgency.specs.Code.{Keyed, noKey, leastKey, allowedBy}
@@ -34,6 +34,9 @@ module _ (b : List ℕ) (i : ℕ) (h : i < stateCount b) where
 
   pub rest-is : restOf (decode b) i ≡ restIn (entryIn b i)
   rest-is = ap restIn (entry-at b i h)
+
+  pub floor-is : floorOf (decode b) i ≡ entryIn b i .floor
+  floor-is = ap (λ (e : Entry). e .floor) (entry-at b i h)
 
   remaining-is : remainingOf (decode b) i ≡ entryIn b i .remaining
   remaining-is = ap (λ (e : Entry). e .remaining) (entry-at b i h)
@@ -110,6 +113,10 @@ module _ {speeds b l : List ℕ} {count best i : ℕ} (k : Told speeds b l count
   -- what is left of its job
   pub told-rest : {rest : Rest} → rest ≡ restIn (entryIn b i) → rest ≡ restOf (decode b) i
   told-rest e = e ∙ sym (rest-is b i (first-open .below))
+
+  -- its floor
+  pub told-floor : {floor : ℕ} → floor ≡ entryIn b i .floor → floor ≡ floorOf (decode b) i
+  told-floor e = e ∙ sym (floor-is b i (first-open .below))
 
   -- and 01's allowance of it
   pub told-allowed : allowedBy l (λ j. entryIn b j .remaining) count best ≡ plainAllowance (timingIn speeds b) (viewOf (decode b)) i

@@ -20,6 +20,7 @@ use Rattle.reclaiming.specs.StateBlock.{stateLength}
 use Rattle.reclaiming.specs.Calls.{startReply}
 use Rattle.worked_cases.specs.Cases.{baseLevels, benchTasks, benchBlock, benchPasses, benchJudged, benchLines, listedLines, idealLines, earlinessAlong, edgePasses, edgeLines}
 use Rattle.worked_cases.specs.FixedCases.{anglePlan, angleLines, wantedLines}
+use Rattle.worked_cases.specs.FloorCases.{valvePlan, valvePasses, valveLines, flooredLines}
 use Rattle.worked_cases.specs.LoneCases.{twoLevels, lonePlan, lonePasses, loneLines, gapLines}
 
 pub bench-plan : readBlock baseLevels benchBlock ≡ benchJudged
@@ -71,3 +72,15 @@ ideal-lone = refl
 pub lone-started : isOrder (startReply twoLevels lonePlan [] stateLength) ≡ true
 unfolding need timeOf worn lcm gcd moreUrgent
 lone-started = refl
+
+pub valve-listing : valveLines ≡ flooredLines
+unfolding need timeOf worn lcm gcd moreUrgent
+valve-listing = refl
+
+pub ideal-valve : idealLines baseSpeeds (tasksIn valvePlan) valvePasses ≡ flooredLines
+unfolding need timeOf worn lcm gcd moreUrgent
+ideal-valve = refl
+
+pub valve-started : isOrder (startReply baseLevels valvePlan [] stateLength) ≡ true
+unfolding need timeOf worn lcm gcd moreUrgent
+valve-started = refl

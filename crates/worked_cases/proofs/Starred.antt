@@ -1,5 +1,5 @@
--- 01, "On each side of the edge": every starred case of the table holds. 02, No. 1, 2, 4, 5 and 6: so does every case of level blocks,
--- of fixed ticks, of lone jobs, of pairs and of totals.
+-- 01, "On each side of the edge": every starred case of the table holds. 02, No. 1, 2, 4, 5, 6 and 8: so does every case of level
+-- blocks, of fixed ticks, of lone jobs, of pairs, of totals and of floors.
 -- Assumes nothing.
 use mathlib.Core.Path.{_≡_, refl}
 use mathlib.Core.Bool.{true}
@@ -15,6 +15,7 @@ use Rattle.worked_cases.specs.FixedCases.{conversions}
 use Rattle.worked_cases.specs.LoneCases.{gaps}
 use Rattle.worked_cases.specs.PairCases.{lists, starts}
 use Rattle.worked_cases.specs.TotalCases.{totals}
+use Rattle.worked_cases.specs.FloorCases.{floors}
 use Rattle.reclaiming.proofs.StateCodec.{same-bytes}
 
 -- the table's test, computed
@@ -46,6 +47,10 @@ totals-agree : agrees totals ≡ true
 unfolding need timeOf worn lcm gcd moreUrgent
 totals-agree = refl
 
+floors-agree : agrees floors ≡ true
+unfolding need timeOf worn lcm gcd moreUrgent
+floors-agree = refl
+
 -- so each of its rows holds
 row-holds : (cases : List Case) → agrees cases ≡ true → (c : Case) → In c cases → c .found ≡ c .wanted
 row-holds cases h c m = same-bytes (c .found) (c .wanted) (every-in matches cases h c m)
@@ -70,3 +75,6 @@ start-cases = row-holds starts starts-agree
 
 pub total-cases : (c : Case) → In c totals → c .found ≡ c .wanted
 total-cases = row-holds totals totals-agree
+
+pub floor-cases : (c : Case) → In c floors → c .found ≡ c .wanted
+floor-cases = row-holds floors floors-agree

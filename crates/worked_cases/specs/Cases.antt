@@ -32,7 +32,7 @@ use Rattle.reclaiming.specs.Calls.{startReply, passReply, showReply, showBuffer
 use Rattle.reclaiming.specs.Run.{Line, bytesAfter, startedBytes, line, linesFrom, runLines}
 
 abbrev pub task : ℕ → ℕ → Task
-task p w = record { period = p; worst = w; fixed = 0 }
+task p w = record { period = p; worst = w; fixed = 0; floor = 0 }
 
 abbrev pub pass : Bool → ℕ → Pass
 pass finished d = record { d = d; finished = finished }
@@ -117,13 +117,13 @@ told (values vs) = 0 ∷ vs
 told (refusal n) = n ∷ []
 
 -- what reading a block, judging a list, passing and showing give; showing with what it leaves in the lent buffer
-abbrev readOver : List ℕ → List ℕ → List ℕ
+abbrev pub readOver : List ℕ → List ℕ → List ℕ
 readOver levels block = told (verdictAnswer (readBlock levels block .verdict))
 
 abbrev pub readValues : List ℕ → List ℕ
 readValues block = readOver baseLevels block
 
-abbrev judgedOver : List ℕ → List Task → List ℕ
+abbrev pub judgedOver : List ℕ → List Task → List ℕ
 judgedOver levels ts = told (verdictAnswer (judgedList levels (length ts) ts .verdict))
 
 abbrev pub judgedValues : List Task → List ℕ

@@ -19,7 +19,7 @@ use Rattle.worked_cases.specs.Cases.{Case, task, pass, baseLevels, bench
 
 -- a task with fixed ticks
 abbrev converting : ℕ → ℕ → ℕ → Task
-converting p w f = record { period = p; worst = w; fixed = f }
+converting p w f = record { period = p; worst = w; fixed = f; floor = 0 }
 
 -- a block in edition 2, whatever the tasks add
 abbrev pub inEdition2 : List Task → List ℕ
@@ -58,7 +58,7 @@ wantedLines =
 abbrev pub conversions : List Case
 unfolding need timeOf worn lcm gcd moreUrgent
 conversions =
-    -- "8 bits of fixed ticks (0 to 255) and 3 spare zero bits": 7 bytes for one task
+    -- "8 bits of fixed ticks (0 to 255) and 3 spare zero bits", a floor of 0 since No. 8: 7 bytes for one task
     case sensor (0x20 ∷ 0x80 ∷ 0x14 ∷ 0x00 ∷ 0x09 ∷ 0x60 ∷ 0x18 ∷ [])
     ∷ case (readValues sensor) (0 ∷ 0 ∷ 40 ∷ [])
     -- "The writer uses edition 1 where all are zero."
@@ -70,9 +70,7 @@ conversions =
     ∷ case (readValues (take 6 sensor)) (4 ∷ [])
     ∷ case (readValues (sensor ++ (0 ∷ []))) (4 ∷ [])
     ∷ case (readValues (set sensor 0 0x10)) (4 ∷ [])
-    -- "3 spare zero bits, tested with the closing bits under 5": the first and the last spare bit, and the closing bit of two tasks
-    ∷ case (readValues (set sensor 6 0x1c)) (5 ∷ [])
-    ∷ case (readValues (set sensor 6 0x19)) (5 ∷ [])
+    -- the closing bit of two tasks; the spare bits are floors, and No. 8's
     ∷ case (readValues (set anglePlan 12 0x71)) (5 ∷ [])
     -- "21 an edition 2 block whose additions are all zero; put after 6 in reading": before 7 and 8
     ∷ case (readValues (inEdition2 (task 40 300 ∷ []))) (21 ∷ [])

@@ -3,3 +3,4 @@ pub mod FixedCases
 pub mod LoneCases
 pub mod PairCases
 pub mod TotalCases
+pub mod FloorCases

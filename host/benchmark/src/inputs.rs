@@ -15,7 +15,10 @@ use sim::random::Random;
 pub use sim::layout::STATE_BYTES;
 pub const QUEUE_BYTES: usize = 48;
 
-const PASSES_OF_A_PLAN: usize = 32;
+const PASSES_OF_A_PLAN: usize = 16;
+
+/// Whether a plan is to have fixed ticks, and whether floors.
+const KINDS: [(bool, bool); 4] = [(false, false), (false, true), (true, false), (true, true)];
 
 /// 01's speeds, fewer levels, odd speeds, and speeds far apart up to the fastest that there can be.
 const TABLES: [&[u64]; 4] = [
@@ -43,19 +46,35 @@ pub struct Input {
     pub angle: i32,
 }
 
-/// The inputs for so many tasks: for each table a plan without fixed ticks and one with some.
+/// The inputs for so many tasks: for each table a plan without fixed ticks and one with some, and of either
+/// kind one without floors and one with some.
 pub fn inputs(tasks: usize) -> Vec<Input> {
     let mut random = Random::new(tasks as u64);
     let mut found = Vec::new();
-    for table in TABLES {
+    for (nth, table) in TABLES.into_iter().enumerate() {
         let table = Levels::new(table);
         let levels = write_levels(&table);
-        for with_fixed in [false, true] {
-            let plan = accepted_plan(&mut random, &table, tasks, with_fixed);
+        for (with_fixed, with_floors) in KINDS {
+            let mut plan = accepted_plan(&mut random, &table, tasks, with_fixed);
+            if with_floors {
+                give_floors(&mut plan, &table, nth);
+            }
             add_run(&mut random, &levels, &plan, &mut found);
         }
     }
     found
+}
+
+/// Floors at nominal, above it and below it, and none at all for every fourth task. With which of them the
+/// first task begins, goes with the table, so that plans of one task have each kind.
+fn give_floors(plan: &mut [Task], levels: &Levels, nth: usize) {
+    let judged = judge_list(levels, plan).expect("the plan is an accepted one");
+    let (nominal, top) = (judged.nominal as u64, levels.top() as u64);
+    let floors = [nominal, (nominal + 1).min(top), nominal / 2, 0];
+    let in_turn = floors.iter().cycle().skip(nth % 3);
+    for (task, floor) in plan.iter_mut().zip(in_turn) {
+        task.floor = *floor;
+    }
 }
 
 /// A plan that fills much of what some level has. Fixed ticks take up to a quarter of the time.
@@ -76,6 +95,7 @@ fn accepted_plan(
                 period,
                 worst: (period * units / count as u64).max(1),
                 fixed: random.between(0, most.min(LARGEST_FIXED)),
+                floor: 0,
             }
         };
         let plan: Vec<Task> = (0..count).map(|_| task()).collect();

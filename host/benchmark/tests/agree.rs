@@ -132,12 +132,18 @@ fn show_agrees(state: &[u8], room: usize, seen: &mut Seen) {
     seen.add(hand.0);
 }
 
-/// A task without fixed ticks.
+/// A task without fixed ticks and without a floor.
 fn simple_task(period: u64, worst: u64) -> Task {
+    fixed_task(period, worst, 0)
+}
+
+/// A task without a floor.
+fn fixed_task(period: u64, worst: u64, fixed: u64) -> Task {
     Task {
         period,
         worst,
-        fixed: 0,
+        fixed,
+        floor: 0,
     }
 }
 
@@ -182,7 +188,7 @@ fn any_plan(random: &mut Random, levels: &Levels) -> Vec<Task> {
     let level = random.place(levels.count());
     match random.below(8) {
         0 => plans::plan_at_largest_hyperperiod(random, levels),
-        1 => plans::plan_above_largest_hyperperiod(random),
+        1 => plans::plan_above_largest_hyperperiod(random, levels),
         2 => plans::plan_one_over(random, levels, level),
         3 => plans::edge_list(random, levels),
         4 => plans::full_plan(random, levels, level),
@@ -230,7 +236,7 @@ fn starts_agree() {
         let room = any_room(&mut random);
         start_with_agrees(&levels, &block, &pairs, room, &mut seen);
     }
-    let all = [0, 1, 2, 3, 4, 5, 6, 7, 8, 9, 18, 19, 20, 21, 22];
+    let all = [0, 1, 2, 3, 4, 5, 6, 7, 8, 9, 18, 19, 20, 21, 22, 24];
     seen.were("start", &all);
 }
 
@@ -277,12 +283,7 @@ fn mixed_plan() -> Vec<Task> {
     let periods = [
         300, 100, 100, 200, 600, 450, 150, 900, 100, 300, 1_800, 225, 200, 600, 50, 50,
     ];
-    let task = |period| Task {
-        period,
-        worst: 1,
-        fixed: 0,
-    };
-    periods.map(task).to_vec()
+    periods.map(|period| simple_task(period, 1)).to_vec()
 }
 
 /// Would catch an edge of a pair that is drawn elsewhere: every pair of two bytes with sixteen tasks, and
@@ -353,16 +354,12 @@ fn pairs_at_every_place_agree() {
 }
 
 /// Would catch an edge of the plan block's second edition that is drawn elsewhere: every edition and
-/// count, and every value of fixed ticks and spare bits, in blocks of every length up to the longest.
+/// count, and every value of fixed ticks and floor, in blocks of every length up to the longest.
 #[test]
 fn plan_blocks_agree() {
     let mut seen = Seen::default();
     let levels = write_levels(&Levels::base());
-    let task = Task {
-        period: 600,
-        worst: 1,
-        fixed: 1,
-    };
+    let task = fixed_task(600, 1, 1);
     for count in 1..=16 {
         let block = block_of(&vec![task; count]);
         for head in 0..=u8::MAX {
@@ -387,14 +384,97 @@ fn plan_blocks_agree() {
             &mut seen,
         );
     }
-    // The last byte of a single task has the lower bits of its fixed ticks, then its spare bits.
+    // The last byte of a single task has the lower bits of its fixed ticks, then its floor, which few
+    // levels may not have.
     let block = block_of(&[task]);
     for last in 0..=u8::MAX {
         let mut other = block.clone();
         other[6] = last;
         start_agrees(&levels, &other, STATE_BYTES, &mut seen);
+        for count in 1..=8 {
+            let speeds: Vec<u64> = (100..100 + count).collect();
+            let few = write_levels(&Levels::new(&speeds));
+            start_agrees(&few, &other, STATE_BYTES, &mut seen);
+        }
     }
-    seen.were("start, plan blocks", &[0, 2, 3, 4, 5, 6, 7, 8, 21]);
+    seen.were("start, plan blocks", &[0, 2, 3, 4, 5, 6, 7, 8, 21, 24]);
+}
+
+/// 02, No. 8: would catch a floor that is read, stored or obeyed in another way: every floor of every task,
+/// in plans of every size over every count of levels, with what each pass makes of it.
+#[test]
+fn floors_agree() {
+    let (mut starts, mut passes) = (Seen::default(), Seen::default());
+    let mut random = Random::new(11);
+    let (mut at_floor, mut above, mut over) = (0, 0, 0);
+    for count in 1..=8 {
+        let speeds: Vec<u64> = (1..=count).map(|nth| 10 * nth).collect();
+        let table = Levels::new(&speeds);
+        let levels = write_levels(&table);
+        for size in [1, 2, 3, 16] {
+            for (place, floor) in (0..size).flat_map(|place| (0..8).map(move |it| (place, it))) {
+                // About half of what the fastest level can do.
+                let mut plan = vec![fixed_task(400, 2_000 * count / size as u64, 2); size];
+                plan[place].floor = floor;
+                let (reply, mut state) =
+                    start_agrees(&levels, &block_of(&plan), STATE_BYTES, &mut starts);
+                assert_eq!(reply == 24, floor >= count, "{floor} of {count}");
+                if reply == 24 {
+                    continue;
+                }
+                let nominal = sim::plan::judge_list(&table, &plan).unwrap().nominal as u64;
+                let mut order = order_in(reply);
+                for _ in 0..2 * size {
+                    let (d, finished) = any_pass(&mut random, order);
+                    let (reply, after) = pass_agrees(&state, d, finished, &mut passes);
+                    if reply % 256 == 0 {
+                        order = order_in(reply);
+                    }
+                    if let Order::Run { task, level, .. } = order {
+                        let own = floor > 0 && usize::from(task) == place;
+                        let level = u64::from(level);
+                        at_floor += u32::from(own && level == floor && level <= nominal);
+                        above += u32::from(own && level > nominal);
+                        over += u32::from(own && level > floor);
+                    }
+                    state = after;
+                }
+            }
+        }
+    }
+    starts.were("start, with floors", &[0, 24]);
+    passes.were("pass, with floors", &[0, 11, 12, 13, 14]);
+    let seen = [at_floor, above, over];
+    assert!(seen.iter().all(|times| *times > 150), "{seen:?}");
+}
+
+/// Would catch a floor in the state that is tested in another way: each of the sixteen that its bits can
+/// hold, with each level, in every entry of a state that runs, one that idles, and tables of every size.
+#[test]
+fn floors_in_states_agree() {
+    let (mut starts, mut passes, mut shows) = Default::default();
+    for count in 1..=8 {
+        let speeds: Vec<u64> = (100..100 + count).collect();
+        let levels = write_levels(&Levels::new(&speeds));
+        let block = block_of(&[simple_task(30, 400), fixed_task(60, 300, 2)]);
+        let (_, fresh) = start_agrees(&levels, &block, STATE_BYTES, &mut starts);
+        let (_, second) = pass_agrees(&fresh, 1, true, &mut passes);
+        let (_, idle) = pass_agrees(&second, 1, true, &mut passes);
+        for state in [fresh, second, idle] {
+            for (task, floor) in (0..3).flat_map(|task| (0..16).map(move |it| (task, it))) {
+                for level in (0..=8).chain([255]) {
+                    let mut forged = state.clone();
+                    layout::put_floor(&mut forged, task, floor);
+                    layout::LEVEL.put(&mut forged, level);
+                    show_agrees(&forged, QUEUE_BYTES, &mut shows);
+                    pass_agrees(&forged, 1, false, &mut passes);
+                }
+            }
+        }
+    }
+    starts.were("start, before floors are forged", &[0]);
+    shows.were("show, with forged floors", &[0, 10]);
+    passes.were("pass, with forged floors", &[0, 10]);
 }
 
 /// Would catch an edge of the level block that is drawn elsewhere: every block of two bytes is tried,
@@ -402,12 +482,7 @@ fn plan_blocks_agree() {
 #[test]
 fn level_blocks_agree() {
     let mut seen = Seen::default();
-    let task = Task {
-        period: 65_535,
-        worst: 1,
-        fixed: 0,
-    };
-    let plan = block_of(&[task]);
+    let plan = block_of(&[simple_task(65_535, 1)]);
     start_agrees(&[], &plan, STATE_BYTES, &mut seen);
     for first in 0..=u8::MAX {
         start_agrees(&[first], &plan, STATE_BYTES, &mut seen);
@@ -474,7 +549,7 @@ fn lone_states_agree() {
         pass_agrees(&state, d, finished, &mut passes);
     }
     assert!(
-        kinds.len() == 6 && kinds.values().all(|times| *times > 300),
+        kinds.len() == 8 && kinds.values().all(|times| *times > 300),
         "{kinds:?}"
     );
     shows.were("show", &[0, 10]);
@@ -689,11 +764,7 @@ fn edges(before: u64, after: u64) -> [u64; 14] {
 #[test]
 fn tables_in_states_agree() {
     let speeds = [2, 3, 5, 300, 301, 640, 998, 999];
-    let block = block_of(&[Task {
-        period: 60_000,
-        worst: 1,
-        fixed: 0,
-    }]);
+    let block = block_of(&[simple_task(60_000, 1)]);
     let (mut starts, mut passes, mut shows) = Default::default();
     for count in 1..=speeds.len() {
         let levels = write_levels(&Levels::new(&speeds[..count]));
@@ -721,22 +792,20 @@ fn tables_in_states_agree() {
     passes.were("pass, with forged tables", &[0, 10]);
 }
 
-/// Would catch a state whose worst case is too large and nothing else wrong: 1,048,576 for 1,048,575
-/// changes neither the level nor the allotment.
+/// Would catch a floor that is taken for a part of the worst case: the largest there is fills its 20 bits,
+/// and 1,048,576 in the same bytes is a floor of 1 and a worst case of 0.
 #[test]
 fn the_largest_worst_case_agrees() {
     let mut seen = Seen::default();
     let levels = write_levels(&Levels::base());
-    let block = block_of(&[Task {
-        period: 60_000,
-        worst: 1_048_575,
-        fixed: 0,
-    }]);
+    let block = block_of(&[simple_task(60_000, 1_048_575)]);
     let (_, mut state) = start_agrees(&levels, &block, STATE_BYTES, &mut seen);
     show_agrees(&state, QUEUE_BYTES, &mut seen);
-    layout::of_task(0, layout::WORST).put(&mut state, 1_048_576);
-    show_agrees(&state, QUEUE_BYTES, &mut seen);
-    pass_agrees(&state, 1, false, &mut seen);
+    for floor_and_worst in [1_048_576, 1_048_577, 2_097_151, 8_388_607, 16_777_215] {
+        layout::of_task(0, layout::FLOOR_AND_WORST).put(&mut state, floor_and_worst);
+        show_agrees(&state, QUEUE_BYTES, &mut seen);
+        pass_agrees(&state, 1, false, &mut seen);
+    }
     seen.were("the largest worst case", &[0, 10]);
 }
 
@@ -747,11 +816,7 @@ fn fixed_ticks_in_states_agree() {
     let (mut starts, mut passes, mut shows) = Default::default();
     let levels = write_levels(&Levels::base());
     let tasks = [(200, 300, 20), (600, 300, 9)];
-    let block = block_of(&tasks.map(|(period, worst, fixed)| Task {
-        period,
-        worst,
-        fixed,
-    }));
+    let block = block_of(&tasks.map(|(period, worst, fixed)| fixed_task(period, worst, fixed)));
     let (_, fresh) = start_agrees(&levels, &block, STATE_BYTES, &mut starts);
     let (_, begun) = pass_agrees(&fresh, 5, false, &mut passes);
     let (_, worked) = pass_agrees(&begun, 16, false, &mut passes);
@@ -793,6 +858,25 @@ fn measured_inputs_agree() {
     dampings.were("damping, measured", &[0]);
 }
 
+/// Would catch plans that have no floors, or too many: half of them have some, and some of these are above
+/// nominal. Floors are told by the states, of which each has its plan.
+#[test]
+fn half_of_the_measured_plans_have_floors() {
+    for tasks in COUNTS {
+        let inputs = inputs(tasks);
+        let (mut with, mut above) = (0, 0);
+        for input in &inputs {
+            let state = unpacked(&input.state);
+            let judged = sim::plan::judge_list(&state.levels, &state.tasks()).unwrap();
+            let highest = state.tasks().iter().map(|task| task.floor).max();
+            with += usize::from(highest > Some(0));
+            above += usize::from(highest > Some(judged.nominal as u64));
+        }
+        assert!(2 * with <= inputs.len(), "{with}");
+        assert!(3 * with >= inputs.len() && above > 0, "{with} {above}");
+    }
+}
+
 /// Would catch angles of which some lines, or those below 0, are left out.
 #[test]
 fn measured_angles_are_all_over_the_range() {
@@ -826,11 +910,7 @@ fn every_speed_divides_exactly() {
         let most = (1_048_575 / speed).min(65_280);
         for (ticks, fixed) in [(1, 0), (2, 1), (most / 2, 7), (most - 1, 0), (most, 255)] {
             for worst in [(ticks - 1) * speed + 1, ticks * speed] {
-                let block = block_of(&[Task {
-                    period: 65_535,
-                    worst,
-                    fixed,
-                }]);
+                let block = block_of(&[fixed_task(65_535, worst, fixed)]);
                 let (_, state) = start_agrees(&levels, &block, STATE_BYTES, &mut starts);
                 let left = layout::of_task(0, layout::PLAIN_LEFT).get(&state);
                 assert_eq!(left, fixed + ticks, "{worst} and {fixed} at {speed}");

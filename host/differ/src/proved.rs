@@ -67,8 +67,8 @@ pub fn read_levels(levels: &[u8]) -> Result<u64, u32> {
     unpacked(answer)
 }
 
-/// Judges the plan of so many tasks. Its numbers are a period, a worst case and fixed ticks for each
-/// task; the ones that are not there are 0.
+/// Judges the plan of so many tasks. Its numbers are a period, a worst case, fixed ticks and a floor for
+/// each task; the ones that are not there are 0.
 pub fn judge(levels: &[u8], count: usize, numbers: &[u32]) -> Result<Judged, u32> {
     // SAFETY: pointers and lengths are those of two slices, which the call only reads.
     let answer = unsafe {

@@ -3,7 +3,7 @@
 
 // Brings the archives in.
 use differ as _;
-use sim::levels::Levels;
+use sim::levels::{Levels, MOST_LEVELS};
 use sim::plan::{Judged, Task, LARGEST_FIXED, LARGEST_PERIOD, LARGEST_WORST};
 use sim::random::plans::{
     edge_list, full_plan, plan_above_largest_hyperperiod, plan_at_largest_hyperperiod,
@@ -21,7 +21,11 @@ struct Entry {
     period: u32,
     worst: u32,
     fixed: u32,
+    floor: u32,
 }
+
+/// Four numbers of four bytes each, without a gap.
+const _: () = assert!(std::mem::size_of::<Entry>() == 16);
 
 extern "C" {
     fn kilmstra_judge_list(
@@ -38,23 +42,34 @@ const ACCEPTED: u32 = 0;
 /// What stands around a list: with one of these looked at, most answers would be others.
 const AROUND: [Entry; 4] = [
     entry(0, 0),
-    with_fixed(u32::MAX, u32::MAX, u32::MAX),
+    with_all(u32::MAX, u32::MAX, u32::MAX, u32::MAX),
     // All of a plan's ticks at the highest level.
     entry(1, 100),
-    // The same with fixed ticks.
-    with_fixed(256, 100, 255),
+    // The same with fixed ticks, and a floor that is no level.
+    with_all(256, 100, 255, 8),
 ];
 
-/// An entry without fixed ticks.
+/// An entry without fixed ticks and without a floor.
 const fn entry(period: u32, worst: u32) -> Entry {
-    with_fixed(period, worst, 0)
+    with_all(period, worst, 0, 0)
 }
 
+/// An entry without a floor.
 const fn with_fixed(period: u32, worst: u32, fixed: u32) -> Entry {
+    with_all(period, worst, fixed, 0)
+}
+
+/// An entry without fixed ticks.
+const fn with_floor(period: u32, worst: u32, floor: u32) -> Entry {
+    with_all(period, worst, 0, floor)
+}
+
+const fn with_all(period: u32, worst: u32, fixed: u32, floor: u32) -> Entry {
     Entry {
         period,
         worst,
         fixed,
+        floor,
     }
 }
 
@@ -66,8 +81,9 @@ struct Both {
     /// The level block that both sides are handed.
     level_block: Vec<u8>,
     seen: BTreeMap<u32, u64>,
-    /// How many of the accepted lists have fixed ticks.
+    /// How many of the accepted lists have fixed ticks, and how many have floors.
     accepted_with_fixed: u64,
+    accepted_with_floors: u64,
 }
 
 /// The content with two elements like this on each side.
@@ -81,6 +97,7 @@ impl Both {
             level_block: write_levels(levels),
             seen: BTreeMap::new(),
             accepted_with_fixed: 0,
+            accepted_with_floors: 0,
         }
     }
 
@@ -111,16 +128,19 @@ impl Both {
             .or_default() += 1;
         let has_fixed = list.iter().any(|entry| entry.fixed > 0);
         self.accepted_with_fixed += u64::from(wanted.is_ok() && has_fixed);
+        let has_floor = list.iter().any(|entry| entry.floor > 0);
+        self.accepted_with_floors += u64::from(wanted.is_ok() && has_floor);
         wanted
     }
 
-    /// Wants so many accepted lists with fixed ticks, and as many without.
+    /// Wants so many accepted lists with fixed ticks, and as many without; and the same of floors.
     #[track_caller]
-    fn wants_fixed(&self, least: u64) {
+    fn wants_additions(&self, least: u64) {
         let accepted = self.seen.get(&ACCEPTED).copied().unwrap_or(0);
-        let with = self.accepted_with_fixed;
-        let without = accepted - with;
-        assert!(with >= least && without >= least, "{with} and {without}");
+        for with in [self.accepted_with_fixed, self.accepted_with_floors] {
+            let without = accepted - with;
+            assert!(with >= least && without >= least, "{with} and {without}");
+        }
     }
 
     /// Wants this answer at least so often.
@@ -132,8 +152,11 @@ impl Both {
 
     /// Prints what came of the lists.
     fn saw(&self, what: &str) {
-        let with = self.accepted_with_fixed;
-        println!("{what}: {:?}, {with} with fixed ticks", self.seen);
+        let (fixed, floors) = (self.accepted_with_fixed, self.accepted_with_floors);
+        println!(
+            "{what}: {:?}, {fixed} with fixed ticks, {floors} with floors",
+            self.seen
+        );
     }
 }
 
@@ -150,6 +173,7 @@ fn as_tasks(list: &[Entry]) -> Vec<Task> {
         period: u64::from(entry.period),
         worst: u64::from(entry.worst),
         fixed: u64::from(entry.fixed),
+        floor: u64::from(entry.floor),
     };
     list.iter().map(task).collect()
 }
@@ -158,8 +182,9 @@ fn as_tasks(list: &[Entry]) -> Vec<Task> {
 fn as_entries(tasks: &[Task]) -> Vec<Entry> {
     let narrow = |number: u64| u32::try_from(number).unwrap_or(u32::MAX);
     let entry = |task: &Task| {
-        let [period, worst, fixed] = [task.period, task.worst, task.fixed].map(narrow);
-        with_fixed(period, worst, fixed)
+        let numbers = [task.period, task.worst, task.fixed, task.floor];
+        let [period, worst, fixed, floor] = numbers.map(narrow);
+        with_all(period, worst, fixed, floor)
     };
     tasks.iter().map(entry).collect()
 }
@@ -183,6 +208,9 @@ fn lists_of_every_length() {
             (with_fixed(60_000, 600, 256), Some(6)),
             (entry(1, 101), Some(8)),
             (with_fixed(200, 1, 200), Some(8)),
+            (with_floor(60_000, 600, 7), None),
+            (with_floor(60_000, 600, 8), Some(24)),
+            (with_floor(60_000, 600, u32::MAX), Some(24)),
         ];
         for (each, otherwise) in entries {
             let judged = both.judge(&vec![each; length]);
@@ -197,7 +225,8 @@ fn lists_of_every_length() {
     both.wants(3, 200);
     both.wants(6, 32);
     both.wants(8, 32);
-    both.wants_fixed(16);
+    both.wants(24, 32);
+    both.wants_additions(16);
 }
 
 /// Would catch a place that is not looked at, and a range that is off by one at either end or is
@@ -209,6 +238,7 @@ fn fields_at_and_past_their_ranges() {
     let periods = edges(LARGEST_PERIOD as u32, 16);
     let worsts = edges(LARGEST_WORST as u32, 20);
     let fixed_ticks = edges(LARGEST_FIXED as u32, 8);
+    let floors = edges(MOST_LEVELS as u32 - 1, 3);
     for length in [1, 2, 15, 16, 17, 1_000] {
         let places = if length > 20 {
             vec![0, 15, 16, 999]
@@ -235,12 +265,40 @@ fn fields_at_and_past_their_ranges() {
                 let is_out = u64::from(*fixed) > LARGEST_FIXED;
                 assert_eq!(judged == Err(6), is_out && length <= 16);
             }
+            for floor in &floors {
+                list[place] = with_floor(65_535, 1, *floor);
+                let judged = both.judge(&list);
+                let is_out = u64::from(*floor) >= MOST_LEVELS;
+                assert_eq!(judged == Err(24), is_out && length <= 16);
+            }
         }
     }
     both.saw("fields at and past their ranges");
     both.wants(3, 800);
     both.wants(6, 1_500);
-    both.wants_fixed(100);
+    both.wants(24, 800);
+    both.wants_additions(100);
+}
+
+/// Would catch a floor that is held to eight levels, or to another board's count of them.
+#[test]
+fn floors_over_every_count_of_levels() {
+    let mut both = Both::new(&Levels::base());
+    for count in 1..=MOST_LEVELS as u32 {
+        let speeds: Vec<u64> = (0..count).map(|level| 100 + u64::from(level)).collect();
+        both.level_block = write_levels(&Levels::new(&speeds));
+        for floor in 0..16 {
+            for place in 0..3 {
+                let mut list = [entry(10, 400), with_fixed(30, 500, 1), entry(30, 500)];
+                list[place].floor = floor;
+                let wanted = (floor >= count).then_some(24);
+                assert_eq!(both.judge(&list).err(), wanted, "{floor} of {count}");
+            }
+        }
+    }
+    both.saw("floors over every count of levels");
+    both.wants(24, 3 * (15 + 14 + 13 + 12 + 11 + 10 + 9 + 8));
+    both.wants(ACCEPTED, 3 * 36);
 }
 
 /// Values at the ends of a range of so many bits, and values that would be 10 with one high bit left
@@ -269,13 +327,14 @@ fn lists_of_every_kind() {
         );
     }
     both.saw("lists of every kind");
-    both.wants_fixed(3_000);
+    both.wants_additions(3_000);
     println!("levels {nominal:?}");
     both.wants(ACCEPTED, 12_000);
     both.wants(3, 30);
     both.wants(6, 500);
     both.wants(7, 3_000);
     both.wants(8, 1_000);
+    both.wants(24, 500);
     assert!(nominal.iter().all(|times| *times > 300), "{nominal:?}");
 }
 
@@ -292,13 +351,14 @@ fn lists_of_every_kind_with_any_table() {
         put_lists(&mut both, &mut random, &levels, level, &mut nominal);
     }
     both.saw("lists of every kind with any table");
-    both.wants_fixed(3_000);
+    both.wants_additions(3_000);
     println!("levels {nominal:?}");
     both.wants(ACCEPTED, 12_000);
     both.wants(3, 30);
     both.wants(6, 500);
     both.wants(7, 3_000);
     both.wants(8, 1_000);
+    both.wants(24, 500);
     assert!(nominal.iter().all(|times| *times > 100), "{nominal:?}");
 }
 
@@ -316,7 +376,7 @@ fn put_lists(
         plan_one_over(random, levels, level),
         plan_one_unit_over(random, levels, level),
         plan_at_largest_hyperperiod(random, levels),
-        plan_above_largest_hyperperiod(random),
+        plan_above_largest_hyperperiod(random, levels),
         edge_list(random, levels),
     ];
     for tasks in lists {
@@ -334,6 +394,11 @@ fn put_lists(
             last.fixed = last.fixed.wrapping_add(1);
             let _ = both.judge(&list);
         }
+        if let Some(last) = list.last_mut() {
+            last.fixed = last.fixed.wrapping_sub(1);
+            last.floor = last.floor.wrapping_add(1);
+            let _ = both.judge(&list);
+        }
     }
 }
 
@@ -346,6 +411,8 @@ fn bad_level_blocks() {
         vec![entry(10, 400)],
         vec![with_fixed(20, 400, 5)],
         vec![with_fixed(20, 400, 256)],
+        vec![with_floor(20, 400, 7)],
+        vec![with_floor(20, 400, u32::MAX)],
         vec![],
         vec![entry(0, 0); 17],
         vec![entry(0, 0)],
@@ -389,6 +456,13 @@ fn the_first_no_decides() {
         (vec![with_fixed(1, 1, 1)], 8),
         (vec![entry(1_000, 900_000), entry(1_001, 900_000)], 7),
         (vec![entry(1, 1), entry(1, 1)], 8),
+        (vec![with_floor(10, 10, 8); 17], 3),
+        (vec![with_all(10, 10, 256, 8)], 6),
+        (vec![with_floor(10, 10, 8), entry(0, 1)], 6),
+        (vec![with_floor(1_000, 1, 8), entry(1_001, 1)], 24),
+        (vec![entry(1_000, 1), with_floor(1_001, 1, u32::MAX)], 24),
+        (vec![entry(1, 101), with_floor(5, 1, 8)], 24),
+        (vec![with_floor(1, 101, 7)], 8),
     ];
     for (list, number) in cases {
         assert_eq!(both.judge(&list), Err(number), "{list:?}");
@@ -407,9 +481,11 @@ fn the_first_no_decides() {
             hyperperiod,
         };
         assert_eq!(both.judge(&[with_fixed(10, 40, fixed)]), Ok(wanted));
+        // A floor is nothing to the level.
+        assert_eq!(both.judge(&[with_all(10, 40, fixed, 7)]), Ok(wanted));
     }
-    both.wants_fixed(1);
-    for number in [3, 6, 7, 8] {
+    both.wants_additions(1);
+    for number in [3, 6, 7, 8, 24] {
         both.wants(number, 1);
     }
 }

@@ -1,10 +1,12 @@
 //! Compares the energy of three dispatchers on random plans: one that always runs at the nominal level,
-//! one with 01's allowance alone, and the simulator's, with the gap of 02's No. 4. A tick costs the
-//! cube of its speed, an idle one nothing. 01's eight speeds, no fixed ticks.
+//! one with 01's allowance alone, and the simulator's, with the gap of 02's No. 4. Then it says what a
+//! floor (02, No. 8) under the valve costs, and under every task, beside the same plans without one. A tick
+//! costs the cube of its speed, an idle one nothing. 01's eight speeds, no fixed ticks.
 //!
 //! `cargo run --release --offline -p sim --example energy`
 
 use sim::dispatch::{choose_with, pass, start, Rule};
+use sim::knee::VALVE;
 use sim::layout::{self, STATE_BYTES};
 use sim::numbers::div_ceil;
 use sim::plan::{judge_list, Judged, Task};
@@ -20,6 +22,8 @@ const RATIOS: [u64; 4] = [1, 2, 5, 10];
 const HYPERPERIODS: u64 = 3;
 const PLANS_OF_16: usize = 240;
 const PLANS_OF_FEW: usize = 400;
+/// Of the plans with floors there are seven runs each, for one task and for all.
+const PLANS_WITH_FLOORS: usize = 80;
 
 /// Divisors of 2,520.
 const PERIODS: [u64; 30] = [
@@ -34,6 +38,7 @@ enum Dispatcher {
     By(Rule),
 }
 
+#[derive(Clone)]
 struct Plan {
     tasks: Vec<Task>,
     judged: Judged,
@@ -64,6 +69,7 @@ fn random_plan(random: &mut Random, levels: &Levels, count: usize, level: usize)
                 period,
                 worst: ticks * levels.speed(level) - unused,
                 fixed: 0,
+                floor: 0,
             });
         }
         match judge_list(levels, &tasks) {
@@ -187,6 +193,71 @@ fn print_table(levels: &Levels, plans: &[Plan], count: usize) {
     println!();
 }
 
+/// The plan with this floor under the valve, or under every task.
+fn with_floor(plan: &Plan, floor: usize, all: bool) -> Plan {
+    let mut floored = plan.clone();
+    for (task, numbers) in floored.tasks.iter_mut().enumerate() {
+        if all || task == VALVE {
+            numbers.floor = floor as u64;
+        }
+    }
+    floored
+}
+
+/// What a plan spends with each ratio.
+fn energies(levels: &Levels, plan: &Plan) -> Vec<u64> {
+    let rule = Dispatcher::By(Rule::LoneGap);
+    let energy = |ratio| spend(levels, plan, rule, ratio).energy;
+    RATIOS.into_iter().map(energy).collect()
+}
+
+/// Energy with a floor in parts of that without it, for each ratio, of one plan.
+type Parts = Vec<f64>;
+
+fn parts(levels: &Levels, plan: &Plan, without: &[u64], floor: usize, all: bool) -> Parts {
+    let with = energies(levels, &with_floor(plan, floor, all));
+    let part = |(with, without): (&u64, &u64)| *with as f64 / *without as f64;
+    with.iter().zip(without).map(part).collect()
+}
+
+/// The mean over plans, in words for a row of a table.
+fn mean(parts: &[&Parts]) -> String {
+    let mean = |place: usize| {
+        let sum: f64 = parts.iter().map(|of_plan| of_plan[place]).sum();
+        format!("{:.3}", sum / parts.len() as f64)
+    };
+    let means: Vec<String> = (0..RATIOS.len()).map(mean).collect();
+    means.join(" | ")
+}
+
+/// A floor may be far above the nominal level of a plan, and then it is most of what the plan costs. So
+/// the plans whose nominal level is no lower are told once more by themselves.
+fn print_floors(levels: &Levels, plans: &[Plan], count: usize, all: bool) {
+    let whose = if all { "every task" } else { "the valve" };
+    println!(
+        "{count} tasks, a floor under {whose}: energy in parts of that without it, {} plans",
+        plans.len()
+    );
+    println!();
+    let told = |of: &str| RATIOS.map(|ratio| format!("{of}ratio {ratio}")).join(" | ");
+    let (of_all, of_some) = (told("all plans, "), told("nominal no lower, "));
+    println!("| floor | {of_all} | {of_some} |");
+    println!("|---|{}", "---|".repeat(2 * RATIOS.len()));
+    let without: Vec<Vec<u64>> = plans.iter().map(|plan| energies(levels, plan)).collect();
+    for floor in 1..levels.count() {
+        let of_plan = |(plan, without): (&Plan, &Vec<u64>)| {
+            let is_within = floor <= plan.judged.nominal;
+            (is_within, parts(levels, plan, without, floor, all))
+        };
+        let told: Vec<(bool, Parts)> = plans.iter().zip(&without).map(of_plan).collect();
+        let every: Vec<&Parts> = told.iter().map(|(_, parts)| parts).collect();
+        let within = told.iter().filter(|(is_within, _)| *is_within);
+        let within: Vec<&Parts> = within.map(|(_, parts)| parts).collect();
+        println!("| {floor} | {} | {} |", mean(&every), mean(&within));
+    }
+    println!();
+}
+
 fn main() {
     let levels = Levels::base();
     let mut random = Random::new(5_003);
@@ -195,5 +266,11 @@ fn main() {
     for (count, how_many) in [(16, PLANS_OF_16), (6, PLANS_OF_FEW), (3, PLANS_OF_FEW)] {
         let plans = plans(&mut random, &levels, count, how_many);
         print_table(&levels, &plans, count);
+    }
+    for count in [16, 4] {
+        let plans = plans(&mut random, &levels, count, PLANS_WITH_FLOORS);
+        for all in [false, true] {
+            print_floors(&levels, &plans, count, all);
+        }
     }
 }

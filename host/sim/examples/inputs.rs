@@ -17,12 +17,13 @@ fn packed(d: u32, finished: bool) -> [u8; 2] {
     bits.to_be_bytes()
 }
 
-/// Tasks from pairs of period and worst case, without fixed ticks.
+/// Tasks from pairs of period and worst case, without fixed ticks and without floors.
 fn tasks(pairs: &[(u64, u64)]) -> Vec<Task> {
     let task = |(period, worst): &(u64, u64)| Task {
         period: *period,
         worst: *worst,
         fixed: 0,
+        floor: 0,
     };
     pairs.iter().map(task).collect()
 }
@@ -115,13 +116,22 @@ fn refused_plans() -> Vec<(u32, Vec<u8>)> {
         block(&[(10, 400), (10, 400), (30, 601)]),
     ];
     let numbered = (1..).zip(plans);
-    // The bench plan, which has no fixed ticks, in edition 2.
+    // The bench plan, which has no fixed ticks and no floors, in edition 2.
     let plan = tasks(&[(10, 400), (10, 400), (30, 600)]);
     let needless = (21, block_of_no_additions(&plan));
     numbered
         .chain([needless])
         .map(|(number, plan)| (number, with_base_levels(&plan)))
+        .chain([(24, floor_past_the_levels())])
         .collect()
+}
+
+/// Three levels, 0 to 2, and the bench plan with a floor of 3 under its last task.
+fn floor_past_the_levels() -> Vec<u8> {
+    let mut plan = tasks(&[(10, 400), (10, 400), (30, 600)]);
+    plan[2].floor = 3;
+    let levels = write_levels(&Levels::new(&[40, 70, 100]));
+    [&levels[..], &block_of(&plan), &packed(1, true)].concat()
 }
 
 /// Inputs with a refused pass, an odd byte, or a byte too many. A refused pass is followed by one
@@ -211,6 +221,43 @@ fn angle_sensor() -> Vec<u8> {
     base_with(&block_of(&plan), &passes)
 }
 
+/// A valve, a second task and a gait with floors below nominal, at it and above it. At 50 units a tick,
+/// which is level 4 and nominal, they have 8, 4 and 6 of 20 ticks.
+fn with_floors(pairs: &[(u64, u64)]) -> Vec<Task> {
+    let mut plan = tasks(pairs);
+    for (task, floor) in plan.iter_mut().zip([3, 4, 6]) {
+        task.floor = floor;
+    }
+    plan
+}
+
+/// Runs of plans with floors.
+fn floors() -> Vec<(String, Vec<u8>)> {
+    // The second task is an angle sensor, which has 2 of its ticks fixed.
+    let mut sensor = with_floors(&[(10, 200), (20, 90), (20, 290)]);
+    sensor[1].fixed = 2;
+    // The valve ends early. Each job after it is raised by its floor: the sensor's from level 1, where 4
+    // unfinished ticks would not be refused; the gait's from 2; and at 10 the valve's from 1.
+    let raised = [(1, true), (4, false), (3, true), (4, true), (2, false)];
+    let to_20 = [(5, true), (5, false)];
+    // With the worst cases the gait is raised from 4 at 28 and, as the valve arrives, from 3 at 30. At 32
+    // the valve is, from 2.
+    let worst = [(4, true), (4, true), (2, false), (2, true), (5, true)];
+    let passes = [&raised[..], &to_20, &worst, &[(3, false)]].concat();
+    let all = base_with(&block_of(&sensor), &passes);
+    // Without fixed ticks the floors alone are what edition 2 is for.
+    let alone = with_floors(&[(10, 200), (20, 180), (20, 290)]);
+    let passes = [(1, true), (3, true), (2, false), (2, true), (2, false)];
+    let passes = [&passes[..], &to_20].concat();
+    vec![
+        ("floors".to_string(), all),
+        (
+            "floors-alone".to_string(),
+            base_with(&block_of(&alone), &passes),
+        ),
+    ]
+}
+
 fn all() -> Vec<(String, Vec<u8>)> {
     let levels = Levels::base();
     let mut bench = TO_TICK_19.to_vec();
@@ -227,6 +274,7 @@ fn all() -> Vec<(String, Vec<u8>)> {
     inputs.push(("lone-job".to_string(), lone_job()));
     inputs.extend(other_boards());
     inputs.extend(fixed_ticks());
+    inputs.extend(floors());
     let refused = [refused_plans(), refused_later(), refused_levels()];
     for (number, input) in refused.concat() {
         inputs.push((format!("refused-{number:02}"), input));

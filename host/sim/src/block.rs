@@ -1,5 +1,5 @@
-//! 01, Blocks, and 02, No. 2: the plan block in its two editions. This file knows which bits are
-//! which, and asks nothing of what they say.
+//! 01, Blocks, and 02, No. 2 and No. 8: the plan block in its two editions. This file knows which bits
+//! are which, and asks nothing of what they say.
 
 use crate::bits::Bits;
 use crate::numbers::div_ceil;
@@ -13,9 +13,9 @@ pub const PERIOD_BITS: usize = 16;
 pub const WORST_BITS: usize = 20;
 
 /// 02, No. 2: "Plan edition 2 adds, after each worst case, 8 bits of fixed ticks (0 to 255) and 3
-/// spare zero bits".
+/// spare zero bits". No. 8: "A task gets a floor, in the three spare bits of edition 2".
 pub const FIXED_BITS: usize = 8;
-pub const SPARE_BITS: usize = 3;
+pub const FLOOR_BITS: usize = 3;
 
 /// What stands in front of the tasks, whatever the edition.
 pub const HEAD_BITS: usize = EDITION_BITS + COUNT_BITS;
@@ -36,16 +36,16 @@ impl Edition {
     }
 
     /// The edition that the writer gives to a plan of these tasks: it "uses edition 1 where all are
-    /// zero".
+    /// zero". 02, No. 8: "A floor counts as an addition for 21 and for the writer's choice of edition."
     pub fn of_tasks(tasks: &[Task]) -> Edition {
-        if tasks.iter().all(|task| task.fixed == 0) {
-            Edition::FIRST
-        } else {
+        if tasks.iter().any(Task::has_addition) {
             Edition::SECOND
+        } else {
+            Edition::FIRST
         }
     }
 
-    /// Whether its tasks have bits for fixed ticks, and spare ones behind these.
+    /// Whether its tasks have bits for fixed ticks and, behind these, for a floor.
     pub fn has_additions(self) -> bool {
         self == Edition::SECOND
     }
@@ -54,29 +54,29 @@ impl Edition {
     /// first edition's, so that such a block can be made and cut.
     pub fn task_bits(self) -> usize {
         let additions = if self.has_additions() {
-            FIXED_BITS + SPARE_BITS
+            FIXED_BITS + FLOOR_BITS
         } else {
             0
         };
         PERIOD_BITS + WORST_BITS + additions
     }
 
-    /// Takes a task away from the front of the bits, and its spare bits, which are 0 where the
-    /// edition has none. "Edition 1 means no fixed ticks."
-    pub fn take_task(self, bits: &mut Bits) -> (Task, u64) {
+    /// Takes a task away from the front of the bits. "Edition 1 means no fixed ticks", and no floor
+    /// either.
+    pub fn take_task(self, bits: &mut Bits) -> Task {
         let period = bits.take(PERIOD_BITS);
         let worst = bits.take(WORST_BITS);
-        let (fixed, spare) = if self.has_additions() {
-            (bits.take(FIXED_BITS), bits.take(SPARE_BITS))
+        let (fixed, floor) = if self.has_additions() {
+            (bits.take(FIXED_BITS), bits.take(FLOOR_BITS))
         } else {
             (0, 0)
         };
-        let task = Task {
+        Task {
             period,
             worst,
             fixed,
-        };
-        (task, spare)
+            floor,
+        }
     }
 
     fn put_task(self, bits: &mut Bits, task: &Task) {
@@ -84,7 +84,7 @@ impl Edition {
         bits.put(task.worst, WORST_BITS);
         if self.has_additions() {
             bits.put(task.fixed, FIXED_BITS);
-            bits.put(0, SPARE_BITS);
+            bits.put(task.floor, FLOOR_BITS);
         }
     }
 }
@@ -109,7 +109,7 @@ pub fn head(block: &[u8]) -> Option<(Edition, u64)> {
 }
 
 /// A plan block with whatever is in the fields. Only the lowest bits that fit a field get into it,
-/// and no fixed ticks into an edition that has no field for them.
+/// and no fixed ticks and no floor into an edition that has no fields for them.
 pub fn pack_block(edition: Edition, count: u64, tasks: &[Task]) -> Vec<u8> {
     let mut bits = Bits::empty();
     bits.put(edition.0, EDITION_BITS);

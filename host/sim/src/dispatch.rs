@@ -1,7 +1,8 @@
 //! 01, "Orders and passes", and the questions that starting, passing and showing put. 02, No. 1:
 //! "Orders and the plain schedule are from now on those of the loaded speeds", which after the start
 //! are the state's own. 02, No. 4: a job that is the only open one has the ticks to the next arrival
-//! as its allowance where these are more than 01's. 02, No. 6: the total of the plain ticks left.
+//! as its allowance where these are more than 01's. 02, No. 6: the total of the plain ticks left. 02,
+//! No. 8: no order runs a job at a level below its task's floor.
 
 use crate::clock::{clock_after, LARGEST_CLOCK};
 use crate::job::{left_after, time_needed, Left};
@@ -26,7 +27,7 @@ pub enum Rule {
     LoneGap,
 }
 
-/// Starting: reads the block (1 to 8, and 21), then the pairs (22, which 02's No. 5 has "put after 8"),
+/// Starting: reads the block (1 to 8, 21 and 24), then the pairs (22, which 02's No. 5 has "put after 8"),
 /// then asks for the state's 221 bytes (9). Of a longer buffer the bytes past them stay as they were.
 /// The pairs go no further: they are in neither the state nor the order.
 pub fn start(levels: &Levels, block: &[u8], pairs: &[u8], state: &mut [u8]) -> Result<Order, u32> {
@@ -137,7 +138,8 @@ pub fn sound(block: &[u8]) -> Option<(State, Judged)> {
     if layout::TOTAL.get(block) != state.total() {
         return None;
     }
-    // "a plan that passes 3, 6, 7, 8"
+    // "a plan that passes 3, 6, 7, 8"; 02, No. 8, of soundness: "it also puts 24". So from here on every
+    // floor is a level of the state's own table.
     let judged = judge_list(&state.levels, &state.tasks()).ok()?;
     // "a clock in range"
     if state.clock > LARGEST_CLOCK {
@@ -185,18 +187,26 @@ fn ends_within_the_gap(state: &State, task: usize) -> bool {
 }
 
 /// "an idle order exactly if no job is open, else the most urgent open job at a level no higher
-/// than nominal that meets its allowance". So the level is one of the state's table. 02, No. 4: "The
-/// soundness test uses the same allowance" as a new order.
+/// than nominal that meets its allowance". 02, No. 4: "The soundness test uses the same allowance" as a
+/// new order. 02, No. 8: "Soundness wants a run order's level at or above the floor, and at most the
+/// higher of nominal and floor". So the level is one of the state's table.
 fn order_is_sound(state: &State, nominal: usize) -> bool {
     match (most_urgent_open(state), state.running) {
         (None, None) => true,
         (Some(urgent), Some(running)) => {
+            let floor = floor_of(state, urgent);
             running.task == urgent
-                && running.level <= nominal
+                && running.level >= floor
+                && running.level <= nominal.max(floor)
                 && time_of_order(state, running) <= allowance(state, urgent)
         }
         _ => false,
     }
+}
+
+/// The level below which a task's job is not run.
+fn floor_of(state: &State, task: usize) -> usize {
+    state.entries[task].task.floor as usize
 }
 
 /// An entry just after an arrival: "a new job with full worst case and allotment".
@@ -281,17 +291,18 @@ fn base_allowance(state: &State, task: usize) -> u64 {
     sum
 }
 
-/// "The level is the lowest at which the work left needs no more than the allowance."
+/// "The level is the lowest at which the work left needs no more than the allowance." 02, No. 8: "The
+/// level chosen is the lowest at or above the floor that meets the allowance. A floor above nominal is
+/// obeyed."
 fn lowest_level(state: &State, task: usize, allowance: u64) -> usize {
     let left = state.entries[task].left;
-    let level = state
-        .levels
-        .lowest(|speed| time_needed(left, speed) <= allowance);
+    let meets = |speed| time_needed(left, speed) <= allowance;
+    let level = state.levels.lowest_from(floor_of(state, task), meets);
     // A job that a new order is chosen for has its time needed at the nominal level within its own
-    // plain ticks, and those are part of either allowance. A lone job may have fallen behind its
-    // plain ticks, but then it is the one that runs, and no order is chosen while it is open: nobody
-    // else can finish, and it ends within the ticks to the next arrival.
-    level.expect("the nominal level always meets the allowance")
+    // plain ticks, and those are part of either allowance; at a floor above that it needs no more. A
+    // lone job may have fallen behind its plain ticks, but then it is the one that runs, and no order is
+    // chosen while it is open: nobody else can finish, and it ends within the ticks to the next arrival.
+    level.expect("the higher of nominal and floor always meets the allowance")
 }
 
 /// The task and level of a new order: the most urgent open job, or idle if there is none.

@@ -1,5 +1,5 @@
-//! 01, Blocks, and 02, No. 1, No. 2 and No. 6: where each number of the state block stands. Nothing
-//! else in the simulator knows a place or a length of it.
+//! 01, Blocks, and 02, No. 1, No. 2, No. 6 and No. 8: where each number of the state block stands.
+//! Nothing else in the simulator knows a place or a length of it.
 
 use std::ops::Range;
 
@@ -24,14 +24,22 @@ pub const HEAD_ZERO: Field = field(7, 1);
 pub const HEAD_BYTES: usize = 8;
 
 /// "period (2), worst case (3), work left (3; 0 once finished), plain ticks left (2), two zero
-/// bytes"; 02, No. 2: "the two zero bytes become fixed ticks and fixed ticks left".
+/// bytes"; 02, No. 2: "the two zero bytes become fixed ticks and fixed ticks left". No. 8: a floor "in
+/// the top four bits of the worst case's three bytes", so that these are one field of two numbers.
 pub const PERIOD: Field = field(0, 2);
-pub const WORST: Field = field(2, 3);
+pub const FLOOR_AND_WORST: Field = field(2, 3);
 pub const WORK_LEFT: Field = field(5, 3);
 pub const PLAIN_LEFT: Field = field(8, 2);
 pub const FIXED: Field = field(10, 1);
 pub const FIXED_LEFT: Field = field(11, 1);
 pub const ENTRY_BYTES: usize = 12;
+
+/// What the floor counts in that field: the worst case has the bits below it, 20 of them, which its
+/// range fills.
+const FLOOR_UNIT: u64 = 1 << 20;
+/// A floor of four bits is below this.
+const FLOORS: u64 = 1 << 4;
+const _: () = assert!(FLOOR_UNIT * FLOORS == 1 << (8 * FLOOR_AND_WORST.bytes));
 
 /// "a block of 200 bytes ... sixteen entries of 12 bytes".
 pub const ENTRIES: usize = 16;
@@ -70,6 +78,28 @@ pub const fn speed_of(level: usize) -> Field {
 /// A field of an entry as one of the block.
 pub const fn of_task(task: usize, part: Field) -> Field {
     field(entry_at(task) + part.at, part.bytes)
+}
+
+/// The floor that stands in the entry of a task.
+pub fn floor_in(block: &[u8], task: usize) -> u64 {
+    of_task(task, FLOOR_AND_WORST).get(block) / FLOOR_UNIT
+}
+
+/// The worst case that stands there.
+pub fn worst_in(block: &[u8], task: usize) -> u64 {
+    of_task(task, FLOOR_AND_WORST).get(block) % FLOOR_UNIT
+}
+
+/// Puts the lowest four bits of a number as the floor, and leaves the worst case.
+pub fn put_floor(block: &mut [u8], task: usize, floor: u64) {
+    let both = floor % FLOORS * FLOOR_UNIT + worst_in(block, task);
+    of_task(task, FLOOR_AND_WORST).put(block, both);
+}
+
+/// Puts the lowest 20 bits of a number as the worst case, and leaves the floor.
+pub fn put_worst(block: &mut [u8], task: usize, worst: u64) {
+    let both = floor_in(block, task) * FLOOR_UNIT + worst % FLOOR_UNIT;
+    of_task(task, FLOOR_AND_WORST).put(block, both);
 }
 
 impl Field {

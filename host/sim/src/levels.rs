@@ -59,6 +59,11 @@ impl Levels {
 
     /// The lowest level whose speed will do, if there is one.
     pub fn lowest(&self, will_do: impl Fn(u64) -> bool) -> Option<usize> {
-        (0..self.count()).find(|level| will_do(self.speed(*level)))
+        self.lowest_from(0, will_do)
+    }
+
+    /// The same of this level and those above it.
+    pub fn lowest_from(&self, floor: usize, will_do: impl Fn(u64) -> bool) -> Option<usize> {
+        (floor..self.count()).find(|level| will_do(self.speed(*level)))
     }
 }

@@ -1,5 +1,5 @@
 //! Reference simulator of the knee's dispatcher and of its damping, written from document 01 and the
-//! first seven requests of document 02 alone.
+//! first eight requests of document 02 alone.
 //!
 //! It is meant to be read beside those documents: every step is done the long way, tick by tick and
 //! level by level, so that a reader can see that it says what they say. Nothing here is meant to be

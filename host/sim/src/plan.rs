@@ -1,5 +1,6 @@
 //! 01, "Plan, levels, plain schedule", and the questions 1 to 9 about plans; 02, No. 2: the fixed
-//! ticks of a task, and question 21.
+//! ticks of a task, and question 21; No. 8: its floor, and question 24. Admission, the nominal level
+//! and the hyperperiod don't look at floors.
 
 use crate::bits::Bits;
 use crate::block::{block_bytes, pack_block, take_head, Edition};
@@ -14,9 +15,17 @@ pub struct Task {
     pub worst: u64,
     /// Ticks that its job takes at every level, before its work.
     pub fixed: u64,
+    /// The lowest level that its job may be run at. Level 0 is the lowest there is, so 0 is no floor at
+    /// all.
+    pub floor: u64,
 }
 
 impl Task {
+    /// Whether it has anything that edition 1 of a plan block has no bits for.
+    pub fn has_addition(&self) -> bool {
+        self.fixed > 0 || self.floor > 0
+    }
+
     /// What its job has to do on arrival.
     pub fn whole_job(&self) -> Left {
         Left {
@@ -99,13 +108,25 @@ fn ask_ranges(tasks: &[Task]) -> Result<(), u32> {
     }
 }
 
-/// Questions 3, 6, 7 and 8 about a count and its tasks. Entries past the count are not looked at.
+/// Question 24: "a floor naming no loaded level". A floor is a number of any size here, and one that is
+/// too large is never out of range: 6 doesn't ask about it.
+fn ask_floors(levels: &Levels, tasks: &[Task]) -> Result<(), u32> {
+    let names_a_level = |task: &Task| task.floor < levels.count() as u64;
+    if tasks.iter().all(names_a_level) {
+        Ok(())
+    } else {
+        Err(24)
+    }
+}
+
+/// Questions 3, 6, 24, 7 and 8 about a count and its tasks. Entries past the count are not looked at.
 pub fn judge(levels: &Levels, count: u64, tasks: &[Task]) -> Result<Judged, u32> {
     if !count_in_range(count) {
         return Err(3);
     }
     let tasks = &tasks[..count as usize];
     ask_ranges(tasks)?;
+    ask_floors(levels, tasks)?;
     ask_admission(levels, tasks)
 }
 
@@ -124,7 +145,7 @@ pub fn judge_list(levels: &Levels, tasks: &[Task]) -> Result<Judged, u32> {
     judge(levels, tasks.len() as u64, tasks)
 }
 
-/// Reading a plan: questions 1 to 6, 21, 7 and 8.
+/// Reading a plan: questions 1 to 6, 21, 24, 7 and 8.
 pub fn read_plan(levels: &Levels, block: &[u8]) -> Result<(Vec<Task>, Judged), u32> {
     if block.len() < 2 {
         return Err(1);
@@ -141,26 +162,25 @@ pub fn read_plan(levels: &Levels, block: &[u8]) -> Result<(Vec<Task>, Judged), u
         return Err(4);
     }
     let mut tasks = Vec::new();
-    let mut spare_bits = 0;
     for _ in 0..count {
-        let (task, spare) = edition.take_task(&mut bits);
-        tasks.push(task);
-        spare_bits |= spare;
+        tasks.push(edition.take_task(&mut bits));
     }
-    // "3 spare zero bits, tested with the closing bits under 5".
-    if spare_bits != 0 || !bits.all_zero() {
+    // 02, No. 8, of the bits that were spare: "Question 5 no longer tests these bits."
+    if !bits.all_zero() {
         return Err(5);
     }
     ask_ranges(&tasks)?;
     // "21 an edition 2 block whose additions are all zero; put after 6 in reading."
-    if edition == Edition::SECOND && tasks.iter().all(|task| task.fixed == 0) {
+    if edition == Edition::SECOND && !tasks.iter().any(Task::has_addition) {
         return Err(21);
     }
+    // "24 a floor naming no loaded level; put after 6 and 21."
+    ask_floors(levels, &tasks)?;
     let judged = ask_admission(levels, &tasks)?;
     Ok((tasks, judged))
 }
 
-/// Writing a plan: questions 3, 6, 7, 8, then 9. Returns how many bytes were written; "Bytes past
+/// Writing a plan: questions 3, 6, 24, 7, 8, then 9. Returns how many bytes were written; "Bytes past
 /// those written stay untouched."
 pub fn write_plan(
     levels: &Levels,

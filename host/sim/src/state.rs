@@ -1,5 +1,5 @@
-//! 01, Blocks, and 02, No. 1, No. 2 and No. 6: the state, packed into its block and unpacked. This
-//! file knows nothing of what the plan, the jobs and the order have to do with each other.
+//! 01, Blocks, and 02, No. 1, No. 2, No. 6 and No. 8: the state, packed into its block and unpacked.
+//! This file knows nothing of what the plan, the jobs and the order have to do with each other.
 
 use crate::job::Left;
 use crate::layout::{self, Field, ENTRIES, ENTRIES_END, IDLE, SPEEDS, STATE_BYTES};
@@ -111,8 +111,9 @@ fn unpack_entry(block: &[u8], task: usize) -> Entry {
     Entry {
         task: Task {
             period: number(layout::PERIOD),
-            worst: number(layout::WORST),
+            worst: layout::worst_in(block, task),
             fixed: number(layout::FIXED),
+            floor: layout::floor_in(block, task),
         },
         left: Left {
             fixed: number(layout::FIXED_LEFT),
@@ -122,7 +123,8 @@ fn unpack_entry(block: &[u8], task: usize) -> Entry {
     }
 }
 
-/// The block of a state. Its total is the one of the entries, whatever else is said of them.
+/// The block of a state. Its total is the one of the entries, whatever else is said of them. Only the
+/// lowest bits that fit a field get into it.
 pub fn pack(state: &State) -> [u8; STATE_BYTES] {
     let mut block = [0; STATE_BYTES];
     layout::CLOCK.put(&mut block, state.clock);
@@ -150,9 +152,10 @@ fn pack_levels(block: &mut [u8], levels: &Levels) {
 }
 
 fn pack_entry(block: &mut [u8], task: usize, entry: &Entry) {
+    layout::put_floor(block, task, entry.task.floor);
+    layout::put_worst(block, task, entry.task.worst);
     let mut put = |part: Field, number| layout::of_task(task, part).put(block, number);
     put(layout::PERIOD, entry.task.period);
-    put(layout::WORST, entry.task.worst);
     put(layout::WORK_LEFT, entry.left.work);
     put(layout::PLAIN_LEFT, entry.plain_left);
     put(layout::FIXED, entry.task.fixed);

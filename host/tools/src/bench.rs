@@ -3,7 +3,7 @@
 use crate::script::{largest, Pass, Script, D_BITS, NUMBER_BITS};
 use sim::bits::Bits;
 use sim::block::{block_bytes, head, pack_block, take_head, Edition};
-use sim::block::{COUNT_BITS, FIXED_BITS, HEAD_BITS, PERIOD_BITS, SPARE_BITS, WORST_BITS};
+use sim::block::{COUNT_BITS, FIXED_BITS, FLOOR_BITS, PERIOD_BITS, WORST_BITS};
 use sim::level_block::{self, level_block_bytes, level_count, pack_levels, read_levels};
 use sim::pairs::{pack_pairs, Pair};
 use sim::plan::{judge_list, Task};
@@ -23,7 +23,6 @@ pub enum Why {
     TooShort { length: usize },
     Edition(u64),
     CutBlock { count: u64, needed: usize },
-    SpareBits { task: usize },
     ClosingBits,
     NoAddition,
     OddByte,
@@ -60,11 +59,11 @@ impl fmt::Display for Why {
                 "the input ends here, within the plan block: its count is {count}, so it needs \
                  {needed} bytes"
             ),
-            Why::SpareBits { task } => write!(out, "the spare bits of task {task} are not zero"),
             Why::ClosingBits => write!(out, "the closing bits of the plan block are not zero"),
             Why::NoAddition => write!(
                 out,
-                "the edition is 2, but no task has fixed ticks; text without them means edition 1"
+                "the edition is 2, but no task has fixed ticks or a floor; text without them means \
+                 edition 1"
             ),
             Why::OddByte => write!(out, "an odd byte is left; a pass has two"),
         }
@@ -190,6 +189,7 @@ fn fits(script: &Script) -> bool {
         task.period <= largest(PERIOD_BITS)
             && task.worst <= largest(WORST_BITS)
             && task.fixed <= largest(FIXED_BITS)
+            && task.floor <= largest(FLOOR_BITS)
     };
     let speed_fits = |speed: &u64| *speed <= largest(level_block::SPEED_BITS);
     let number_fits = |number: usize| number as u64 <= largest(NUMBER_BITS);
@@ -255,12 +255,8 @@ fn unpack_block(block: &[u8]) -> Result<Vec<Task>, BytesError> {
         return at(length, Why::CutBlock { count, needed });
     }
     let mut tasks = Vec::new();
-    for task in 0..count as usize {
-        let (numbers, spare) = edition.take_task(&mut bits);
-        if spare != 0 {
-            return at(byte_of_spare(edition, task, spare), Why::SpareBits { task });
-        }
-        tasks.push(numbers);
+    for _ in 0..count {
+        tasks.push(edition.take_task(&mut bits));
     }
     if !bits.all_zero() {
         return at(length - 1, Why::ClosingBits);
@@ -270,11 +266,4 @@ fn unpack_block(block: &[u8]) -> Result<Vec<Task>, BytesError> {
         return at(0, Why::NoAddition);
     }
     Ok(tasks)
-}
-
-/// The byte with the first spare bit of a task that is set. The spare bits are a task's last.
-fn byte_of_spare(edition: Edition, task: usize, spare: u64) -> usize {
-    let end = HEAD_BITS + edition.task_bits() * (task + 1);
-    let first = (0..SPARE_BITS).rev().find(|bit| spare >> bit & 1 == 1);
-    (end - 1 - first.unwrap_or(0)) / 8
 }

@@ -6,7 +6,7 @@ pub fn meaning(number: u32) -> &'static str {
         2 => "the edition is not 1 or 2",
         3 => "the count is not 1 to 16",
         4 => "the plan block's length is not the edition's and the count's",
-        5 => "the closing bits, or the spare bits of a task, are not zero",
+        5 => "the closing bits are not zero",
         6 => "a period or a worst case is out of range",
         7 => "the hyperperiod is over 1,000,000",
         8 => "no level admits the plan",
@@ -22,9 +22,10 @@ pub fn meaning(number: u32) -> &'static str {
         18 => "the level block is empty, or its count is not 1 to 8",
         19 => "the level block's length is not the count's, or its closing bits are not zero",
         20 => "a speed is not 1 to 1,000, or not above the one before it",
-        21 => "the edition is 2, but no task has fixed ticks",
+        21 => "the edition is 2, but no task has fixed ticks or a floor",
         22 => "there are more than 16 pairs, or an odd byte, or a pair is not good",
         23 => "the angle is not -50 to 1,300 tenths of a degree",
+        24 => "a floor is not the number of a loaded level",
         _ => "not a refusal of the documents",
     }
 }

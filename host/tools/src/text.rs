@@ -1,9 +1,9 @@
-//! The text form: a `speeds S1 S2 ..` line if the speeds are not 01's, `task PERIOD WORST [FIXED]` and
-//! `before EARLIER LATER` lines, then `pass D` and `finish D` lines. `#` starts a comment, and blank
+//! The text form: a `speeds S1 S2 ..` line if the speeds are not 01's, `task PERIOD WORST [FIXED [FLOOR]]`
+//! and `before EARLIER LATER` lines, then `pass D` and `finish D` lines. `#` starts a comment, and blank
 //! lines say nothing.
 
 use crate::script::{largest, Pass, Script, D_BITS, NUMBER_BITS};
-use sim::block::{COUNT_BITS, FIXED_BITS, PERIOD_BITS, WORST_BITS};
+use sim::block::{COUNT_BITS, FIXED_BITS, FLOOR_BITS, PERIOD_BITS, WORST_BITS};
 use sim::level_block::{self, SPEED_BITS};
 use sim::pairs::Pair;
 use sim::plan::Task;
@@ -99,8 +99,12 @@ pub fn write(script: &Script) -> String {
     }
     for task in &script.tasks {
         text += &format!("task {} {}", task.period, task.worst);
-        if task.fixed != 0 {
+        // A floor comes after the fixed ticks, so with one they are said even where there are none.
+        if task.has_addition() {
             text += &format!(" {}", task.fixed);
+        }
+        if task.floor != 0 {
+            text += &format!(" {}", task.floor);
         }
         text += "\n";
     }
@@ -157,7 +161,7 @@ fn enter_speeds<'a>(
     Ok(())
 }
 
-/// Without the last number the task has no fixed ticks.
+/// Without the last number the task has no floor, and without the last two no fixed ticks either.
 fn enter_task<'a>(
     script: &mut Script,
     words: &mut impl Iterator<Item = &'a str>,
@@ -170,14 +174,13 @@ fn enter_task<'a>(
     }
     let period = number(words, "period", PERIOD_BITS)?;
     let worst = number(words, "worst case", WORST_BITS)?;
-    let fixed = match words.next() {
-        Some(word) => number(&mut [word].into_iter(), "number of fixed ticks", FIXED_BITS)?,
-        None => 0,
-    };
+    let fixed = number_or_none(words, "number of fixed ticks", FIXED_BITS)?;
+    let floor = number_or_none(words, "floor", FLOOR_BITS)?;
     script.tasks.push(Task {
         period,
         worst,
         fixed,
+        floor,
     });
     Ok(())
 }
@@ -205,6 +208,18 @@ fn enter_pass<'a>(
     let d = number(words, "d", D_BITS)? as u32;
     script.passes.push(Pass { d, finished });
     Ok(())
+}
+
+/// The next word as a number, or 0 if there is none.
+fn number_or_none<'a>(
+    words: &mut impl Iterator<Item = &'a str>,
+    field: &'static str,
+    bits: usize,
+) -> Result<u64, Mistake> {
+    match words.next() {
+        Some(word) => number(&mut [word].into_iter(), field, bits),
+        None => Ok(0),
+    }
 }
 
 /// The next word as a number of at most so many bits. Digits only: no sign, no separators.

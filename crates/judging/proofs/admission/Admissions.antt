@@ -1,6 +1,6 @@
 -- Whether a plan is admitted: what each loop has made so far, and what each way out says of the questions 6, 7 and 8.
 -- Assumes nothing.
-use Prim.Native.Nat.{ℕ, _+_, _*_, _/_, _<_, _≤_}
+use Prim.Native.Nat.{ℕ, zero, suc, _+_, _*_, _/_, _<_, _≤_}
 use mathlib.Core.Path.{_≡_, refl, sym, subst, ap, ap₂, _∙_}
 use mathlib.Core.Bool.{Bool, true, false}
 use mathlib.Core.List.{List, [], _∷_}
@@ -14,7 +14,7 @@ use Rattle.arith.specs.Arrays.{padded}
 use Rattle.arith.specs.Choice.{first}
 use Rattle.arith.specs.Ranges.{listTo}
 use Rattle.arith.specs.Sum.{sumTo}
-use Rattle.arith.specs.Asking.{firstNo}
+use Rattle.arith.specs.Asking.{Question, firstNo}
 use Rattle.plan.specs.declared.Task.{Task}
 use Rattle.plan.specs.declared.Plan.{Plan}
 use Rattle.plan.specs.declared.Verdict.{Verdict}
@@ -23,9 +23,9 @@ use Rattle.plan.specs.Answers.{answered}
 use Rattle.plan.specs.Times.{taskTime}
 use Rattle.plan.specs.Levels.{Rising, hyperperiod, demandWithin, speedOf, nominal, admits}
 use Rattle.plan.specs.Blocks.{noTask, tasksOf}
-use Rattle.plan.specs.Questions.{rangeQuestion, levelQuestion, taskQuestions}
+use Rattle.plan.specs.Questions.{rangeQuestion, floorQuestion, spanQuestion, levelQuestion, taskQuestions}
 use Rattle.arith.proofs.ArrayLaws.{value-at}
-use Rattle.arith.proofs.QuestionLaws.{ask-no, ask-yes}
+use Rattle.arith.proofs.QuestionLaws.{ask-no, ask-yes, no-before, Yes, all-yes}
 use Rattle.arith.proofs.Searches.{first-found, first-next, first-none, first-weaker}
 use Rattle.arith.proofs.Sums.{sumTo-eq, sumOf-taken}
 use Rattle.plan.proofs.Facts.{span-asked, level-asked}
@@ -164,7 +164,7 @@ module _ {p : Plan} {span : ℕ} {jobs : List ℕ} (c : Counted p span jobs) whe
           let speed : ℕ = getD speeds k 0 in
           le-leb work (span * speed) (admits-covers (tasksOf p) span work speed (rising .positive k h) (c .span-is) (demand-all 1 e) a)
 
--- the verdict, by the first no of the questions 6, 7 and 8
+-- the verdict, by the first no of the questions 6, 24, 7 and 8
 abbrev pub verdictOf : List ℕ → List Task → Verdict
 verdictOf speeds ts = answered (firstNo (taskQuestions speeds ts)) speeds ts
 
@@ -172,15 +172,27 @@ module _ (speeds : List ℕ) (ts : List Task) where
   told : {n : ℕ} → firstNo (taskQuestions speeds ts) ≡ n → answered n speeds ts ≡ verdictOf speeds ts
   told e = sym (ap (λ (n : ℕ). answered n speeds ts) e)
 
-  pub refused-6 : rangeQuestion ts .reply ≡ false → verdict.Refused 6 ≡ verdictOf speeds ts
-  refused-6 six = told {n = 6} (ask-no 6 _ six)
+  -- 6 and 24, which are asked in one walk
+  abbrev pub ranged : List Question
+  ranged = rangeQuestion ts ∷ floorQuestion speeds ts ∷ []
 
-  pub refused-7 : rangeQuestion ts .reply ≡ true → 1000000 < hyperperiod ts → verdict.Refused 7 ≡ verdictOf speeds ts
-  refused-7 six over = told {n = 7} (ask-yes 6 six (ask-no 7 _ (lt-leb (hyperperiod ts) 1000000 over)))
+  pub refused-ranges : (n : ℕ) → (n ≡ 0 → ⊥) → n ≡ firstNo ranged → verdict.Refused n ≡ verdictOf speeds ts
+  refused-ranges zero some e = absurd (some refl)
+  refused-ranges (suc n) some e =
+      told {n = suc n} (no-before ranged (spanQuestion ts ∷ levelQuestion speeds ts ∷ []) (suc n) (omega arith) (sym e))
 
--- 6 and 7 are answered yes, and the level is known
+  pub ranged-yes : {n : ℕ} → n ≡ 0 → n ≡ firstNo ranged → (rangeQuestion ts .reply ≡ true) × (floorQuestion speeds ts .reply ≡ true)
+  ranged-yes z e =
+      let yes : Yes ranged = all-yes ranged refl (sym e ∙ z) in
+      (yes .0, yes .1 .0)
+
+  pub refused-7 :
+      (rangeQuestion ts .reply ≡ true) × (floorQuestion speeds ts .reply ≡ true) → 1000000 < hyperperiod ts → verdict.Refused 7 ≡ verdictOf speeds ts
+  refused-7 (six, floor) over = told {n = 7} (ask-yes 6 six (ask-yes 24 floor (ask-no 7 _ (lt-leb (hyperperiod ts) 1000000 over))))
+
+-- 6, 24 and 7 are answered yes, and the level is known
 pub record Levelled (speeds : List ℕ) (ts : List Task) (span level : ℕ) : Type 0 where
-  pub ranges : rangeQuestion ts .reply ≡ true
+  pub ranges : (rangeQuestion ts .reply ≡ true) × (floorQuestion speeds ts .reply ≡ true)
   pub span-is : span ≡ hyperperiod ts
   pub small : span ≤ 1000000
   pub level-is : level ≡ nominal speeds ts
@@ -189,7 +201,7 @@ module _ {speeds : List ℕ} {ts : List Task} {span level : ℕ} (k : Levelled s
   levelled : (n : ℕ) → firstNo (levelQuestion speeds ts ∷ []) ≡ n → answered n speeds ts ≡ verdictOf speeds ts
   levelled n e =
       told speeds ts {n = n}
-      (ask-yes 6 (k .ranges) (ask-yes 7 (span-asked ts (subst (λ (x : ℕ). x ≤ 1000000) (k .span-is) (k .small))) e))
+      (ask-yes 6 (k .ranges .0) (ask-yes 24 (k .ranges .1) (ask-yes 7 (span-asked ts (subst (λ (x : ℕ). x ≤ 1000000) (k .span-is) (k .small))) e)))
 
   pub refused-8 : length speeds ≤ level → verdict.Refused 8 ≡ verdictOf speeds ts
   refused-8 h = levelled 8 (ask-no 8 _ (le-ltb (nominal speeds ts) (length speeds) (subst (λ (n : ℕ). length speeds ≤ n) (k .level-is) h)))

@@ -1,22 +1,25 @@
--- The tasks of a plan as the code holds it: whether they are in range, and their hyperperiod, as far as each loop has come.
+-- The tasks of a plan as the code holds it: whether each passes a test, the number that 6 and 24 give, and their hyperperiod, as far as each loop has
+-- come.
 -- Assumes nothing.
 use Prim.Native.Nat.{ℕ, _+_, _-_, _<_, _≤_, min}
-use mathlib.Core.Path.{_≡_, sym, ap, _∙_}
-use mathlib.Core.Bool.{true, false}
-use mathlib.Core.List.{_∷_}
+use mathlib.Core.Path.{_≡_, refl, sym, ap, ap₂, _∙_}
+use mathlib.Core.Bool.{Bool, true, false}
+use mathlib.Core.List.{[], _∷_}
+use mathlib.Core.Logic.{_⊎_, inl, inr, ⊎-elim}
 use native.Mathlib.Omega.{arith}
 use borrow.Author.Tests.{le-leb, lt-leb}
 use lib.Dec.{leb}
 use lib.ListN.{getD, drop}
-use Rattle.arith.specs.Choice.{every}
+use Rattle.arith.specs.Asking.{ask, firstNo}
+use Rattle.arith.specs.Choice.{pick, every}
 use Rattle.arith.specs.Divisor.{lcm}
 use Rattle.plan.specs.declared.Task.{Task}
 use Rattle.plan.specs.declared.Plan.{Plan}
 use Rattle.plan.specs.Levels.{hyperperiod}
 use Rattle.plan.specs.Blocks.{noTask, tasksOf}
-use Rattle.plan.specs.Questions.{inRange}
+use Rattle.plan.specs.Questions.{inRange, floorLoaded}
 use Rattle.arith.proofs.Loops.{rest-cons, rest-end, every-again, every-not, every-end}
-use Rattle.arith.proofs.Tests.{both-false}
+use Rattle.arith.proofs.Tests.{both-false, passed, failed, tested}
 use Rattle.plan.proofs.Held.{Held, Ranged, listed}
 use Rattle.plan.proofs.LevelLaws.{hyperperiod-drop, range-positive}
 
@@ -37,21 +40,21 @@ pub fixed-high :
 fixed-high t a b l h =
     simp (le-leb 1 (t .period) a, le-leb (t .period) 65535 b, le-leb 1 (t .worst) l, le-leb (t .worst) 1048575 h)
 
--- the loop that tests the ranges: the tasks before i are in range
-pub record Scanned (p : Plan) (i : ℕ) : Type 0 where
+-- a loop that puts a test to each task: those before i pass it
+pub record Scanned (test : Task → Bool) (p : Plan) (i : ℕ) : Type 0 where
   pub within : i ≤ p .count
-  pub rest : every inRange (drop i (tasksOf p)) ≡ every inRange (tasksOf p)
+  pub rest : every test (drop i (tasksOf p)) ≡ every test (tasksOf p)
 
-module _ {p : Plan} {i : ℕ} (held : Held p) (at : Scanned p i) where
-  pub scanned-more : i < p .count → inRange (getD (p .tasks) i noTask) ≡ true → Scanned p (i + 1)
+module _ {test : Task → Bool} {p : Plan} {i : ℕ} (held : Held p) (at : Scanned test p i) where
+  pub scanned-more : i < p .count → test (getD (p .tasks) i noTask) ≡ true → Scanned test p (i + 1)
   scanned-more h t =
-      record { within = omega arith; rest = every-again inRange (p .tasks) (p .count) noTask (listed held) i h (at .rest) t }
+      record { within = omega arith; rest = every-again test (p .tasks) (p .count) noTask (listed held) i h (at .rest) t }
 
-  pub scanned-not : i < p .count → inRange (getD (p .tasks) i noTask) ≡ false → false ≡ every inRange (tasksOf p)
-  scanned-not h t = every-not inRange (p .tasks) (p .count) noTask (listed held) i h (at .rest) t
+  pub scanned-not : i < p .count → test (getD (p .tasks) i noTask) ≡ false → false ≡ every test (tasksOf p)
+  scanned-not h t = every-not test (p .tasks) (p .count) noTask (listed held) i h (at .rest) t
 
-  pub scanned-all : p .count ≤ i → true ≡ every inRange (tasksOf p)
-  scanned-all h = every-end inRange (p .tasks) (p .count) noTask (listed held) i (omega arith) (at .rest)
+  pub scanned-all : p .count ≤ i → true ≡ every test (tasksOf p)
+  scanned-all h = every-end test (p .tasks) (p .count) noTask (listed held) i (omega arith) (at .rest)
 
 -- the loop that takes the periods in counts down: h is the hyperperiod of the tasks from i on
 pub record Spanned (p : Plan) (i h : ℕ) : Type 0 where
@@ -94,3 +97,43 @@ module _ {p : Plan} {i h m : ℕ} (w : Widened p i h m) where
   pub spanned-over : 1000000 < m → 1000001 ≡ min (hyperperiod (tasksOf p)) 1000001
   spanned-over lt =
       omega (arith, widened, hyperperiod-drop (tasksOf p) (range-positive (tasksOf p) (w .plan .ranges)) (i - 1))
+
+-- the walk that asks 6 and 24: the tasks before i are in range, and the number is 24 exactly if a floor among them is no level
+pub record Ranging (levels : ℕ) (p : Plan) (number i : ℕ) : Type 0 where
+  pub ranges : Scanned inRange p i
+  pub floors : ((number ≡ 0) × Scanned (floorLoaded levels) p i) ⊎ ((number ≡ 24) × (every (floorLoaded levels) (tasksOf p) ≡ false))
+
+module _ {levels : ℕ} {p : Plan} {number i : ℕ} (held : Held p) (at : Ranging levels p number i) where
+  -- the questions, by the replies to them
+  abbrev asked : Bool → Bool → ℕ
+  asked six floor = firstNo (ask 6 six ∷ ask 24 floor ∷ [])
+
+  abbrev task : Task
+  task = getD (p .tasks) i noTask
+
+  pub ranging-out : i < p .count → inRange task ≡ false → 6 ≡ asked (every inRange (tasksOf p)) (every (floorLoaded levels) (tasksOf p))
+  ranging-out h t =
+      ap (λ (b : Bool). asked b (every (floorLoaded levels) (tasksOf p))) (scanned-not held (at .ranges) h t)
+
+  module _ (h : i < p .count) (t : inRange task ≡ true) where
+    pub ranging-more : {n : ℕ} → n ≡ pick (floorLoaded levels task) number 24 → Ranging levels p n (i + 1)
+    ranging-more {n} e = record {
+      ranges = scanned-more held (at .ranges) h t;
+      floors =
+          elim (tested (floorLoaded levels task))
+          as (λ b _.
+          floorLoaded levels task ≡ b →
+          n ≡ pick b number 24 →
+          ((n ≡ 0) × Scanned (floorLoaded levels) p (i + 1)) ⊎ ((n ≡ 24) × (every (floorLoaded levels) (tasksOf p) ≡ false))) [
+            | passed ↦ λ yes same. ⊎-elim (λ s. inl (same ∙ s .0, scanned-more held (s .1) h yes)) (λ s. inr (same ∙ s .0, s .1)) (at .floors)
+            | failed ↦ λ none same. inr (same, ⊎-elim (λ s. sym (scanned-not held (s .1) h none)) (λ s. s .1) (at .floors))
+          ]
+          refl e;
+    }
+
+  pub ranging-all : p .count ≤ i → number ≡ asked (every inRange (tasksOf p)) (every (floorLoaded levels) (tasksOf p))
+  ranging-all h =
+      ⊎-elim
+      (λ s. s .0 ∙ ap₂ asked (scanned-all held (at .ranges) h) (scanned-all held (s .1) h))
+      (λ s. s .0 ∙ ap₂ asked (scanned-all held (at .ranges) h) (sym (s .1)))
+      (at .floors)

@@ -9,7 +9,7 @@ use Rattle.levels.specs.Code.{loaded}
 use Rattle.levels.proofs.Tables.{levels-are}
 use Rattle.urgency.proofs.HeadLaws.{Looked, Told, first-open, told-task}
 use Rattle.orders.proofs.lone.LoneLaws.{Read, next-short}
-use Rattle.orders.proofs.OrderLaws.{Picked, read-enough, chosen-none, chosen-small, chosen-some}
+use Rattle.orders.proofs.OrderLaws.{Picked, read-loaded, enough-higher, chosen-none, chosen-small, chosen-some}
 use Rattle.orders.proofs.chosen.Statement.{statement}
 use Rattle.orders.proofs.chosen.Tie as tie
 
@@ -64,19 +64,32 @@ read c = record {
   allowed-in = c .allowance-until .ensures .0;
 }
 
--- the highest level is one of the table's
-below : (c : tie.After-allowance-until) → start c .args .highest < start c .args .levels
-below c = omega (arith, start c .pre .1 .0 .level, levels-are (start c .pre .0 .0))
+-- the place from which the level is looked for
+abbrev allowed : tie.After-higher-of → tie.After-allowance-until
+allowed c = c .before .before
+
+-- the highest level that it may have is one of the table's
+below : (c : tie.After-higher-of) → c .higher-of .result < start (allowed c) .args .levels
+below c =
+    omega (
+      arith,
+      c .higher-of .ensures,
+      read-loaded (read (allowed c)) (c .before .floor-at .ensures) (start (allowed c) .pre .1 .0),
+      start (allowed c) .pre .1 .0 .level,
+      levels-are (start (allowed c) .pre .0 .0),
+    )
 
 picked :
     (c : tie.After-level-for) →
-    let a : tie.After-allowance-until = c .before in
+    let a : tie.After-allowance-until = allowed (c .before) in
     Picked (table (start a)) (block (start a)) (keys (start a)) (start a .args .count) (asked a .most-urgent .result)
-    (a .before .before .task-in .result) (a .before .rest-at .result) (start a .args .next) (a .allowance-until .result) (c .level-for .result)
+    (a .before .before .task-in .result) (a .before .rest-at .result) (start a .args .next) (a .allowance-until .result)
+    (c .before .before .floor-at .result) (c .level-for .result)
 picked c = record {
-  read = read (c .before);
+  read = read (allowed (c .before));
+  floor-in = c .before .before .floor-at .ensures;
   level-is = c .level-for .ensures .0;
-  low = omega (arith, below (c .before), c .level-for .ensures .1, start (c .before) .pre .0 .0 .few);
+  low = omega (arith, below (c .before), c .level-for .ensures .1, start (allowed (c .before)) .pre .0 .0 .few);
 }
 
 task-in-requires : tie.Need-task-in-requires
@@ -94,16 +107,27 @@ allowance-until-requires c κs =
       omega (arith, next-short (table s) (block s) (k .looked .keyed) (omega (arith, first-open k .below)) (s .pre .1 .1 .1)),
     )
 
+floor-at-requires : tie.Need-floor-at-requires
+floor-at-requires c κs = search needs
+
+higher-of-requires : tie.Need-higher-of-requires
+higher-of-requires c κs = search needs
+
 level-for-requires : tie.Need-level-for-requires
-level-for-requires c κs = ((start c .pre .0 .0, c .allowance-until .ensures .1, below c), read-enough (read c) (start c .pre .1 .0))
+level-for-requires c κs =
+    let a : tie.After-allowance-until = allowed c in (
+      (start a .pre .0 .0, a .allowance-until .ensures .1, omega (arith, c .higher-of .ensures), below c),
+      enough-higher (read a) (start a .pre .0 .0 .rising) (start a .pre .1 .0) (c .higher-of .result) (omega (arith, c .higher-of .ensures))
+          (omega (arith, below c, levels-are (start a .pre .0 .0))),
+    )
 
 running-order-requires : tie.Need-running-order-requires
 running-order-requires c κs =
-    let a : tie.After-allowance-until = c .before in
+    let a : tie.After-allowance-until = allowed (c .before) in
     let rest = a .before .rest-at .ensures in (
       start a .pre .0 .0,
       told-task (picked c .read .told),
-      omega (arith, below a, c .level-for .ensures .1),
+      omega (arith, below (c .before), c .level-for .ensures .1),
       omega (arith, rest .2),
       omega (arith, rest .1),
     )
@@ -123,6 +147,8 @@ chosen-spec =
     task-in-requires
     rest-at-requires
     allowance-until-requires
+    floor-at-requires
+    higher-of-requires
     level-for-requires
     running-order-requires
     returns-2)

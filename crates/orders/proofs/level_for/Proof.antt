@@ -5,16 +5,20 @@ use native.Mathlib.Omega.{arith}
 use Rattle.levels.specs.Code.{loaded}
 use Rattle.levels.proofs.Tables.{levels-are, speed-positive, speed-most}
 use Rattle.reclaiming.specs.Orders.{lowestLevel}
-use Rattle.orders.proofs.OrderLaws.{Tried, level-most, level-high, level-low}
+use Rattle.reclaiming.proofs.Lowest.{lowest-le}
+use Rattle.orders.proofs.OrderLaws.{Tried, level-high, level-low}
 use Rattle.orders.proofs.level_for.Statement.{statement}
 use Rattle.orders.proofs.level_for.Tie as tie
 
 abbrev Inv-loop : tie.InvT-loop
-Inv-loop speeds levels rest allowed highest low₀ high₀ low high =
-    (low ≤ lowestLevel (loaded speeds levels) rest allowed) × (lowestLevel (loaded speeds levels) rest allowed ≤ high) × (high ≤ highest)
+Inv-loop speeds levels rest allowed floor highest low₀ high₀ low high =
+    (floor ≤ low)
+    × (low ≤ lowestLevel (loaded speeds levels) floor rest allowed)
+    × (lowestLevel (loaded speeds levels) floor rest allowed ≤ high)
+    × (high ≤ highest)
 
 abbrev μ-loop : tie.MeasureT-loop
-μ-loop speeds levels rest allowed highest low₀ high₀ low high = high - low
+μ-loop speeds levels rest allowed floor highest low₀ high₀ low high = high - low
 
 -- the level that a turn tries
 abbrev middle : tie.In-loop Inv-loop μ-loop → ℕ
@@ -26,22 +30,27 @@ turn c = c .before .before
 tried :
     (c : tie.After-is-enough Inv-loop μ-loop) →
     let s : tie.Start Inv-loop μ-loop = turn c .before .before in
-    Tried (s .args .speeds .now) (s .args .levels) (s .args .rest) (s .args .allowed) (middle (turn c)) (c .is-enough .result)
-tried c = record { table = turn c .before .before .pre .0 .0; low = omega arith; found-is = c .is-enough .ensures }
+    Tried (s .args .speeds .now) (s .args .levels) (s .args .rest) (s .args .allowed) (s .args .floor) (middle (turn c)) (c .is-enough .result)
+tried c = record { table = turn c .before .before .pre .0 .0; above = omega arith; low = omega arith; found-is = c .is-enough .ensures }
 
 loop-holds : tie.Need-loop-holds Inv-loop μ-loop
 loop-holds c = (
   omega arith,
-  level-most (loaded (c .args .speeds .now) (c .args .levels)) (c .args .rest) (c .args .allowed) (c .args .highest)
-      (omega (arith, c .pre .0 .2, levels-are (c .pre .0 .0))) (c .pre .1),
+  omega arith,
+  lowest-le (loaded (c .args .speeds .now) (c .args .levels)) (c .args .floor) (c .args .rest) (c .args .allowed) (c .args .highest) (c .pre .0 .2)
+      (omega (arith, c .pre .0 .3, levels-are (c .pre .0 .0))) (c .pre .1),
   omega arith,
 )
 
 loop-again : tie.Need-loop-again Inv-loop μ-loop
-loop-again c = (turn (c .before) .before .loop .inv .0, level-high (tried (c .before)) (c .if1 .taken), omega arith)
+loop-again c =
+    let now = turn (c .before) .before .loop .inv in
+    (now .0, now .1, level-high (tried (c .before)) (c .if1 .taken), omega arith)
 
 loop-again-2 : tie.Need-loop-again-2 Inv-loop μ-loop
-loop-again-2 c = (level-low (tried (c .before)) (c .if1 .left), turn (c .before) .before .loop .inv .1, turn (c .before) .before .loop .inv .2)
+loop-again-2 c =
+    let now = turn (c .before) .before .loop .inv in
+    (omega arith, level-low (tried (c .before)) (c .if1 .left), now .2, now .3)
 
 returns : tie.Need-returns Inv-loop μ-loop
 returns c = (omega arith, omega arith)

@@ -15,7 +15,7 @@ use Rattle.plan.specs.Times.{timeOf}
 use Rattle.plan.specs.Levels.{Rising, speedOf, nominal}
 use Rattle.plan.specs.Blocks.{noTask}
 use Rattle.arith.specs.Asking.{firstNo}
-use Rattle.plan.proofs.Facts.{FineList}
+use Rattle.plan.proofs.Facts.{FineList, floor-at}
 use Rattle.schedule.specs.PlainSchedule.{Timing}
 use Rattle.reclaiming.specs.declared.Entry.{Entry}
 use Rattle.orders.specs.declared.Choice.{Choice}
@@ -33,7 +33,7 @@ use Rattle.urgency.specs.Code.{keyOf, noKey, dueAt, Keyed}
 use Rattle.orders.specs.Code.{choiceOf, chosenIn, chosenReply, holdBy, orderOf, Enough}
 use Rattle.soundness.specs.Code.{Good}
 use Rattle.ticks.specs.Code.{Stepping, renewedKeys}
-use Rattle.reclaiming.proofs.Fine.{FineEntries, Accepted}
+use Rattle.reclaiming.proofs.Fine.{FineEntries, fine-floor, Accepted}
 use Rattle.reclaiming.proofs.StateCodec.{Storable, StorableTable, decode-encode, length-encode}
 use Rattle.reclaiming.proofs.Soundness.{planIn-at, length-planIn, pass-accepted, entries-storable, total-storable, fine-small, sound-state}
 use Rattle.reclaiming.proofs.NextArrival.{next-arrives, before-next, next-on}
@@ -86,7 +86,7 @@ module _ {speeds bytes : List ℕ} {next d : ℕ} (k : Reaching speeds bytes nex
 -- a pass from a sound state that the questions let through
 pub record Letting (speeds : List ℕ) (s : State) (d : ℕ) (finished : Bool) : Type 0 where
   pub rising : Rising speeds
-  pub few : length speeds ≤ 256
+  pub few : length speeds ≤ 16
   pub stored : StorableTable (s .speeds)
   pub ok : stateSound speeds s ≡ true
   pub clear : firstNo (passQuestions speeds (timing speeds (planIn s)) (viewOf s) d finished) ≡ 0
@@ -122,15 +122,21 @@ module _ {speeds : List ℕ} {s : State} {d : ℕ} {finished : Bool} (k : Lettin
         task = old .0;
         level = old .1;
         count = omega (arith, moved-count, entries-few speeds (k .rising) s (k .ok));
-        entries = entries-storable speeds (planIn s) moved plan (k .rising) moved-facts;
+        entries = entries-storable speeds (planIn s) moved plan (k .rising) (k .few) moved-facts;
         table = k .stored;
-        total = total-storable speeds (planIn s) moved plan (k .rising) moved-facts;
+        total = total-storable speeds (planIn s) moved plan (k .rising) (k .few) moved-facts;
       }
 
   -- where an order is chosen anew, every job can be done in its ticks at the nominal level
   moved-enough : choosesAnew τ (viewOf s) d finished ≡ true → {highest : ℕ} → highest ≡ nominal speeds (planIn s) → Enough speeds moved highest
   moved-enough anew e = record {
     level = omega (arith, nominal-small speeds (k .rising) s (k .ok));
+    floors = λ i h.
+        omega (
+          arith,
+          fine-floor moved-facts i,
+          floor-at (length speeds) (planIn s) i (plan .tasks .floors) (omega (arith, moved-count, length-planIn s)),
+        );
     each = λ i h.
         subst (λ (level : ℕ). timeOf (speedOf speeds level) (restOf moved i) ≤ remainingOf moved i) (sym e)
         (anew-ahead speeds (k .rising) (planIn s) plan s (sound-facts speeds (k .rising) s (k .ok)) d finished lets anew i
@@ -151,7 +157,7 @@ module _ {speeds : List ℕ} {s : State} {d : ℕ} {finished : Bool} (k : Lettin
 -- a pass from a sound block that the questions let through, with the order that stands and the next arrival
 pub record Passing (speeds bytes keys : List ℕ) (highest next d : ℕ) (finished : Bool) (c : Choice) : Type 0 where
   pub rising : Rising speeds
-  pub few : length speeds ≤ 256
+  pub few : length speeds ≤ 16
   pub stored : StorableTable (decode bytes .speeds)
   pub good : Good speeds bytes keys highest
   pub order : c ≡ choiceOf speeds (decode bytes)

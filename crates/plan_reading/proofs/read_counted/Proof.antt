@@ -5,7 +5,6 @@ use mathlib.Core.Path.{_≡_, ap, subst}
 use mathlib.Core.List.{List}
 use native.Mathlib.Omega.{arith}
 use borrow.Author.Needs.{needs}
-use borrow.Author.Tests.{not-true, not-false}
 use lib.ListN.{length, drop}
 use Rattle.arith.specs.Digits.{number}
 use Rattle.arith.specs.Bits.{unpacked}
@@ -13,7 +12,7 @@ use Rattle.plan.specs.declared.Plan.{Plan}
 use Rattle.plan.specs.Blocks.{bitCount}
 use Rattle.plan.proofs.BlockBits.{bitCount-most, blockLength-most, blockLength-least, blockLength-covers, blockLength-tight, length-tasksFrom}
 use Rattle.levels.specs.Code.{loaded}
-use Rattle.plan_reading.proofs.ReadLaws.{Closing, Planned, read-closing, read-spares, read-misnamed, read-tasks}
+use Rattle.plan_reading.proofs.ReadLaws.{Closing, Planned, read-closing, read-misnamed, read-tasks}
 use Rattle.plan_reading.proofs.read_counted.Statement.{statement}
 use Rattle.plan_reading.proofs.read_counted.Tie as tie
 
@@ -59,20 +58,12 @@ closing c =
 
 -- the plan is read
 abbrev read : tie.After-plan-in → tie.After-bits-at
-read c = c .before .before .before .before
+read c = c .before .before
 
 planned :
     (c : tie.After-plan-in) →
-    Planned (block (read c .before)) (start (read c .before) .args .edition) (start (read c .before) .args .count) (read c .bits-at .result) (c .before .before .spares-clear .result) (c .plan-in .result)
-planned c =
-    let clear = c .before .before in
-    record {
-      closes = closing (read c);
-      closed = clear .before .if1 .left;
-      spared = clear .spares-clear .ensures;
-      spare = not-false _ (c .before .if2 .left);
-      plan = c .plan-in .ensures;
-    }
+    Planned (block (read c .before)) (start (read c .before) .args .edition) (start (read c .before) .args .count) (read c .bits-at .result) (c .plan-in .result)
+planned c = record { closes = closing (read c); closed = c .before .if1 .left; plan = c .plan-in .ensures }
 
 -- it has no more than 16 tasks
 few : (c : tie.After-plan-in) → c .plan-in .result .count ≤ 16
@@ -116,23 +107,9 @@ returns c =
     let read = c .before .before in
     read-closing (speeds read) (closing read) (c .refused .ensures) (λ e. omega (arith, c .before .if1 .taken, e))
 
-spares-clear-requires : tie.Need-spares-clear-requires
-spares-clear-requires c κs =
-    let s = start (c .before .before) in
-    (s .pre .1 .1 .1, covered s)
-
-refused-requires-2 : tie.Need-refused-requires-2
-refused-requires-2 c κs = search needs
-
-returns-2 : tie.Need-returns-2
-returns-2 c =
-    let clear = c .before .before in
-    let read = clear .before .before in
-    read-spares (speeds read) (closing read) (clear .spares-clear .ensures) (c .refused2 .ensures) (not-true _ (c .before .if2 .taken))
-
 plan-in-requires : tie.Need-plan-in-requires
 plan-in-requires c κs =
-    let s = start (c .before .before .before .before) in
+    let s = start (c .before .before) in
     (s .pre .1 .1 .1, covered s)
 
 edition-of-requires : tie.Need-edition-of-requires
@@ -141,25 +118,25 @@ edition-of-requires c κs = few c
 misnamed-requires : tie.Need-misnamed-requires
 misnamed-requires c κs = few (c .before .before)
 
-refused-requires-3 : tie.Need-refused-requires-3
-refused-requires-3 c κs = search needs
+refused-requires-2 : tie.Need-refused-requires-2
+refused-requires-2 c κs = search needs
 
-returns-3 : tie.Need-returns-3
-returns-3 c =
+returns-2 : tie.Need-returns-2
+returns-2 c =
     let other = c .before .before in
     let plan = other .before .before in
-    read-misnamed (speeds (read plan)) (planned plan) (other .before .edition-of .ensures) (λ e. omega (arith, other .if3 .taken, e)) (c .before .misnamed .ensures) (c .refused3 .ensures)
+    read-misnamed (speeds (read plan)) (planned plan) (other .before .edition-of .ensures) (λ e. omega (arith, other .if2 .taken, e)) (c .before .misnamed .ensures) (c .refused2 .ensures)
 
 judged-with-requires : tie.Need-judged-with-requires
 judged-with-requires c κs =
     let plan = c .before .before in
     (few plan, start (read plan .before) .pre .0)
 
-returns-4 : tie.Need-returns-4
-returns-4 c =
+returns-3 : tie.Need-returns-3
+returns-3 c =
     let same = c .before in
     let plan = same .before .before in
-    read-tasks (speeds (read plan)) (planned plan) (same .before .edition-of .ensures) (same .if3 .left) (c .judged-with .ensures)
+    read-tasks (speeds (read plan)) (planned plan) (same .before .edition-of .ensures) (same .if2 .left) (c .judged-with .ensures)
 
 pub read-counted-spec : {M : Type 1} → statement M
 read-counted-spec =
@@ -171,13 +148,10 @@ read-counted-spec =
     bits-at-requires
     refused-requires
     returns
-    spares-clear-requires
-    refused-requires-2
-    returns-2
     plan-in-requires
     edition-of-requires
     misnamed-requires
-    refused-requires-3
-    returns-3
+    refused-requires-2
+    returns-2
     judged-with-requires
-    returns-4)
+    returns-3)

@@ -14,7 +14,7 @@ use Rattle.plan.specs.declared.Plan.{Plan}
 use Rattle.plan.specs.Blocks.{taskWidth, bitCount, planBits, editionOf, planBlock, blockLength, tasksOf, noTask}
 use Rattle.plan.specs.Answers.{storedBy}
 use Rattle.plan.proofs.Held.{Held, count-is}
-use Rattle.plan.proofs.BlockBits.{planBits-edition, planBits-count, planBits-period, planBits-worst, planBits-fixed, planBits-spare, planBits-past}
+use Rattle.plan.proofs.BlockBits.{planBits-edition, planBits-count, planBits-period, planBits-worst, planBits-fixed, planBits-floor, planBits-past}
 use Rattle.plan.proofs.BlockBits.{width-least, bitCount-mono, length-planBlock, planBlock-at}
 
 -- the length of a plan's block, and the block's byte j
@@ -91,8 +91,11 @@ module _ {p : Plan} {edition k i r : ℕ} (b : AtTask p edition k i r) where
           ∙ sym (ap (λ (t : Task). t .fixed / 2 ^ (43 - r) % 2) here)
           ∙ sym (planBits-fixed edition (tasksOf p) k i r (b .place) inside low high within)
 
-      pub bit-spare : 44 ≤ r → 0 ≡ getD (planBits edition (tasksOf p)) k 0
-      bit-spare low = sym (planBits-spare edition (tasksOf p) k i r (b .place) inside low within)
+      pub bit-floor : {x : ℕ} → 44 ≤ r → x ≡ getD (p .tasks) i noTask .floor / 2 ^ (46 - r) % 2 → x ≡ getD (planBits edition (tasksOf p)) k 0
+      bit-floor low e =
+          e
+          ∙ sym (ap (λ (t : Task). t .floor / 2 ^ (46 - r) % 2) here)
+          ∙ sym (planBits-floor edition (tasksOf p) k i r (b .place) inside low within)
 
 -- bytes stored from the front, one a turn
 pub record Stored (bytes buffer m : List ℕ) (j : ℕ) : Type 0 where

@@ -10,7 +10,7 @@ use Rattle.levels.specs.Code.{loaded}
 use Rattle.reclaiming.specs.StateBlock.{decode}
 use Rattle.reclaiming.specs.Orders.{nextArrival}
 use Rattle.state.specs.Code.{timingIn}
-use Rattle.soundness.proofs.SoundLaws.{Admitted, Entered, level-low, admitted-speed, admitted-periods, admitted-keyed, admitted-next, admitted-arrival}
+use Rattle.soundness.proofs.SoundLaws.{Admitted, Entered, level-low, admitted-speed, admitted-floors, admitted-periods, admitted-keyed, admitted-next, admitted-arrival}
 use Rattle.soundness.proofs.SoundLaws.{admitted-entries, admitted-order, admitted-runnable, behind-runs, admitted-pace, admitted-sound}
 use Rattle.soundness.proofs.test_admitted.Statement.{statement}
 use Rattle.soundness.proofs.test_admitted.Tie as tie
@@ -100,7 +100,7 @@ order-sound-requires : tie.Need-order-sound-requires
 order-sound-requires c κs =
     let keys : tie.After-keys-of = keyed (c .before) in
     let k = known (start (well (keys .before))) in
-    ((k .table, k .holds, k .same, level-low k), (admitted-keyed k (keys .keys-of .ensures), arrival (c .before)))
+    ((k .table, k .holds, k .same, level-low k), (admitted-keyed k (keys .keys-of .ensures), (arrival (c .before), admitted-floors k)))
 
 not-sound-requires-2 : tie.Need-not-sound-requires-2
 not-sound-requires-2 c κs = search needs

@@ -1,13 +1,16 @@
 -- `started` meets its contract: the new image, its keys, and the order chosen in it, stored.
 -- Assumes nothing.
 use Prim.Native.Nat.{ℕ, _<_}
-use mathlib.Core.Path.{_≡_, sym}
+use mathlib.Core.Path.{_≡_, sym, subst}
+use mathlib.Core.Bool.{true}
 use mathlib.Core.List.{List}
 use native.Mathlib.Omega.{arith}
 use borrow.Author.Needs.{needs}
 use lib.ListN.{length}
+use Rattle.arith.specs.Choice.{every}
 use Rattle.arith.proofs.Loops.{length-mapped}
 use Rattle.plan.specs.Blocks.{tasksOf}
+use Rattle.plan.specs.Questions.{floorLoaded}
 use Rattle.levels.specs.Code.{loaded}
 use Rattle.state.proofs.tables.TableLaws.{table-stored}
 use Rattle.levels.proofs.Tables.{levels-are, speed-is, speed-positive, speed-most}
@@ -63,10 +66,12 @@ fresh-requires c κs =
     let k = accepted s in (
       (s .pre .0 .0 .few, s .pre .0 .1),
       (
-        k .plan .held .most,
-        k .plan .ranges,
-        speed-positive (s .pre .0 .0) (s .args .highest) (below s),
-        speed-most (s .pre .0 .0) (s .args .highest) (below s),
+        (
+          k .plan .held .most,
+          k .plan .ranges,
+          subst (λ (n : ℕ). every (floorLoaded n) (tasksOf (s .args .p)) ≡ true) (levels-are (s .pre .0 .0)) (k .good .tasks .floors),
+        ),
+        (speed-positive (s .pre .0 .0) (s .args .highest) (below s), speed-most (s .pre .0 .0) (s .args .highest) (below s)),
       ),
     )
 

@@ -19,10 +19,10 @@ use Rattle.arith.specs.Digits.{number, digits}
 use Rattle.arith.proofs.Tests.{same-test, both-yes}
 use Rattle.arith.proofs.DigitLaws.{length-digits, number-digits, digits-number}
 use Rattle.reclaiming.specs.Fields.{Field, field, zeros, fieldsBytes, fieldsLength, offsetOf, readField}
-use Rattle.reclaiming.specs.StateBlock.{State, headFields, zeroField, entryFields, tailFields, endFields, places, headLength, entryLength, tailAt, stateLength}
+use Rattle.reclaiming.specs.StateBlock.{State, headFields, zeroField, entryFields, periodField, worstField, tailFields, endFields, places, headLength, entryLength, tailAt, stateLength}
 use Rattle.reclaiming.specs.StateBlock.{levelPlaces, speedField, speedIn, entryBytes, entriesBytes, tailBytes, encode, entryFrom, entriesFrom, stateCount, decode, sameBytes, laidOut}
 use Rattle.state.specs.Code.{entryAt, unusedZero}
-use Rattle.reclaiming.proofs.StateCodec.{pastHead, speed-back, length-entriesFrom, same-bytes, bytes-same}
+use Rattle.reclaiming.proofs.StateCodec.{both-parts, pastHead, speed-back, length-entriesFrom, same-bytes, bytes-same}
 use Rattle.state.proofs.TailLaws.{levels-in, speed-small, speeds-same, same-unused}
 use Rattle.state.proofs.BlockLaws.{count-in, byte-field, bytes-past}
 
@@ -172,6 +172,11 @@ module _ {X : Type 0} (x : X) (l rest : List ℕ) (small : (k : ℕ) → getD l 
       (same-fields fs (at + n) (omega arith) e ∙ ap (λ (k : ℕ). both (zerosIn fs (at + n) l) (sameBytes rest (drop k l))) z)
       ∙ both-assoc zero-here (zerosIn fs (at + n) l) (sameBytes rest (drop (at + (n + fieldsLength fs)) l))
 
+-- the numbers of an entry that is read off bytes are those that stand there
+entry-numbers : (l : List ℕ) → numbersOf entryFields (entryFrom l) ≡ numbersAt entryFields 0 l
+entry-numbers l =
+    ap (λ (n : ℕ). readField entryFields periodField l ∷ n ∷ drop 2 (numbersAt entryFields 0 l)) (both-parts (readField entryFields worstField l))
+
 -- n entries, then m zero bytes, then others
 same-entries :
     (n m : ℕ) (l rest : List ℕ) →
@@ -189,7 +194,7 @@ same-entries (suc n) m l rest h b =
     let p : entryLength + entryLength * n ≡ entryLength * suc n = omega arith in
     let q : entryLength + (entryLength * n + m) ≡ entryLength * suc n + m = omega arith in
     ap (λ (y : List ℕ). sameBytes y l) (append-assoc (entryBytes (entryFrom l)) (entriesBytes (entriesFrom n d)) (replicate m 0 ++ rest))
-    ∙ same-fields (entryFrom l) l after b entryFields 0 (omega arith) refl
+    ∙ same-fields (entryFrom l) l after b entryFields 0 (omega arith) (entry-numbers l)
     ∙ same-entries n m d rest (omega (arith, length-drop entryLength l)) (bytes-past entryLength l b)
     ∙ ap₂ (λ (x y : List ℕ). both (every (eqb 0) (take m x)) (sameBytes rest y))
     (drop-drop (entryLength * n) entryLength l ∙ ap (λ (k : ℕ). drop k l) p)

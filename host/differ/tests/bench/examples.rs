@@ -10,8 +10,8 @@ use std::process::Command;
 
 /// The refusals that the bench program can come to. Not 9 and 10: the buffer and the state are its
 /// own. Not 15: 32,764 passes of at most 32,767 ticks come to 1,073,577,988.
-const REFUSALS: [u32; 18] = [
-    1, 2, 3, 4, 5, 6, 7, 8, 11, 12, 13, 14, 16, 17, 18, 19, 20, 21,
+const REFUSALS: [u32; 19] = [
+    1, 2, 3, 4, 5, 6, 7, 8, 11, 12, 13, 14, 16, 17, 18, 19, 20, 21, 24,
 ];
 
 /// The digests of the examples that were stored before there were fixed ticks, as `sha256sum *.in
@@ -43,7 +43,7 @@ fn every_example_lists_as_stored() {
         assert_eq!(&text(&from_file(input)), listed, "{}", input.display());
     }
     println!("{} examples", stored.len());
-    assert!(stored.len() >= 32);
+    assert!(stored.len() >= 35);
 }
 
 /// The names in the file of digests: a digest of 64 digits, two spaces and a name on each line.
@@ -115,6 +115,30 @@ fn fixed_ticks_are_stored() {
     assert_eq!(read_plan(&levels, &needless[11..]).err(), Some(21));
 }
 
+/// Would catch the examples of 02's No. 8 being lost: floors below nominal, at it and above it, with fixed
+/// ticks beside them and alone; and one that the levels don't have.
+#[test]
+fn floors_are_stored() {
+    let stored = |name: &str| fs::read(examples().join(name)).expect("it is stored");
+    let levels = write_levels(&Levels::base());
+    for (name, fixed) in [("floors", [0, 2, 0]), ("floors-alone", [0, 0, 0])] {
+        let input = stored(&format!("{name}.in"));
+        assert_eq!(input[11] >> 4, 2);
+        let (tasks, judged) = read_plan(&levels, &input[11..30]).unwrap();
+        let floors: Vec<u64> = tasks.iter().map(|task| task.floor).collect();
+        assert_eq!((floors, judged.nominal), (vec![3, 4, 6], 4));
+        assert!(tasks.iter().map(|task| task.fixed).eq(fixed));
+        // At 4 the gait runs above nominal, and at 10 the valve at its floor.
+        let listed = text(&stored(&format!("{name}.out")));
+        assert!(listed.contains("\n4 run 2 6 4\n"), "{listed}");
+        assert!(listed.contains("\n10 run 0 3 5\n"), "{listed}");
+    }
+    let past = stored("refused-24.in");
+    assert_eq!(past[0] >> 4, 3);
+    assert_eq!(read_plan(&past[..5], &past[5..24]).err(), Some(24));
+    assert_eq!(text(&stored("refused-24.out")), "refused 24\n");
+}
+
 /// Would catch the example of 02's No. 4 being lost: a lone job that is open past its plain finish after
 /// an accepted pass and after a refused one, and finishes with the arrival.
 #[test]
@@ -163,6 +187,7 @@ fn the_example_of_01_is_stored() {
         period,
         worst,
         fixed: 0,
+        floor: 0,
     });
     assert_eq!(read_plan(&levels, &input[11..26]).unwrap().0, tasks);
     assert_eq!(input[26..], passes);

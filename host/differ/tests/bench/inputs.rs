@@ -58,6 +58,7 @@ fn one_task_with(period: u64, worst: u64, fixed: u64) -> Vec<Task> {
         period,
         worst,
         fixed,
+        floor: 0,
     }]
 }
 
@@ -68,20 +69,61 @@ fn input_of_length(random: &mut Random, levels: &Levels, tasks: &[Task], length:
     input
 }
 
+/// How many plans had fixed ticks, floors, and floors alone; and how many lines ran a task at a level above
+/// nominal.
+#[derive(Default, Debug)]
+struct Had {
+    fixed: u32,
+    floors: u32,
+    floors_alone: u32,
+    above_nominal: u32,
+}
+
+impl Had {
+    fn note(&mut self, plan: &[Task], listed: &str) {
+        let fixed = plan.iter().any(|task| task.fixed > 0);
+        let floors = plan.iter().any(|task| task.floor > 0);
+        self.fixed += u32::from(fixed);
+        self.floors += u32::from(floors);
+        self.floors_alone += u32::from(floors && !fixed);
+        let mut nominal = None;
+        for line in listed.lines() {
+            let words: Vec<&str> = line.split(' ').collect();
+            match words[..] {
+                ["plan", _, level, _] => nominal = level.parse::<u32>().ok(),
+                [_, "run", _, level, _] => {
+                    self.above_nominal += u32::from(level.parse().ok() > nominal);
+                }
+                _ => {}
+            }
+        }
+    }
+
+    /// Of 800 plans.
+    #[track_caller]
+    fn wants_of_800(&self) {
+        let half = 200..600;
+        assert!(half.contains(&self.fixed), "{self:?}");
+        assert!(half.contains(&self.floors), "{self:?}");
+        assert!(self.floors_alone > 100, "{self:?}");
+        assert!(self.above_nominal > 1_000, "{self:?}");
+    }
+}
+
 /// A run of a plan that a level of the table admits, with up to 120 passes.
-/// Says whether the plan has fixed ticks.
 fn one_run(
     both: &mut Both,
     random: &mut Random,
     levels: &Levels,
     level: usize,
     round: usize,
-) -> bool {
+    had: &mut Had,
+) {
     let plan = some_plan(random, levels, level, round);
     let passes = random.between(0, 120) as usize;
     let listed = both.list(&bench_input(random, levels, &plan, passes));
     assert!(listed.lines().count() >= 2 + passes);
-    Edition::of_tasks(&plan) == Edition::SECOND
+    had.note(&plan, &listed);
 }
 
 /// Lines of every kind came up, and often.
@@ -103,15 +145,14 @@ fn runs_at_every_level() {
     let levels = Levels::base();
     let mut both = Both::new();
     let mut random = Random::new(2_101);
-    let mut with_fixed = 0;
+    let mut had = Had::default();
     for round in 0..800 {
         let level = round % levels.count();
-        let fixed = one_run(&mut both, &mut random, &levels, level, round);
-        with_fixed += u32::from(fixed);
+        one_run(&mut both, &mut random, &levels, level, round, &mut had);
     }
     both.saw("runs at every level", 800);
     saw_every_line(&both);
-    assert!((200..600).contains(&with_fixed), "{with_fixed}");
+    had.wants_of_800();
 }
 
 /// The same with the speeds of other boards: would catch a program that has 01's for all, or cuts the
@@ -120,16 +161,15 @@ fn runs_at_every_level() {
 fn runs_with_any_table() {
     let mut both = Both::new();
     let mut random = Random::new(2_107);
-    let mut with_fixed = 0;
+    let mut had = Had::default();
     for round in 0..800 {
         let levels = levels_of_count(&mut random, 1 + round % 8);
         let level = random.place(levels.count());
-        let fixed = one_run(&mut both, &mut random, &levels, level, round);
-        with_fixed += u32::from(fixed);
+        one_run(&mut both, &mut random, &levels, level, round, &mut had);
     }
     both.saw("runs with any table", 800);
     saw_every_line(&both);
-    assert!((200..600).contains(&with_fixed), "{with_fixed}");
+    had.wants_of_800();
 }
 
 /// Would catch a plan block that is cut by its count alone: with edition 2 the passes follow later,
@@ -143,12 +183,14 @@ fn plans_are_cut_by_their_edition() {
     for round in 0..320 {
         let edition = Edition(round % 16);
         let count = 1 + round / 16 % 16;
-        let fixed = if round % 3 == 0 { 0 } else { 255 / (count + 1) };
+        // Neither, fixed ticks, or a floor.
         let task = Task {
             period: 4_000,
             worst: 37,
-            fixed,
+            fixed: if round % 3 == 1 { 255 / (count + 1) } else { 0 },
+            floor: if round % 3 == 2 { count % 8 } else { 0 },
         };
+        let has_addition = task.has_addition();
         let mut input = write_levels(&levels);
         input.extend(pack_block(edition, count, &vec![task; count as usize]));
         let blocks = input.len();
@@ -162,8 +204,8 @@ fn plans_are_cut_by_their_edition() {
         }
         let passes = input.len() - blocks;
         let listed = both.list(&input);
-        let (count, fixed) = (listed.lines().count(), fixed > 0);
-        match (edition, fixed) {
+        let count = listed.lines().count();
+        match (edition, has_addition) {
             (Edition::SECOND, false) => assert_eq!(listed, "refused 21\n"),
             (Edition::FIRST, _) | (Edition::SECOND, true) => {
                 accepted[usize::from(edition == Edition::SECOND)] += 1;
@@ -219,6 +261,7 @@ fn runs_inside_the_fixed_ticks() {
             period: period / (1 + place * (round % 3)),
             worst: random.between(1, 20),
             fixed: random.between(20, 35),
+            floor: random.pick(&[0, levels.top() as u64]),
         };
         let plan: Vec<Task> = (0..count).map(task).collect();
         let input = bench_input(&mut random, &levels, &plan, 60);
@@ -247,7 +290,7 @@ fn every_cut() {
         let mut longest = plan_at_level(&mut random, &levels, 3);
         // With fixed ticks in the first task, if any, so that each part of it has some.
         while longest.len() < 16
-            || Edition::of_tasks(&longest[..1]) != Edition::of_tasks(&longest)
+            || (longest[0].fixed > 0) != (edition == Edition::SECOND)
             || Edition::of_tasks(&longest) != edition
         {
             longest = plan_at_level(&mut random, &levels, 3);
@@ -274,27 +317,33 @@ fn cuts_of(both: &mut Both, random: &mut Random, longest: &[Task]) {
             _ => &[5, 7, 9, 20, 44, 90, 313],
         };
         let board = Levels::new(&[below, &[fastest]].concat());
-        let input = bench_input(random, &board, &longest[..count], 6);
+        // Floors that the board has; one of a single level has none.
+        let mut plan = longest[..count].to_vec();
+        for task in &mut plan {
+            task.floor %= board.count() as u64;
+        }
+        let input = bench_input(random, &board, &plan, 6);
         for length in 0..=input.len() {
             both.list(&input[..length]);
         }
     }
 }
 
-/// Would catch a bit of the input that is not looked at or is taken for another, in 01's example
-/// and in one with fixed ticks.
+/// Would catch a bit of the input that is not looked at or is taken for another, in 01's example, in one
+/// with fixed ticks and in one with floors as well.
 #[test]
 fn every_flipped_bit() {
     let mut both = Both::new();
-    let fixed = fs::read(examples().join("fixed-ticks.in")).expect("it is stored");
-    for mut input in [EXAMPLE.to_vec(), fixed] {
+    let stored = |name: &str| fs::read(examples().join(name)).expect("it is stored");
+    let [fixed, floors] = ["fixed-ticks.in", "floors.in"].map(stored);
+    for mut input in [EXAMPLE.to_vec(), fixed, floors] {
         for place in 0..8 * input.len() {
             input[place / 8] ^= 0x80 >> (place % 8);
             both.list(&input);
             input[place / 8] ^= 0x80 >> (place % 8);
         }
     }
-    both.saw("flipped bits", 700);
+    both.saw("flipped bits", 1_200);
     for said in ["plan", "run", "idle"] {
         both.wants(said, 100);
     }
@@ -316,7 +365,7 @@ fn damaged_plans() {
         let plan = match round % 5 {
             0 => plan_one_over(&mut random, &levels, level),
             1 => plan_at_largest_hyperperiod(&mut random, &levels),
-            2 => plan_above_largest_hyperperiod(&mut random),
+            2 => plan_above_largest_hyperperiod(&mut random, &levels),
             3 => edge_list(&mut random, &levels),
             _ => plan_at_level(&mut random, &levels, level),
         };
@@ -336,6 +385,7 @@ fn damaged_plans() {
         both.wants(&format!("refused {number}"), 25);
     }
     both.wants("refused 21", 10);
+    both.wants("refused 24", 20);
     both.wants("plan", 200);
 }
 

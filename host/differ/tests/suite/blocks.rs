@@ -1,13 +1,14 @@
 //! Blocks, whole and damaged, read and copied on both sides. Each test has blocks of both editions.
 
 use crate::both::{Both, Call, Kind, ACCEPTED};
-use crate::made::{fixed_tasks, plan_of_edition, put_block, tasks};
+use crate::made::{floor_tasks, plan_with, put_block, tasks, Additions};
 use sim::block::{
-    block_bytes, pack_block, Edition, COUNT_BITS, EDITION_BITS, FIXED_BITS, HEAD_BITS, SPARE_BITS,
+    block_bytes, pack_block, Edition, COUNT_BITS, EDITION_BITS, FIXED_BITS, FLOOR_BITS, HEAD_BITS,
 };
-use sim::levels::Levels;
+use sim::levels::{Levels, MOST_LEVELS};
 use sim::random::blocks::{block_of, block_of_no_additions, damaged_block};
 use sim::random::plans::plan_at_level;
+use sim::random::tables::levels_of_count;
 use sim::random::Random;
 
 /// How many bits the head and so many tasks have.
@@ -20,12 +21,12 @@ fn closing_bits(edition: Edition, count: usize) -> usize {
     8 * block_bytes(edition, count as u64) - used_bits(edition, count)
 }
 
-/// Whether the bit at this place is a spare one of a task.
-fn is_spare(edition: Edition, count: usize, place: usize) -> bool {
+/// Whether the bit at this place is one of a task's floor.
+fn is_floor(edition: Edition, count: usize, place: usize) -> bool {
     let each = edition.task_bits();
     edition == Edition::SECOND
         && (HEAD_BITS..used_bits(edition, count)).contains(&place)
-        && (place - HEAD_BITS) % each >= each - SPARE_BITS
+        && (place - HEAD_BITS) % each >= each - FLOOR_BITS
 }
 
 /// The block with one bit turned over.
@@ -42,8 +43,8 @@ fn every_cut_and_every_tail() {
     let mut random = Random::new(201);
     for count in 1..=16 {
         for round in 0..16 {
-            let edition = Edition::ACCEPTED[round % 2];
-            let block = block_of(&plan_of_edition(&mut random, &levels, count, edition));
+            let additions = Additions::nth(round, &levels);
+            let block = block_of(&plan_with(&mut random, &levels, count, additions));
             for length in 0..block.len() {
                 let wanted = if length < 2 { 1 } else { 4 };
                 let cut = put_block(&mut both, &mut random, &block[..length]);
@@ -69,11 +70,12 @@ fn every_single_flipped_bit() {
     let levels = Levels::base();
     let mut both = Both::new(&levels);
     let mut random = Random::new(202);
-    let mut spare = 0;
+    let mut floors = 0;
     for count in 1..=16 {
         for round in 0..12 {
-            let edition = Edition::ACCEPTED[round % 2];
-            let mut block = block_of(&plan_of_edition(&mut random, &levels, count, edition));
+            let additions = Additions::nth(round, &levels);
+            let edition = additions.edition();
+            let mut block = block_of(&plan_with(&mut random, &levels, count, additions));
             for place in 0..8 * block.len() {
                 flip(&mut block, place);
                 let flipped = put_block(&mut both, &mut random, &block);
@@ -83,9 +85,11 @@ fn every_single_flipped_bit() {
                     assert!(matches!(flipped, Err(3 | 4)));
                 } else if place >= used_bits(edition, count) {
                     assert_eq!(flipped, Err(5));
-                } else if is_spare(edition, count, place) {
-                    assert_eq!(flipped, Err(5));
-                    spare += 1;
+                } else if is_floor(edition, count, place) {
+                    // All eight levels are there, so any floor will do, and none at all if there is
+                    // another addition.
+                    assert!(matches!(flipped, Ok(_) | Err(21)));
+                    floors += 1;
                 }
                 flip(&mut block, place);
             }
@@ -100,7 +104,7 @@ fn every_single_flipped_bit() {
     both.wants(Call::Read, 7, 8_000);
     both.wants_editions(&[Call::Read, Call::Copy], 1_000);
     // 3 of each task in the blocks of edition 2.
-    assert_eq!(spare, 6 * 3 * (1 + 16) * 8);
+    assert_eq!(floors, 9 * 3 * (1 + 16) * 8);
 }
 
 /// Would catch a closing bit that is not asked about, and one asked about after the fields.
@@ -111,8 +115,12 @@ fn every_pattern_of_closing_bits() {
     let mut random = Random::new(203);
     let mut singles = [0, 0];
     for (edition, singles) in Edition::ACCEPTED.into_iter().zip(&mut singles) {
+        let additions = match edition {
+            Edition::FIRST => Additions::None,
+            _ => Additions::Both,
+        };
         for count in 1..=16 {
-            let good = block_of(&plan_of_edition(&mut random, &levels, count, edition));
+            let good = block_of(&plan_with(&mut random, &levels, count, additions));
             let bad = pack_block(edition, count as u64, &tasks(&vec![(0, 0); count]));
             for pattern in 0u8..1 << closing_bits(edition, count) {
                 *singles += u32::from(pattern.is_power_of_two());
@@ -129,20 +137,22 @@ fn every_pattern_of_closing_bits() {
     // In edition 1, 3 of them for each odd count and 7 for each even one; in edition 2, 0 to 7 twice.
     assert_eq!(singles, [8 * 3 + 8 * 7, 2 * 28]);
     both.saw("closing bits", 6_300);
-    both.wants_editions(&[Call::Read], 16);
+    both.wants_with_and_without(&[Call::Read], 16);
     both.wants(Call::Read, 6, 32);
     both.wants(Call::Read, 5, 2_500);
 }
 
-/// Would catch a spare bit that is not asked about at some place, or is asked about after the
-/// fields or after 21.
+/// The bits that were spare are a floor (02, No. 8), and 5 no longer asks about them. Would catch a floor
+/// that is read from other bits or not at all at some place, or is asked about before the fields or 21.
 #[test]
-fn every_pattern_of_spare_bits() {
-    let levels = Levels::base();
-    let mut both = Both::new(&levels);
+fn every_pattern_of_floor_bits() {
+    let mut both = Both::new(&Levels::base());
     let mut random = Random::new(206);
-    for count in 1..=16 {
-        let plan = plan_of_edition(&mut random, &levels, count, Edition::SECOND);
+    for round in 0..2 * 16 {
+        let (count, level_count) = (1 + round % 16, 1 + (round / 2) % MOST_LEVELS as usize);
+        let levels = levels_of_count(&mut random, level_count);
+        both.load(&levels);
+        let plan = plan_with(&mut random, &levels, count, Additions::Fixed);
         let zeros = pack_block(Edition::SECOND, count as u64, &tasks(&vec![(0, 0); count]));
         let blocks = [
             (block_of(&plan), ACCEPTED),
@@ -150,37 +160,45 @@ fn every_pattern_of_spare_bits() {
             (zeros, 6),
         ];
         for task in 0..count {
-            let from = used_bits(Edition::SECOND, task + 1) - SPARE_BITS;
-            for pattern in 0..1 << SPARE_BITS {
-                for (block, otherwise) in &blocks {
-                    let mut spare = block.clone();
-                    for bit in (0..SPARE_BITS).filter(|bit| pattern >> bit & 1 == 1) {
-                        flip(&mut spare, from + bit);
+            let from = used_bits(Edition::SECOND, task + 1) - FLOOR_BITS;
+            for floor in 0..1 << FLOOR_BITS {
+                for (block, without) in &blocks {
+                    let mut floored = block.clone();
+                    // The most significant bit comes first.
+                    for bit in (0..FLOOR_BITS).filter(|bit| floor >> bit & 1 == 1) {
+                        flip(&mut floored, from + FLOOR_BITS - 1 - bit);
                     }
-                    let read = put_block(&mut both, &mut random, &spare);
-                    let number = read.err().unwrap_or(ACCEPTED);
-                    assert_eq!(number, if pattern == 0 { *otherwise } else { 5 });
+                    let read = put_block(&mut both, &mut random, &floored);
+                    let wanted = match *without {
+                        6 => 6,
+                        _ if floor >= level_count => 24,
+                        without if floor == 0 => without,
+                        _ => ACCEPTED,
+                    };
+                    assert_eq!(read.err().unwrap_or(ACCEPTED), wanted);
                 }
             }
         }
     }
-    both.saw("spare bits", 6_500);
-    both.wants(Call::Read, 5, 2_800);
-    both.wants(Call::Copy, 5, 2_800);
-    both.wants(Call::Read, 6, 136);
-    both.wants(Call::Read, 21, 136);
-    both.wants_kind(Call::Read, Kind::Fixed, 136);
+    both.saw("floor bits", 13_000);
+    both.wants_never(Call::Read, 5);
+    both.wants(Call::Read, 24, 1_000);
+    both.wants(Call::Copy, 24, 1_000);
+    both.wants(Call::Read, 6, 2_000);
+    both.wants(Call::Read, 21, 2 * 136);
+    both.wants_kind(Call::Read, Kind::Floors, 1_500);
+    both.wants_kind(Call::Read, Kind::FloorsAlone, 700);
 }
 
 /// Would catch 21 left out, asked before 6 or after 7 or 8, asked about some of the tasks only, or
-/// said of a block that has a fixed tick.
+/// said of a block that has a fixed tick or a floor.
 #[test]
 fn blocks_of_edition_2_without_additions() {
     let levels = Levels::base();
     let mut both = Both::new(&levels);
     let mut random = Random::new(207);
     for count in 1..=16 {
-        let plan = plan_of_edition(&mut random, &levels, count, Edition::FIRST);
+        let plan = plan_with(&mut random, &levels, count, Additions::None);
         let block = block_of_no_additions(&plan);
         assert_eq!(put_block(&mut both, &mut random, &block), Err(21));
         // 6 comes first, 7 and 8 later.
@@ -195,11 +213,11 @@ fn blocks_of_edition_2_without_additions() {
             let first = put_block(&mut both, &mut random, &block_of(&over));
             assert_eq!(first.is_err(), count > 1 || worst > 1);
         }
-        // Any single bit of any task's fixed ticks will do.
+        // Any single bit of any task's fixed ticks or floor will do.
         let roomy = block_of_no_additions(&tasks(&vec![(60_000, 37); count]));
         for task in 0..count {
-            let end = used_bits(Edition::SECOND, task + 1) - SPARE_BITS;
-            for place in end - FIXED_BITS..end {
+            let end = used_bits(Edition::SECOND, task + 1);
+            for place in end - FLOOR_BITS - FIXED_BITS..end {
                 let mut block = roomy.clone();
                 flip(&mut block, place);
                 assert!(put_block(&mut both, &mut random, &block).is_ok());
@@ -216,6 +234,7 @@ fn blocks_of_edition_2_without_additions() {
     both.wants(Call::Copy, 21, 48);
     both.wants(Call::Read, 6, 16);
     both.wants_kind(Call::Read, Kind::Fixed, 1_000);
+    both.wants_kind(Call::Read, Kind::FloorsAlone, 400);
     both.wants_kind(Call::Read, Kind::NoFixed, 16);
 }
 
@@ -227,10 +246,11 @@ fn every_edition_count_and_length() {
     let mut both = Both::new(&levels);
     let mut random = Random::new(204);
     let without = tasks(&[(1_000, 37); 16]);
-    let with = fixed_tasks(&[(1_000, 37, 5); 16]);
+    let with = floor_tasks(&[(1_000, 37, 5, 0); 16]);
+    let floors = floor_tasks(&[(1_000, 37, 0, 7); 16]);
     for edition in (0..1 << EDITION_BITS).map(Edition) {
         for count in 0..1 << COUNT_BITS {
-            for sixteen in [&without, &with] {
+            for sixteen in [&without, &with, &floors] {
                 let mut whole = pack_block(edition, count, sixteen);
                 whole.extend([0, 0]);
                 for length in 0..=whole.len() {
@@ -267,7 +287,7 @@ fn every_pair_of_first_bytes() {
     let levels = Levels::base();
     let mut both = Both::new(&levels);
     let first_edition = block_of(&tasks(&[(60_000, 37); 16]));
-    let second_edition = block_of(&fixed_tasks(&[(60_000, 37, 5); 16]));
+    let second_edition = block_of(&floor_tasks(&[(60_000, 37, 5, 3); 16]));
     for first in 0..=u16::MAX {
         let edition = Edition(u64::from(first >> 12));
         let count = first >> 7 & 0x1f;
@@ -289,7 +309,7 @@ fn every_pair_of_first_bytes() {
         let _ = both.read(&block);
     }
     both.saw("first bytes", 65_000);
-    both.wants_editions(&[Call::Read], 100);
+    both.wants_with_and_without(&[Call::Read], 100);
     both.wants(Call::Read, 2, 14 * 4_096);
     both.wants(Call::Read, 3, 2 * 16 * 128);
     both.wants(Call::Read, 7, 1_000);
@@ -314,7 +334,7 @@ fn damaged_blocks() {
         }
     }
     both.saw("damaged blocks", 120_000);
-    for number in [ACCEPTED, 1, 2, 3, 4, 5, 6, 7, 8, 21] {
+    for number in [ACCEPTED, 1, 2, 3, 4, 5, 6, 7, 8, 21, 24] {
         both.wants(Call::Read, number, 100);
         both.wants(Call::Copy, number, 100);
     }

@@ -2,8 +2,8 @@
 //! the same bytes.
 
 use crate::lent::{Lent, MARGIN, MARKS};
+use crate::made::Additions;
 use differ::proved::{self, Judged};
-use sim::block::Edition;
 use sim::levels::Levels;
 use sim::plan::{self, Task};
 use sim::random::tables::some_or_base_levels;
@@ -34,9 +34,13 @@ pub enum Call {
 /// What an accepted call was about. Its answer doesn't tell.
 #[derive(Clone, Copy, PartialEq, Eq, PartialOrd, Ord, Debug)]
 pub enum Kind {
-    /// A plan without fixed ticks, and one with some: one of edition 1, and one of edition 2.
+    /// A plan without fixed ticks, and one with some.
     NoFixed,
     Fixed,
+    /// A plan without floors, and one with some; and one that is of edition 2 for its floors alone.
+    NoFloor,
+    Floors,
+    FloorsAlone,
     /// An empty list of pairs, and one with pairs in it.
     NoPair,
     SomePairs,
@@ -238,16 +242,25 @@ impl Both {
 
     /// Counts an accepted call on such a plan.
     pub fn note_plan(&mut self, call: Call, tasks: &[Task]) {
-        let first = Edition::of_tasks(tasks) == Edition::FIRST;
-        self.note(call, if first { Kind::NoFixed } else { Kind::Fixed });
+        self.note_additions(call, Additions::of(tasks));
     }
 
-    /// Counts an accepted call on such a block, by the edition in its first bits.
+    /// Counts an accepted call on such a block.
     pub fn note_block(&mut self, call: Call, block: &[u8]) {
-        match block[0] >> 4 {
-            1 => self.note(call, Kind::NoFixed),
-            2 => self.note(call, Kind::Fixed),
-            other => panic!("edition {other} was accepted"),
+        self.note_additions(call, additions_in(block));
+    }
+
+    fn note_additions(&mut self, call: Call, additions: Additions) {
+        let (fixed, floors) = match additions {
+            Additions::None => (Kind::NoFixed, Kind::NoFloor),
+            Additions::Fixed => (Kind::Fixed, Kind::NoFloor),
+            Additions::Floors => (Kind::NoFixed, Kind::Floors),
+            Additions::Both => (Kind::Fixed, Kind::Floors),
+        };
+        self.note(call, fixed);
+        self.note(call, floors);
+        if additions == Additions::Floors {
+            self.note(call, Kind::FloorsAlone);
         }
     }
 
@@ -268,12 +281,24 @@ impl Both {
         assert!(times >= least, "{call:?} of {kind:?} only {times} times");
     }
 
-    /// The same for plans without fixed ticks and for plans with some.
+    /// The same for plans without fixed ticks and for plans with some, and likewise for floors; and for
+    /// plans with floors alone half as often.
     #[track_caller]
     pub fn wants_editions(&self, calls: &[Call], least: u64) {
+        self.wants_with_and_without(calls, least);
         for call in calls {
-            self.wants_kind(*call, Kind::NoFixed, least);
-            self.wants_kind(*call, Kind::Fixed, least);
+            self.wants_kind(*call, Kind::FloorsAlone, least / 2);
+        }
+    }
+
+    /// The same where no plan has floors alone.
+    #[track_caller]
+    pub fn wants_with_and_without(&self, calls: &[Call], least: u64) {
+        let kinds = [Kind::NoFixed, Kind::Fixed, Kind::NoFloor, Kind::Floors];
+        for call in calls {
+            for kind in kinds {
+                self.wants_kind(*call, kind, least);
+            }
         }
     }
 
@@ -321,15 +346,42 @@ impl Both {
     }
 }
 
+/// So many numbers are handed over for each task: its period, its worst case, its fixed ticks and its
+/// floor.
+pub const NUMBERS: usize = 4;
+
 /// The plan's sixteen tasks; the numbers that are not there are 0.
-fn tasks_in(numbers: &[u32]) -> Vec<Task> {
+pub fn tasks_in(numbers: &[u32]) -> Vec<Task> {
     let number = |place: usize| u64::from(numbers.get(place).copied().unwrap_or(0));
     let task = |place| Task {
-        period: number(3 * place),
-        worst: number(3 * place + 1),
-        fixed: number(3 * place + 2),
+        period: number(NUMBERS * place),
+        worst: number(NUMBERS * place + 1),
+        fixed: number(NUMBERS * place + 2),
+        floor: number(NUMBERS * place + 3),
     };
     (0..PLACES).map(task).collect()
+}
+
+/// What the tasks of an accepted block have, told by its bits: 47 for each task of edition 2, the last
+/// eleven of them 8 of fixed ticks and 3 of a floor.
+fn additions_in(block: &[u8]) -> Additions {
+    match block[0] >> 4 {
+        1 => return Additions::None,
+        2 => {}
+        other => panic!("edition {other} was accepted"),
+    }
+    let count = usize::from(block[0] & 0x0f) << 1 | usize::from(block[1] >> 7);
+    let is_set = |bit: usize| block[bit / 8] >> (7 - bit % 8) & 1 == 1;
+    let has = |from: usize, to: usize| {
+        let bits = |task: usize| 9 + 47 * task + from..9 + 47 * task + to;
+        (0..count).flat_map(bits).any(is_set)
+    };
+    match (has(36, 44), has(44, 47)) {
+        (false, false) => panic!("edition 2 was accepted without an addition"),
+        (true, false) => Additions::Fixed,
+        (false, true) => Additions::Floors,
+        (true, true) => Additions::Both,
+    }
 }
 
 fn as_judged(judged: plan::Judged) -> Judged {

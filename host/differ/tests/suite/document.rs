@@ -1,7 +1,7 @@
-//! Cases whose answers stand in 01 or in 02, No. 2, or follow from them by hand.
+//! Cases whose answers stand in 01 or in 02, No. 2 and No. 8, or follow from them by hand.
 
 use crate::both::Both;
-use crate::made::{bench_plan, fits_block, fixed_tasks, numbers_of, task, tasks};
+use crate::made::{bench_plan, fits_block, fixed_tasks, floor_tasks, numbers_of, task, tasks};
 use differ::proved::Judged;
 use sim::levels::Levels;
 use sim::plan::Task;
@@ -12,6 +12,10 @@ const EXAMPLE: [u8; 6] = [0x10, 0x80, 0x14, 0x00, 0x09, 0x60];
 
 /// The same with 5 fixed ticks, in edition 2: 01100 ends the worst case, then 00000101 and 000.
 const FIXED_EXAMPLE: [u8; 7] = [0x20, 0x80, 0x14, 0x00, 0x09, 0x60, 0x28];
+
+/// The same with a floor of 3 instead, and with both: 00000000 and 011, 00000101 and 011.
+const FLOOR_EXAMPLE: [u8; 7] = [0x20, 0x80, 0x14, 0x00, 0x09, 0x60, 0x03];
+const BOTH_EXAMPLE: [u8; 7] = [0x20, 0x80, 0x14, 0x00, 0x09, 0x60, 0x2b];
 
 fn accepted(level: u64, hyperperiod: u64) -> Result<Judged, u32> {
     Ok(Judged { level, hyperperiod })
@@ -60,6 +64,41 @@ fn the_example_with_fixed_ticks_both_ways() {
     assert_eq!(both.judge(1, &[40, 300, 5]), accepted(0, 40));
     assert_eq!(both.write(1, &[40, 300, 5], 6), Err(9));
     assert_eq!(both.copy(&FIXED_EXAMPLE, 6), Err(9));
+}
+
+/// The same with a floor.
+#[test]
+fn the_example_with_a_floor_both_ways() {
+    let mut both = Both::new(&Levels::base());
+    for (fixed, example) in [(0, &FLOOR_EXAMPLE), (5, &BOTH_EXAMPLE)] {
+        let numbers = [40, 300, fixed, 3];
+        assert_eq!(both.write(1, &numbers, 8).as_deref(), Ok(&example[..]));
+        assert_eq!(both.copy(example, 8).as_deref(), Ok(&example[..]));
+        // 30 and 35 of 40 ticks, as without the floor.
+        assert_eq!(both.read(example), accepted(0, 40));
+        assert_eq!(both.judge(1, &numbers), accepted(0, 40));
+        assert_eq!(both.write(1, &numbers, 6), Err(9));
+        assert_eq!(both.copy(example, 6), Err(9));
+    }
+    // Three levels have no level 3, and four have one.
+    both.load(&Levels::new(&[10, 20, 30]));
+    assert_eq!(both.read(&FLOOR_EXAMPLE), Err(24));
+    both.load(&Levels::new(&[10, 20, 30, 40]));
+    assert_eq!(both.read(&FLOOR_EXAMPLE), accepted(0, 40));
+}
+
+/// Would catch a floor that moves the nominal level or the admission.
+#[test]
+fn floors_and_the_level() {
+    for floor in 0..8 {
+        wants(&floor_tasks(&[(40, 300, 0, floor)]), accepted(0, 40));
+        let bench = |worst| {
+            let task = |(period, worst)| (period, worst, 0, floor);
+            floor_tasks(&[(10, 400), (10, 400), (30, worst)].map(task))
+        };
+        wants(&bench(600), accepted(7, 30));
+        wants(&bench(601), Err(8));
+    }
 }
 
 /// Would catch fixed ticks left out of the time needed, or divided by the speed; a sum that counts
@@ -129,7 +168,7 @@ fn the_edition_that_is_written() {
         let mut list = tasks(&vec![(1_000, 37); count]);
         let mut first_byte = |list: &[Task]| {
             // One past the count, which must not matter.
-            let numbers = [numbers_of(list), vec![0, 0, 255]].concat();
+            let numbers = [numbers_of(list), vec![0, 0, 255, 7]].concat();
             both.write(count, &numbers, 100).unwrap()[0]
         };
         assert_eq!(first_byte(&list) >> 4, 1);
@@ -139,6 +178,11 @@ fn the_edition_that_is_written() {
                 assert_eq!(first_byte(&list) >> 4, 2);
             }
             list[place].fixed = 0;
+            for floor in [1, 4, 7] {
+                list[place].floor = floor;
+                assert_eq!(first_byte(&list) >> 4, 2);
+            }
+            list[place].floor = 0;
         }
     }
 }
@@ -156,11 +200,12 @@ fn past(bits: u32) -> Vec<u64> {
 fn each_field_at_the_ends_of_its_range() {
     for count in 1..=16 {
         for place in 0..count {
-            let with_fixed = |period, worst, fixed| {
+            let with_all = |period, worst, fixed, floor| {
                 let mut list = tasks(&vec![(65_535, 1); count]);
-                list[place] = task(period, worst, fixed);
+                list[place] = task(period, worst, fixed, floor);
                 list
             };
+            let with_fixed = |period, worst, fixed| with_all(period, worst, fixed, 0);
             let with = |period, worst| with_fixed(period, worst, 0);
             // One tick of 65,535 for each task.
             wants(&with(65_535, 1), accepted(0, 65_535));
@@ -182,6 +227,12 @@ fn each_field_at_the_ends_of_its_range() {
             }
             for fixed in past(8) {
                 wants(&with_fixed(65_535, 1, fixed), Err(6));
+            }
+            for floor in 1..8 {
+                wants(&with_all(65_535, 1, 0, floor), accepted(0, 65_535));
+            }
+            for floor in past(3) {
+                wants(&with_all(65_535, 1, 0, floor), Err(24));
             }
         }
     }
@@ -250,21 +301,57 @@ fn numbers_that_are_not_there_are_zero() {
     assert_eq!(both.judge(2, &[40, 300]), Err(6));
     assert_eq!(both.judge(2, &[40, 300, 40]), Err(6));
     assert_eq!(both.write(2, &[40, 300, 40], 80), Err(6));
-    assert_eq!(both.judge(2, &[40, 300, 0, 40]), Err(6));
-    assert_eq!(both.judge(1, &[40, 300, 0, u32::MAX]), accepted(0, 40));
-    assert_eq!(both.judge(1, &[40, 300, 256, 40]), Err(6));
-    let written = both.write(1, &[40, 300, 0, u32::MAX, 7, 9], 80);
+    assert_eq!(both.judge(2, &[40, 300, 0, 0, 40]), Err(6));
+    assert_eq!(both.judge(1, &[40, 300, 0, 0, u32::MAX]), accepted(0, 40));
+    assert_eq!(both.judge(1, &[40, 300, 256, 0, 40]), Err(6));
+    assert_eq!(both.judge(1, &[40, 300, 0, u32::MAX]), Err(24));
+    let written = both.write(1, &[40, 300, 0, 0, u32::MAX, 7, 9], 80);
     assert_eq!(written.as_deref(), Ok(&EXAMPLE[..]));
-    let written = both.write(1, &[40, 300, 5, u32::MAX, 7, 9], 80);
+    let written = both.write(1, &[40, 300, 5, 0, u32::MAX, 7, 9], 80);
     assert_eq!(written.as_deref(), Ok(&FIXED_EXAMPLE[..]));
+    let written = both.write(1, &[40, 300, 5, 3, u32::MAX, 7, 9], 80);
+    assert_eq!(written.as_deref(), Ok(&BOTH_EXAMPLE[..]));
     // Sixteen tasks of 1 + 50 ticks each in 1,000, and more numbers than a plan has places for.
-    let mut many = [[1_000, 1_000, 1]; 20].concat();
+    let mut many = [[1_000, 1_000, 1, 2]; 20].concat();
     assert_eq!(both.judge(16, &many), accepted(1, 1_000));
-    assert_eq!(both.judge(16, &many[..48]), accepted(1, 1_000));
-    // Without the last number the last task has no fixed ticks.
-    assert_eq!(both.judge(16, &many[..47]), accepted(1, 1_000));
-    assert_eq!(both.judge(16, &many[..46]), Err(6));
-    many[48..].fill(0);
+    assert_eq!(both.judge(16, &many[..64]), accepted(1, 1_000));
+    // Without the last number the last task has no floor, and without the one before no fixed ticks.
+    assert_eq!(both.judge(16, &many[..63]), accepted(1, 1_000));
+    assert_eq!(both.judge(16, &many[..62]), accepted(1, 1_000));
+    assert_eq!(both.judge(16, &many[..61]), Err(6));
+    many[64..].fill(0);
     assert_eq!(both.judge(16, &many), accepted(1, 1_000));
     assert_eq!(both.judge(17, &many), Err(3));
+}
+
+/// A caller of before 02's No. 8 hands over three numbers a task. Would catch a change of what it gets:
+/// with one task the same as ever, as the floor that is not there is 0; with two, what they say when read
+/// four a task; with more, 6 always, as the last task then has no worst case.
+#[test]
+fn three_numbers_a_task_of_an_older_caller() {
+    let mut both = Both::new(&Levels::base());
+    assert_eq!(both.judge(1, &[40, 300, 5]), accepted(0, 40));
+    let written = both.write(1, &[40, 300, 5], 8);
+    assert_eq!(written.as_deref(), Ok(&FIXED_EXAMPLE[..]));
+    assert_eq!(both.write(1, &[40, 300, 0], 8).as_deref(), Ok(&EXAMPLE[..]));
+    // Of two, the second's period is the first's floor, its worst case is its period, and its fixed ticks
+    // are its worst case. Without these that is 6; with some, 24 if the floor is no level.
+    assert_eq!(both.judge(2, &[40, 300, 0, 40, 300, 0]), Err(6));
+    assert_eq!(both.judge(2, &[40, 300, 5, 8, 300, 5]), Err(24));
+    assert_eq!(both.judge(2, &[40, 300, 5, 40, 65_536, 5]), Err(6));
+    // A period that is a level is taken for one, and then another plan is judged, written or refused:
+    // (40, 300, 5, 7) and (300, 5).
+    assert_eq!(both.judge(2, &[40, 300, 5, 7, 300, 5]), accepted(0, 600));
+    let other = both.write(2, &[40, 300, 5, 7, 300, 5], 80);
+    let same = both.write(2, &[40, 300, 5, 7, 300, 5, 0, 0], 80);
+    assert_eq!((other.is_ok(), other), (true, same));
+    assert_eq!(both.judge(2, &[997, 300, 5, 7, 1_009, 5]), Err(7));
+    assert_eq!(both.judge(2, &[30, 300, 0, 7, 1, 255]), Err(8));
+    for count in 3..=16 {
+        for each in [[40, 300, 5], [7, 7, 7], [40, 300, 0]] {
+            let numbers = vec![each; count].concat();
+            assert_eq!(both.judge(count, &numbers), Err(6));
+            assert_eq!(both.write(count, &numbers, 100), Err(6));
+        }
+    }
 }

@@ -1,7 +1,8 @@
 //! What 02's No. 4 comes to in a run, told by the two books alone.
 
 use sim::books::{last_finish_past_plain, past_plain_finish, ActualBook, BookJob, PlainBook};
-use sim::levels::MOST_LEVELS;
+use sim::job::time_needed;
+use sim::levels::{Levels, MOST_LEVELS};
 use sim::plan::Task;
 use sim::schedule::{first_arrival_after, urgency};
 
@@ -29,19 +30,26 @@ pub struct Gaps {
     older_open: u64,
 }
 
-/// A run as it stands: its plan, how many levels there are, and both books.
+/// A run as it stands: its plan, the levels with the nominal one, and both books.
 pub struct Stand<'a> {
     pub plan: &'a [Task],
-    pub levels: usize,
+    pub levels: &'a Levels,
+    pub nominal: usize,
     pub actual: &'a ActualBook,
     pub plain: &'a PlainBook,
 }
 
 impl Stand<'_> {
-    fn open_jobs(&self) -> Vec<BookJob> {
+    pub fn open_jobs(&self) -> Vec<BookJob> {
         let mut open = self.actual.jobs();
         open.retain(|job| job.open);
         open
+    }
+
+    /// Whether jobs have arrived at this clock. None of them has finished yet.
+    pub fn has_arrival(&self) -> bool {
+        let clock = self.actual.clock();
+        self.open_jobs().iter().any(|job| job.arrival == clock)
     }
 
     fn ticks_to_arrival(&self) -> u64 {
@@ -49,8 +57,24 @@ impl Stand<'_> {
         first_arrival_after(self.plan, clock) - clock
     }
 
+    /// The lowest level that meets the allowance of the task's latest job, whatever its floor.
+    pub fn lowest_level(&self, task: usize) -> usize {
+        let open = self.open_jobs();
+        let own = open.iter().filter(|job| job.task == task);
+        let job = own.max_by_key(|job| job.arrival).expect("its job is open");
+        let mut allowance = self.base_allowance(job);
+        if open.len() == 1 {
+            allowance = allowance.max(self.ticks_to_arrival());
+        }
+        let left = self.actual.left()[task];
+        let lowest = self
+            .levels
+            .lowest(|speed| time_needed(left, speed) <= allowance);
+        lowest.expect("the nominal level meets it")
+    }
+
     /// 01's allowance of a job: what the plain schedule has left of the jobs at least as urgent.
-    fn base_allowance(&self, job: &BookJob) -> u64 {
+    pub fn base_allowance(&self, job: &BookJob) -> u64 {
         let own = urgency(self.plan, job.task, job.arrival);
         let open = self.plain.open_jobs();
         let counted = open
@@ -86,7 +110,7 @@ impl Gaps {
         let left = stand.actual.time_left(job);
         self.exactly += u64::from(left == Some(stand.ticks_to_arrival()));
         self.with_fixed += u64::from(stand.plan.iter().any(|task| task.fixed > 0));
-        self.of_levels[stand.levels] += 1;
+        self.of_levels[stand.levels.count()] += 1;
     }
 
     /// The finish that an accepted pass told, and the order that was chosen after it.

@@ -2,7 +2,7 @@
 
 use crate::both::{Both, Call, ACCEPTED, WITH_LEVELS};
 use crate::dispatch::STATE_BYTES;
-use crate::made::{bench_plan, fixed_tasks, numbers_of, tasks};
+use crate::made::{bench_plan, fixed_tasks, floor_tasks, numbers_of, tasks};
 use sim::level_block::{level_block_bytes, pack_levels, COUNT_BITS, SPEED_BITS};
 use sim::levels::{Levels, FASTEST, MOST_LEVELS};
 use sim::plan::Task;
@@ -259,6 +259,8 @@ fn bad_blocks_ahead_of_every_call() {
         fixed_tasks(&[(40, 300, 5), (40, 300, 0)]),
         fixed_tasks(&[(40, 300, 256)]),
         fixed_tasks(&[(40, 300, 40)]),
+        floor_tasks(&[(40, 300, 0, 7)]),
+        floor_tasks(&[(40, 300, 0, 8)]),
         tasks(&[]),
         tasks(&[(1_000, 1); 17]),
         tasks(&[(0, 0)]),
@@ -327,6 +329,29 @@ fn level_blocks_are_asked_about_before_plan_blocks() {
     for call in [Call::Read, Call::Copy, Call::Pairs, Call::Start] {
         both.wants(call, 18, 15);
         both.wants(call, 19, 150);
+    }
+}
+
+/// Would catch a floor asked about with another table than the one handed over: it goes with the count of
+/// its levels alone.
+#[test]
+fn a_floor_that_one_table_has_and_another_has_not() {
+    let mut both = Both::new(&Levels::base());
+    for floor in 0..8 {
+        let list = floor_tasks(&[(40, 300, 0, 0), (40, 300, 0, floor)]);
+        for count in 1..=MOST_LEVELS {
+            let speeds: Vec<u64> = (0..count).map(|level| 100 + level).collect();
+            both.load(&Levels::new(&speeds));
+            let refusal = (floor >= count).then_some(24);
+            let answers = put_before_all(&mut both, &list, &[0, 1], STATE_BYTES);
+            assert_eq!(answers[0], None);
+            assert_eq!(answers[1..], [refusal; 6]);
+        }
+    }
+    both.saw("floors and tables", 448);
+    for call in &WITH_LEVELS[1..] {
+        both.wants(*call, 24, 28);
+        both.wants(*call, ACCEPTED, 36);
     }
 }
 

@@ -3,7 +3,7 @@
 
 use crate::both::{Both, Call, ACCEPTED};
 use crate::dispatch::STATE_BYTES;
-use crate::made::{fixed_tasks, some_plan};
+use crate::made::{floor_tasks, some_plan};
 use crate::states::put_state;
 use crate::sums::Step;
 use crate::view::{told, View};
@@ -34,15 +34,16 @@ struct Standing {
 }
 
 impl Standing {
-    /// Nothing where no plan can be judged, or the order doesn't run an open job at a level of the
-    /// table.
+    /// Nothing where no plan can be judged, or the order doesn't run an open job at a level that its floor
+    /// and the nominal one allow (02, No. 8).
     fn of(block: &[u8]) -> Option<Standing> {
         let state = unpack(block)?;
         let tasks = state.tasks();
         let nominal = judge_list(&state.levels, &tasks).ok()?.nominal;
         let order = state.running?;
         let job = state.entries.get(order.task)?;
-        if order.level >= state.levels.count() || !job.left.is_open() {
+        let floor = job.task.floor as usize;
+        if !(floor..=nominal.max(floor)).contains(&order.level) || !job.left.is_open() {
             return None;
         }
         let own = urgency_in(&state, order.task);
@@ -201,7 +202,7 @@ fn lone_states_and_those_beside_them() {
     let mut both = Both::new(&Levels::base());
     let mut random = Random::new(1_001);
     let (mut made, mut near) = (Seen::default(), Seen::default());
-    for _ in 0..6_000 {
+    for _ in 0..8_000 {
         let (levels, plan) = some_plan(&mut random);
         let (state, kind) = lone_state(&mut random, &levels, &plan);
         let taken = put_state(&mut both, &mut random, &state);
@@ -242,7 +243,7 @@ fn a_second_open_job_makes_it_unsound() {
     let mut both = Both::new(&Levels::base());
     let mut random = Random::new(1_002);
     let mut seen: BTreeMap<Crowded, u32> = BTreeMap::new();
-    for _ in 0..3_000 {
+    for _ in 0..3_500 {
         let (levels, plan) = some_plan(&mut random);
         let (state, kind) = match crowded_state(&mut random, &levels, &plan) {
             Some(crowded) => crowded,
@@ -348,7 +349,7 @@ fn on_each_side_of_the_gap() {
     let mut both = Both::new(&Levels::base());
     let mut random = Random::new(1_003);
     let mut seen = Edges::default();
-    for _ in 0..6_000 {
+    for _ in 0..9_000 {
         let (levels, plan) = some_plan(&mut random);
         let (state, kind) = lone_state(&mut random, &levels, &plan);
         match kind {
@@ -411,7 +412,7 @@ fn sound_states_stay_sound() {
     let mut both = Both::new(&Levels::base());
     let mut random = Random::new(1_004);
     let mut led = Led::default();
-    for _ in 0..2_500 {
+    for _ in 0..3_500 {
         let (levels, plan) = some_plan(&mut random);
         let (state, _) = lone_state(&mut random, &levels, &plan);
         let mut states = beside(&mut random, &state);
@@ -454,8 +455,8 @@ fn every_entry(task: &Task, nominal: u64) -> Vec<Entry> {
     all
 }
 
-/// All states of a plan in its first hyperperiod, sound or not, with any order to run a task at a level
-/// up to nominal.
+/// All states of a plan in its first hyperperiod, sound or not, with any order to run a task at a level of
+/// the table.
 fn every_state(levels: &Levels, plan: &[Task]) -> Vec<[u8; STATE_BYTES]> {
     let judged = judge_list(levels, plan).expect("the plan is an accepted one");
     let mut lists = vec![Vec::new()];
@@ -472,7 +473,7 @@ fn every_state(levels: &Levels, plan: &[Task]) -> Vec<[u8; STATE_BYTES]> {
     let mut all = Vec::new();
     for clock in 0..judged.hyperperiod {
         for entries in &lists {
-            for order in 0..plan.len() * (judged.nominal + 1) {
+            for order in 0..plan.len() * levels.count() {
                 all.push(pack(&State {
                     clock,
                     running: Some(Running {
@@ -516,15 +517,19 @@ fn every_state_of_small_plans() {
     // With three tasks a job in company can be behind its plain ticks, and within the gap and those
     // that an ended job has left.
     let plans = [
-        (&[1][..], &[(4, 3, 0), (8, 2, 0)][..]),
-        (&[1, 2], &[(3, 2, 0), (3, 2, 0)]),
-        (&[1, 2], &[(2, 1, 0), (6, 4, 0)]),
-        (&[1, 2, 3], &[(4, 3, 0), (6, 3, 1)]),
-        (&[1], &[(4, 1, 0), (4, 1, 0), (4, 1, 0)]),
-        (&[1, 2], &[(4, 2, 0), (4, 2, 0), (4, 1, 0)]),
+        (&[1][..], &[(4, 3, 0, 0), (8, 2, 0, 0)][..]),
+        (&[1, 2], &[(3, 2, 0, 0), (3, 2, 0, 0)]),
+        (&[1, 2], &[(2, 1, 0, 0), (6, 4, 0, 0)]),
+        (&[1, 2, 3], &[(4, 3, 0, 0), (6, 3, 1, 0)]),
+        (&[1], &[(4, 1, 0, 0), (4, 1, 0, 0), (4, 1, 0, 0)]),
+        (&[1, 2], &[(4, 2, 0, 0), (4, 2, 0, 0), (4, 1, 0, 0)]),
+        // 02, No. 8: floors at nominal and above it.
+        (&[1, 2], &[(3, 2, 0, 1), (3, 2, 0, 0)]),
+        (&[1, 2, 3], &[(3, 2, 0, 2), (3, 2, 0, 1)]),
+        (&[1, 2, 3], &[(4, 3, 0, 1), (6, 3, 1, 2)]),
     ];
     for (speeds, plan) in plans {
-        for state in every_state(&Levels::new(speeds), &fixed_tasks(plan)) {
+        for state in every_state(&Levels::new(speeds), &floor_tasks(plan)) {
             let taken = both.show(&state, 48).is_ok();
             seen.note(&state, taken);
             if taken {

@@ -3,30 +3,39 @@
 use crate::both::{Both, PLACES};
 use differ::proved::Judged;
 use sim::block::{block_bytes, Edition};
-use sim::levels::Levels;
+use sim::levels::{Levels, MOST_LEVELS};
 use sim::plan::{judge_list, Task, LARGEST_FIXED, LARGEST_PERIOD, LARGEST_WORST};
 use sim::random::blocks::block_of;
 use sim::random::plans::{plan_at_level, plan_at_level_within, SMALL_BASES};
 use sim::random::tables::some_or_base_levels;
 use sim::random::Random;
 
-/// Tasks from pairs of period and worst case, without fixed ticks.
+/// Tasks from pairs of period and worst case, without fixed ticks and without floors.
 pub fn tasks(pairs: &[(u64, u64)]) -> Vec<Task> {
-    let task = |(period, worst): &(u64, u64)| task(*period, *worst, 0);
+    let task = |(period, worst): &(u64, u64)| task(*period, *worst, 0, 0);
     pairs.iter().map(task).collect()
 }
 
-/// Tasks from period, worst case and fixed ticks.
+/// Tasks from period, worst case and fixed ticks, without floors.
 pub fn fixed_tasks(triples: &[(u64, u64, u64)]) -> Vec<Task> {
-    let task = |(period, worst, fixed): &(u64, u64, u64)| task(*period, *worst, *fixed);
+    let task = |(period, worst, fixed): &(u64, u64, u64)| task(*period, *worst, *fixed, 0);
     triples.iter().map(task).collect()
 }
 
-pub fn task(period: u64, worst: u64, fixed: u64) -> Task {
+/// Tasks from period, worst case, fixed ticks and floor.
+pub fn floor_tasks(numbers: &[(u64, u64, u64, u64)]) -> Vec<Task> {
+    let task = |(period, worst, fixed, floor): &(u64, u64, u64, u64)| {
+        task(*period, *worst, *fixed, *floor)
+    };
+    numbers.iter().map(task).collect()
+}
+
+pub fn task(period: u64, worst: u64, fixed: u64, floor: u64) -> Task {
     Task {
         period,
         worst,
         fixed,
+        floor,
     }
 }
 
@@ -52,14 +61,17 @@ pub fn some_plan(random: &mut Random) -> (Levels, Vec<Task>) {
 /// which is as far out of range.
 pub fn numbers_of(tasks: &[Task]) -> Vec<u32> {
     let narrow = |number: u64| u32::try_from(number).unwrap_or(u32::MAX);
-    let triple = |task: &Task| [task.period, task.worst, task.fixed].map(narrow);
-    tasks.iter().flat_map(triple).collect()
+    let four = |task: &Task| [task.period, task.worst, task.fixed, task.floor].map(narrow);
+    tasks.iter().flat_map(four).collect()
 }
 
 /// Whether a block can hold these tasks, in range or not.
 pub fn fits_block(tasks: &[Task]) -> bool {
     let fits = |task: &Task| {
-        task.period <= LARGEST_PERIOD && task.worst <= LARGEST_WORST && task.fixed <= LARGEST_FIXED
+        task.period <= LARGEST_PERIOD
+            && task.worst <= LARGEST_WORST
+            && task.fixed <= LARGEST_FIXED
+            && task.floor < MOST_LEVELS
     };
     tasks.len() < 32 && tasks.iter().all(fits)
 }
@@ -84,16 +96,63 @@ pub fn plan_of_count(random: &mut Random, levels: &Levels, count: usize) -> Vec<
     }
 }
 
-/// The same, and one that the writer gives this edition.
-pub fn plan_of_edition(
+/// What some task of a plan has beside a period and a worst case. With none of it the writer gives the
+/// plan edition 1, else edition 2.
+#[derive(Clone, Copy, PartialEq, Eq, Debug)]
+pub enum Additions {
+    None,
+    Fixed,
+    Floors,
+    Both,
+}
+
+impl Additions {
+    pub const ALL: [Additions; 4] = [
+        Additions::None,
+        Additions::Fixed,
+        Additions::Floors,
+        Additions::Both,
+    ];
+
+    pub fn of(tasks: &[Task]) -> Additions {
+        let fixed = tasks.iter().any(|task| task.fixed > 0);
+        let floors = tasks.iter().any(|task| task.floor > 0);
+        match (fixed, floors) {
+            (false, false) => Additions::None,
+            (true, false) => Additions::Fixed,
+            (false, true) => Additions::Floors,
+            (true, true) => Additions::Both,
+        }
+    }
+
+    /// All of them in turn. Of a single level there is no floor, so there it is the first two.
+    pub fn nth(nth: usize, levels: &Levels) -> Additions {
+        match levels.count() {
+            1 => Additions::ALL[nth % 2],
+            _ => Additions::ALL[nth % 4],
+        }
+    }
+
+    pub fn edition(self) -> Edition {
+        match self {
+            Additions::None => Edition::FIRST,
+            _ => Edition::SECOND,
+        }
+    }
+}
+
+/// The same, and one that has exactly these additions. The table must have more than one level, as else
+/// there is no floor.
+pub fn plan_with(
     random: &mut Random,
     levels: &Levels,
     count: usize,
-    edition: Edition,
+    additions: Additions,
 ) -> Vec<Task> {
     loop {
         let tasks = plan_of_count(random, levels, count);
-        if Edition::of_tasks(&tasks) == edition {
+        if Additions::of(&tasks) == additions {
+            assert_eq!(Edition::of_tasks(&tasks), additions.edition());
             return tasks;
         }
     }
@@ -104,7 +163,7 @@ pub fn plan_of_edition(
 pub fn nearby(random: &mut Random, tasks: &[Task]) -> Vec<Task> {
     let mut near = tasks.to_vec();
     let place = random.place(near.len());
-    match random.below(10) {
+    match random.below(12) {
         0 | 1 => near[place].worst += 1,
         2 => near[place].worst -= 1,
         3 => near[place].period += 1,
@@ -113,21 +172,26 @@ pub fn nearby(random: &mut Random, tasks: &[Task]) -> Vec<Task> {
         6 => drop(near.remove(place)),
         7 => near[place].fixed += 1,
         8 => near[place].fixed = near[place].fixed.saturating_sub(1),
+        9 => near[place].floor += 1,
+        10 => near[place].floor = near[place].floor.saturating_sub(1),
         _ => near.push(near[place]),
     }
     near
 }
 
-/// Any few tasks in range, with short periods that are often far from a common multiple.
+/// Any few tasks in range, with short periods that are often far from a common multiple, and floors that
+/// eight levels have.
 pub fn loose_plan(random: &mut Random) -> Vec<Task> {
     let longest = random.pick(&[4, 12, 40, 200, 3_000, LARGEST_PERIOD]);
     let heaviest = random.pick(&[1, 20, 100, 2_000, LARGEST_WORST]);
     let most_fixed = random.pick(&[0, 0, 1, 20, LARGEST_FIXED]);
+    let highest = random.pick(&[0, 0, 1, 4, MOST_LEVELS - 1]);
     let count = random.between(1, 6);
     let task = |_| Task {
         period: random.between(1, longest),
         worst: random.between(1, heaviest),
         fixed: random.between(0, most_fixed),
+        floor: random.between(0, highest),
     };
     (0..count).map(task).collect()
 }

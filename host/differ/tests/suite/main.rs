@@ -1,5 +1,5 @@
 //! The proved library held to the cases of documents 01 and 02 and, call by call, to the simulator.
-//! Over 7,000,000 calls are put to both, with 01's speeds and with those of random boards. What each
+//! Over 9,000,000 calls are put to both, with 01's speeds and with those of random boards. What each
 //! test has seen is printed with `--nocapture`.
 
 mod blocks;
@@ -8,6 +8,8 @@ mod buffers;
 mod clocks;
 mod dispatch;
 mod document;
+mod floored;
+mod floors;
 mod gaps;
 mod knee;
 mod lent;

@@ -3,10 +3,10 @@
 
 use crate::both::{Both, Call, Kind, ACCEPTED};
 use crate::dispatch::STATE_BYTES;
-use crate::made::{bench_plan, fixed_tasks, plan_of_count, plan_of_edition, some_plan, tasks};
+use crate::made::{bench_plan, fixed_tasks, floor_tasks, tasks};
+use crate::made::{plan_of_count, plan_with, some_plan, Additions};
 use crate::relations::{Relation, Relations, RELATIONS};
 use differ::{dispatcher, proved};
-use sim::block::Edition;
 use sim::levels::{Levels, MOST_LEVELS};
 use sim::pairs::{pack_pairs, Pair};
 use sim::plan::{judge_list, Task};
@@ -50,7 +50,7 @@ fn plans_with_their_pairs() -> Vec<(Vec<Task>, Vec<Two>)> {
         (fixed_tasks(&[(40, 300, 5)]), vec![]),
         (tasks(&[(20, 1), (30, 1)]), vec![]),
         (
-            fixed_tasks(&[(7, 1, 0), (14, 1, 1), (21, 1, 0)]),
+            floor_tasks(&[(7, 1, 0, 7), (14, 1, 1, 0), (21, 1, 0, 3)]),
             vec![(0, 1), (0, 2)],
         ),
         // A tick beside the double.
@@ -114,6 +114,7 @@ fn every_two_numbers() {
     both.wants(Call::Pairs, ACCEPTED, 184);
     both.wants_kind(Call::Pairs, Kind::NoFixed, 138);
     both.wants_kind(Call::Pairs, Kind::Fixed, 46);
+    both.wants_kind(Call::Pairs, Kind::Floors, 2);
     relations.wants(&RELATIONS, 3);
 }
 
@@ -163,7 +164,8 @@ fn lists_of_every_length() {
     let mut both = Both::new(&Levels::base());
     let mut random = Random::new(1_401);
     let fixed = fixed_tasks(&[(20, 40, 1), (40, 40, 0)]);
-    for plan in [bench_plan(), tasks(&[(1_000, 37); 16]), fixed] {
+    let floors = floor_tasks(&[(20, 40, 0, 0), (40, 40, 0, 5)]);
+    for plan in [bench_plan(), tasks(&[(1_000, 37); 16]), fixed, floors] {
         let (block, good) = (block_of(&plan), good_pairs(&plan));
         for length in (0..=32).chain(too_long()) {
             for _ in 0..4 {
@@ -236,6 +238,8 @@ fn a_bad_pair_at_every_place() {
     // Bad pairs of every kind can be made of these.
     let plan = tasks(&[(12, 1), (24, 1), (12, 1), (25, 1), (18, 1)]);
     let fixed = fixed_tasks(&[(12, 1, 1), (24, 1, 0), (12, 1, 0), (25, 1, 0), (18, 1, 1)]);
+    let mut floors = plan.clone();
+    floors[3].floor = 4;
     let bad = [
         (0, 5),
         (5, 1),
@@ -248,7 +252,7 @@ fn a_bad_pair_at_every_place() {
         (16, 1),
         (0, 17),
     ];
-    for plan in [plan, fixed] {
+    for plan in [plan, fixed, floors] {
         let (block, good) = (block_of(&plan), good_pairs(&plan));
         for size in 1..=MOST {
             for place in 0..size {
@@ -281,8 +285,8 @@ fn every_single_flipped_bit_of_a_list() {
     let mut random = Random::new(1_403);
     for round in 0..160 {
         let levels = both.load_some(&mut random);
-        let edition = Edition::ACCEPTED[round % 2];
-        let plan = plan_of_edition(&mut random, &levels, 1 + round / 10, edition);
+        let additions = Additions::nth(round, &levels);
+        let plan = plan_with(&mut random, &levels, 1 + round / 10, additions);
         let (block, mut list) = (block_of(&plan), good_list(&mut random, &plan));
         for place in 0..8 * list.len() {
             list[place / 8] ^= 0x80 >> (place % 8);
@@ -309,6 +313,7 @@ fn plan_of_relations(random: &mut Random, levels: &Levels) -> Vec<Task> {
         let count = random.between(2, 6);
         let first = random.between(1, 60);
         let with_fixed = random.one_in(2);
+        let highest = random.pick(&[0, levels.top() as u64]);
         let task = |_| {
             let multiple = first * random.between(1, 4);
             let other = random.between(1, 60);
@@ -317,6 +322,7 @@ fn plan_of_relations(random: &mut Random, levels: &Levels) -> Vec<Task> {
                 period: random.pick(&[first, multiple, multiple, near, other]),
                 worst: random.between(1, 3),
                 fixed: if with_fixed { random.below(2) } else { 0 },
+                floor: random.between(0, highest),
             }
         };
         let plan: Vec<Task> = (0..count).map(task).collect();
@@ -338,9 +344,9 @@ fn periods_of_every_relation() {
         both.load(&levels);
         let plan = plan_of_relations(&mut random, &levels);
         let block = block_of(&plan);
-        let relations = match Edition::of_tasks(&plan) {
-            Edition::FIRST => &mut plain,
-            _ => &mut fixed,
+        let relations = match plan.iter().any(|task| task.fixed > 0) {
+            false => &mut plain,
+            true => &mut fixed,
         };
         // With the count, which is the first number that no task has.
         for earlier in 0..=plan.len() {
@@ -419,8 +425,8 @@ fn refused_before(random: &mut Random) -> Vec<(u32, Vec<u8>, Vec<u8>)> {
     let over = tasks(&[(10, 400), (10, 400), (30, 601)]);
     let mut closed = block_of(&over);
     closed[14] |= 4;
-    let mut spare = block_of(&fixed_tasks(&[(40, 300, 5)]));
-    spare[6] |= 2;
+    let mut closed_second = block_of(&fixed_tasks(&[(40, 300, 5), (40, 300, 0)]));
+    closed_second[12] |= 1;
     let mut refused = Vec::new();
     for number in [18, 19, 20] {
         for block in [vec![], block_of(&over), bench.clone()] {
@@ -433,7 +439,7 @@ fn refused_before(random: &mut Random) -> Vec<(u32, Vec<u8>, Vec<u8>)> {
         (3, block_of(&tasks(&[(1_000, 1); 17]))),
         (4, bench[..14].to_vec()),
         (5, closed),
-        (5, spare),
+        (5, closed_second),
         (6, block_of(&tasks(&[(0, 1), (10, 1)]))),
         (6, block_of(&tasks(&[(10, 1), (10, 0)]))),
         (21, block_of_no_additions(&over)),
@@ -444,6 +450,15 @@ fn refused_before(random: &mut Random) -> Vec<(u32, Vec<u8>, Vec<u8>)> {
         (8, block_of(&fixed_tasks(&[(10, 40, 5), (10, 40, 5)]))),
     ] {
         refused.push((number, base.clone(), block));
+    }
+    // Plans that two levels would admit, and ones that none would, or whose hyperperiod is too long.
+    let two_levels = write_levels(&Levels::new(&[50, 100]));
+    for list in [
+        floor_tasks(&[(40, 300, 0, 2), (40, 300, 0, 1)]),
+        floor_tasks(&[(1_000, 1, 0, 0), (1_001, 1, 0, 7)]),
+        floor_tasks(&[(1, 101, 5, 2)]),
+    ] {
+        refused.push((24, two_levels.clone(), block_of(&list)));
     }
     refused
 }
@@ -510,7 +525,7 @@ fn twenty_two_is_asked_after_8_and_before_9() {
         }
     }
     both.saw("22 after 8 and before 9", 1_900);
-    for number in (1..=8).chain(18..=22) {
+    for number in (1..=8).chain(18..=22).chain([24]) {
         both.wants(Call::Pairs, number, 11);
         both.wants(Call::Start, number, 66);
     }

@@ -1,6 +1,6 @@
 //! Random plans, judged, written, read and copied on both sides.
 
-use crate::both::{Both, Call, ACCEPTED};
+use crate::both::{Both, Call, ACCEPTED, NUMBERS};
 use crate::made::{loose_plan, nearby, numbers_of, put_tasks, some_room};
 use sim::block::{block_bytes, Edition};
 use sim::levels::{Levels, MOST_LEVELS};
@@ -24,7 +24,7 @@ fn accepted_plans_at_every_level_and_their_neighbours() {
     let mut both = Both::new(&levels);
     let mut random = Random::new(101);
     for level in 0..levels.count() {
-        for _ in 0..500 {
+        for _ in 0..700 {
             let tasks = plan_at_level(&mut random, &levels, level);
             let judged = put_tasks(&mut both, &mut random, &tasks);
             assert_eq!(judged.map(|judged| judged.level), Ok(level as u64));
@@ -71,7 +71,7 @@ fn accepted_plans_of_any_table_and_their_neighbours() {
     both.saw("accepted plans of any table and neighbours", 83_000);
     for call in [Call::Judge, Call::Read] {
         both.wants(call, ACCEPTED, 9_000);
-        for number in [6, 7, 8] {
+        for number in [6, 7, 8, 24] {
             both.wants(call, number, 200);
         }
     }
@@ -86,11 +86,11 @@ fn plans_around_the_largest_hyperperiod() {
     let levels = Levels::base();
     let mut both = Both::new(&levels);
     let mut random = Random::new(102);
-    for _ in 0..1_500 {
+    for _ in 0..1_800 {
         let at = plan_at_largest_hyperperiod(&mut random, &levels);
         let judged = put_tasks(&mut both, &mut random, &at);
         assert_eq!(judged.map(|judged| judged.hyperperiod), Ok(1_000_000));
-        let above = plan_above_largest_hyperperiod(&mut random);
+        let above = plan_above_largest_hyperperiod(&mut random, &levels);
         assert_eq!(put_tasks(&mut both, &mut random, &above), Err(7));
     }
     both.saw("largest hyperperiod", 12_000);
@@ -182,6 +182,8 @@ fn one_plan_with_many_tables() {
     both.saw("one plan with many tables", 24_000);
     both.wants(Call::Judge, ACCEPTED, 1_000);
     both.wants(Call::Judge, 8, 1_000);
+    both.wants(Call::Judge, 24, 500);
+    both.wants(Call::Read, 24, 500);
     both.wants_editions(&PLAN_CALLS, 300);
 }
 
@@ -194,15 +196,26 @@ fn only_fixed_is_out(count: usize, entries: &[Task]) -> bool {
     plan.iter().all(in_range) && plan.iter().any(|task| task.fixed > LARGEST_FIXED)
 }
 
+/// Whether a floor that is no level of the table is all that 24 says no to, and the ranges say nothing.
+fn only_a_floor_is_out(levels: &Levels, count: usize, entries: &[Task]) -> bool {
+    let in_range = |task: &Task| {
+        (1..=LARGEST_PERIOD).contains(&task.period)
+            && (1..=LARGEST_WORST).contains(&task.worst)
+            && task.fixed <= LARGEST_FIXED
+    };
+    let plan = entries.get(..count).unwrap_or(&[]);
+    plan.iter().all(in_range) && plan.iter().any(|task| task.floor >= levels.count() as u64)
+}
+
 /// Would catch a range off by one, a field or a count cut to fewer bits, and entries past the count
-/// that are looked at.
+/// that are looked at. A floor far out of range is 24 and never 6.
 #[test]
 fn fields_and_counts_at_their_edges() {
-    let levels = Levels::base();
-    let mut both = Both::new(&levels);
+    let mut both = Both::new(&Levels::base());
     let mut random = Random::new(104);
-    let mut fixed_out = 0;
+    let (mut fixed_out, mut floor_out) = (0, 0);
     for _ in 0..15_000 {
+        let levels = both.load_some(&mut random);
         let (count, entries) = edge_count_and_entries(&mut random, &levels);
         let count = count as usize;
         let mut numbers = numbers_of(&entries);
@@ -210,6 +223,10 @@ fn fields_and_counts_at_their_edges() {
         if only_fixed_is_out(count, &entries) && count <= 16 {
             assert_eq!(judged, Err(6));
             fixed_out += 1;
+        }
+        if only_a_floor_is_out(&levels, count, &entries) && count <= 16 {
+            assert_eq!(judged, Err(24));
+            floor_out += 1;
         }
         let plan = &entries[..count.min(16)];
         let needed = block_bytes(Edition::of_tasks(plan), plan.len() as u64);
@@ -225,9 +242,11 @@ fn fields_and_counts_at_their_edges() {
         both.wants(call, 3, 500);
         both.wants(call, 6, 3_000);
         both.wants(call, 8, 50);
+        both.wants(call, 24, 1_000);
     }
     both.wants_editions(&[Call::Judge, Call::Write], 500);
     assert!(fixed_out > 1_000, "{fixed_out}");
+    assert!(floor_out > 1_000, "{floor_out}");
 }
 
 /// Would catch a list that is read past its end, where more good numbers stand, one that is not
@@ -237,34 +256,45 @@ fn every_count_with_a_list_of_every_length() {
     let levels = Levels::base();
     let mut both = Both::new(&levels);
     let mut random = Random::new(105);
+    let additions = [
+        (1, 0, 0),
+        (1_000, 0, 7),
+        (1, 255, 0),
+        (1_000, 7, 3),
+        (1_000, 0, 0),
+    ];
     for count in 0..=31 {
-        for length in 0..=60 {
-            for (worst, fixed) in [(1, 0), (1_000, 0), (1, 255), (1_000, 7)] {
-                let mut good = [[16_000, worst, fixed]; 32].concat();
-                // The last task's fixed ticks may be missing: it has none then.
-                let enough = (1..=16).contains(&count) && length + 1 >= 3 * count;
+        for length in 0..=80 {
+            for (worst, fixed, floor) in additions {
+                let mut good = [[16_000, worst, fixed, floor]; 32].concat();
+                // The last task's fixed ticks and its floor may be missing: it has none then.
+                let enough = (1..=16).contains(&count) && length + 2 >= NUMBERS * count;
                 assert_eq!(both.judge(count, &good[..length]).is_ok(), enough);
                 let written = both.write(count, &good[..length], 100);
                 assert_eq!(written.is_ok(), enough);
-                // A zero matters exactly if a task of the plan has it, and not as its fixed ticks.
+                // A zero matters exactly if a task of the plan has it as its period or its worst case.
                 let place = random.place(good.len());
                 good[place] = 0;
                 let holed = both.judge(count, &good[..length]);
-                let matters = place < 3 * count && place % 3 < 2;
+                let matters = place < NUMBERS * count && place % NUMBERS < 2;
                 assert_eq!(holed.is_ok(), enough && !matters);
-                // A number far out of range matters wherever a task of the plan has it.
+                // A number far out of range matters wherever a task of the plan has it. As a floor it is
+                // told by its own number.
                 good[place] = 1 << 20;
                 let heavy = both.judge(count, &good[..length]);
-                let seen = place < 3 * count && place < length;
+                let seen = place < NUMBERS * count && place < length;
                 assert_eq!(heavy.is_ok(), enough && !seen);
+                let as_floor = enough && seen && place % NUMBERS == 3;
+                assert_eq!(heavy == Err(24), as_floor);
             }
         }
     }
-    both.saw("counts and lengths of lists", 31_000);
+    both.saw("counts and lengths of lists", 51_000);
     both.wants_editions(&[Call::Judge, Call::Write], 700);
     both.wants(Call::Judge, ACCEPTED, 700);
     both.wants(Call::Judge, 3, 1_000);
     both.wants(Call::Judge, 6, 1_000);
+    both.wants(Call::Judge, 24, 100);
 }
 
 /// Would catch a wrong least common multiple or sum where nothing was chosen to come out even.

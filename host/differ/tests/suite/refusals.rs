@@ -1,8 +1,8 @@
-//! Each refusal number from 1 to 9, and 21, is reached, from every call that can give it, and where
+//! Each refusal number from 1 to 9, 21 and 24 is reached, from every call that can give it, and where
 //! several questions would say no the first decides. 18 to 20 are in `levels`, and 22 in `pairs`.
 
 use crate::both::{Both, Call, ACCEPTED};
-use crate::made::{bench_plan, fixed_tasks, numbers_of, tasks};
+use crate::made::{bench_plan, fixed_tasks, floor_tasks, numbers_of, tasks};
 use sim::block::{pack_block, Edition};
 use sim::levels::Levels;
 use sim::plan::Task;
@@ -114,11 +114,14 @@ fn refusal_21(both: &mut Both) {
     ] {
         let block = block_of_no_additions(&list);
         refuses_block(both, &block, 21);
-        // After the length, a closing bit or a spare one.
+        // After the length.
         refuses_block(both, &block[..block.len() - 1], 4);
-        let mut closed = block.clone();
-        *closed.last_mut().unwrap() |= 1;
-        refuses_block(both, &closed, 5);
+        // The last bit of two or three tasks is a closing one, which comes first. That of one task is its
+        // floor's, and with a floor 21 is not said.
+        let mut last_bit = block.clone();
+        *last_bit.last_mut().unwrap() |= 1;
+        let number = if list.len() > 1 { 5 } else { 8 };
+        refuses_block(both, &last_bit, number);
     }
     refuses_block(both, &block_of_no_additions(&tasks(&[(0, 1)])), 6);
     refuses_block(both, &block_of_no_additions(&tasks(&[(1, 0)])), 6);
@@ -131,6 +134,39 @@ fn refusal_21(both: &mut Both) {
     assert!(both.judge(2, &numbers_of(&good)).is_ok());
 }
 
+/// 24 is put wherever a plan is, after 6 and 21 and before 7 and 8. A floor of any size is asked about, in
+/// a block only as far as its bits go: there it takes a table with fewer than eight levels.
+fn refusal_24(both: &mut Both) {
+    for floor in [8, 9, 15, 16, 256, 1 << 31, u32::MAX.into()] {
+        let list = floor_tasks(&[(10, 300, 0, 0), (10, 300, 0, floor)]);
+        let numbers = numbers_of(&list);
+        assert_eq!(both.judge(2, &numbers), Err(24));
+        for room in [0, 1, 96] {
+            assert_eq!(both.write(2, &numbers, room), Err(24));
+        }
+    }
+    both.load(&Levels::new(&[50, 100]));
+    refuses_tasks(both, &floor_tasks(&[(10, 300, 0, 2)]), 24);
+    refuses_tasks(both, &floor_tasks(&[(10, 300, 0, 7), (10, 300, 1, 0)]), 24);
+    // After 3 and 6.
+    refuses_tasks(both, &floor_tasks(&[(10, 300, 0, 2); 17]), 3);
+    refuses_tasks(both, &floor_tasks(&[(0, 300, 0, 2)]), 6);
+    refuses_tasks(both, &floor_tasks(&[(10, 300, 0, 2), (10, 0, 0, 0)]), 6);
+    // Never with 21: a floor is an addition. Before 7 and 8.
+    refuses_block(both, &block_of_no_additions(&bench_plan()), 21);
+    refuses_tasks(
+        both,
+        &floor_tasks(&[(1_000, 1, 0, 2), (1_001, 1, 0, 0)]),
+        24,
+    );
+    refuses_tasks(both, &floor_tasks(&[(1_000, 1, 0, 1), (1_001, 1, 0, 0)]), 7);
+    refuses_tasks(both, &floor_tasks(&[(1, 101, 0, 2)]), 24);
+    refuses_tasks(both, &floor_tasks(&[(1, 101, 0, 1)]), 8);
+    let good = floor_tasks(&[(10, 300, 0, 1)]);
+    assert!(both.read(&block_of(&good)).is_ok());
+    both.load(&Levels::base());
+}
+
 /// Would catch a question left out, two in the wrong order, and a wrong number.
 #[test]
 fn every_number_from_every_call_that_gives_it() {
@@ -141,12 +177,13 @@ fn every_number_from_every_call_that_gives_it() {
     refusals_5_and_6(&mut both);
     refusals_7_to_9(&mut both);
     refusal_21(&mut both);
+    refusal_24(&mut both);
     let given = [
-        (Call::Judge, &[3, 6, 7, 8][..]),
-        (Call::Read, &[1, 2, 3, 4, 5, 6, 7, 8, 21]),
-        (Call::Write, &[3, 6, 7, 8, 9]),
-        (Call::Copy, &[1, 2, 3, 4, 5, 6, 7, 8, 9, 21]),
-        (Call::Pairs, &[1, 2, 3, 4, 5, 6, 7, 8, 21]),
+        (Call::Judge, &[3, 6, 7, 8, 24][..]),
+        (Call::Read, &[1, 2, 3, 4, 5, 6, 7, 8, 21, 24]),
+        (Call::Write, &[3, 6, 7, 8, 9, 24]),
+        (Call::Copy, &[1, 2, 3, 4, 5, 6, 7, 8, 9, 21, 24]),
+        (Call::Pairs, &[1, 2, 3, 4, 5, 6, 7, 8, 21, 24]),
     ];
     both.wants_never(Call::Judge, 21);
     both.wants_never(Call::Write, 21);
@@ -173,7 +210,7 @@ fn counts_far_out_of_range() {
             assert_eq!(both.write(count, &numbers, 90), Err(3));
         }
     }
-    let cut = [usize::MAX / 3, usize::MAX / 36, usize::MAX / 47];
+    let cut = [3, 4, 36, 47].map(|each| usize::MAX / each);
     for count in [usize::MAX, usize::MAX - 1, usize::MAX / 2]
         .into_iter()
         .chain(cut)

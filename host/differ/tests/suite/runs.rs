@@ -1,13 +1,15 @@
-//! Long runs of accepted plans, with fixed ticks and without, and with a good list of pairs. After every
-//! pass, accepted or refused, demand 3 and what else 02's No. 4 says of a run are checked on the
-//! simulator's two books, which are fed the library's replies and nothing of the state; and the queue
+//! Long runs of accepted plans, with fixed ticks and floors and without, and with a good list of pairs.
+//! After every pass, accepted or refused, demand 3 and what else 02's No. 4 says of a run are checked on
+//! the simulator's two books, which are fed the library's replies and nothing of the state; and the queue
 //! shown must be the one of the plain schedule's book, and what the state has left of each job what the
 //! dispatcher's book has. What No. 5 promises is checked on that book before every accepted pass. After
 //! every pass the total that No. 6 has answered is the plain schedule's, and what No. 7 promises of the
-//! valve's finishes is checked on the dispatcher's book before the pass and after it.
+//! valve's finishes is checked on the dispatcher's book before the pass and after it. The level of every
+//! new order is the one that No. 8 has, worked out from the two books.
 
 use crate::both::{Both, Call, Kind, ACCEPTED};
 use crate::dispatch::{as_simulated, STATE_BYTES};
+use crate::floored::Floored;
 use crate::gaps::{Gaps, Stand};
 use crate::made::bench_plan;
 use crate::refreshes::Refreshes;
@@ -15,7 +17,6 @@ use crate::sums::{Step, Sums};
 use crate::turns::Turns;
 use crate::view::{queue_bytes, told, View};
 use differ::dispatcher::Order;
-use sim::block::Edition;
 use sim::books::{demand3_holds, lone_finishes_hold, pairs_hold};
 use sim::books::{total_holds, ActualBook, PlainBook};
 use sim::job::Left;
@@ -26,7 +27,8 @@ use sim::plan::{judge_list, Task};
 use sim::random::blocks::block_of;
 use sim::random::pairs::{bad_list, good_list};
 use sim::random::passes::any_pass;
-use sim::random::plans::{full_plan, plan_at_level, plan_at_level_within, valve_plan, SMALL_BASES};
+use sim::random::plans::{full_plan, plan_at_level, plan_at_level_within, valve_plan};
+use sim::random::plans::{with_floors, SMALL_BASES};
 use sim::random::tables::{levels_of_count, some_levels};
 use sim::random::Random;
 use sim::state::unpack;
@@ -70,10 +72,14 @@ struct Tally {
     /// Runs of plans with fixed ticks, and of plans without.
     with_fixed: u64,
     without: u64,
+    /// The same of floors.
+    with_floors: u64,
+    no_floor: u64,
     gaps: Gaps,
     turns: Turns,
     sums: Sums,
     refreshes: Refreshes,
+    floored: Floored,
 }
 
 impl Tally {
@@ -93,15 +99,22 @@ impl Tally {
         assert!(self.stayed_in_fixed >= stayed, "{self:?}");
         assert!(self.interrupted_in_fixed >= interrupted, "{self:?}");
     }
+
+    /// Wants so many runs with floors and without, and each kind of order that a floor has a say in.
+    #[track_caller]
+    fn wants_floors(&self, runs: u64, orders: u64) {
+        let enough = self.with_floors >= runs && self.no_floor >= runs;
+        assert!(enough, "{self:?}");
+        self.floored.wants(orders);
+    }
 }
 
 struct Run {
     plan: Vec<Task>,
     /// The list that it was started with.
     pairs: Vec<u8>,
-    /// How many levels there are.
-    levels: usize,
-    nominal: u8,
+    levels: Levels,
+    nominal: usize,
     state: [u8; STATE_BYTES],
     order: Order,
     actual: ActualBook,
@@ -123,8 +136,8 @@ impl Run {
             .start(&block, &pairs, &mut state)
             .expect("the plan is an accepted one");
         let run = Run {
-            levels: levels.count(),
-            nominal: judge_list(levels, &plan).unwrap().nominal as u8,
+            levels: levels.clone(),
+            nominal: judge_list(levels, &plan).unwrap().nominal,
             actual: ActualBook::new(levels, &plan, as_simulated(order)),
             plain: PlainBook::new(levels, &plan),
             valve: Refresh::new(&plan),
@@ -179,7 +192,9 @@ impl Run {
             self.note(view, d, finished, order, tally);
             self.order = order;
         }
-        tally.gaps.note(&self.stand(), reply.ok().map(|_| finished));
+        let accepted = reply.ok().map(|_| finished);
+        tally.gaps.note(&self.stand(), accepted);
+        tally.floored.note(&self.stand(), self.order, accepted);
         self.check(both);
         self.actual.forget_closed();
         self.plain.forget_closed();
@@ -207,7 +222,7 @@ impl Run {
             Order::Idle { .. } => tally.idle += 1,
             Order::Run { level, .. } => {
                 tally.levels[usize::from(level)] += 1;
-                tally.below_nominal += u64::from(level < self.nominal);
+                tally.below_nominal += u64::from(usize::from(level) < self.nominal);
             }
         }
     }
@@ -215,7 +230,8 @@ impl Run {
     fn stand(&self) -> Stand<'_> {
         Stand {
             plan: &self.plan,
-            levels: self.levels,
+            levels: &self.levels,
+            nominal: self.nominal,
             actual: &self.actual,
             plain: &self.plain,
         }
@@ -276,9 +292,13 @@ fn run(
     tally: &mut Tally,
 ) {
     let mut run = Run::new(both, levels, plan.to_vec());
-    match Edition::of_tasks(plan) {
-        Edition::FIRST => tally.without += 1,
-        _ => tally.with_fixed += 1,
+    match plan.iter().any(|task| task.fixed > 0) {
+        false => tally.without += 1,
+        true => tally.with_fixed += 1,
+    }
+    match plan.iter().any(|task| task.floor > 0) {
+        false => tally.no_floor += 1,
+        true => tally.with_floors += 1,
     }
     for _ in 0..passes {
         run.step(both, random, style, tally);
@@ -295,7 +315,7 @@ fn long_runs_at_every_level() {
     let mut random = Random::new(401);
     let mut tally = Tally::new();
     for level in 0..levels.count() {
-        for round in 0..48 {
+        for round in 0..160 {
             let base = random.pick(&SMALL_BASES);
             let plan = plan_at_level_within(&mut random, &levels, level, base);
             let style = STYLES[round % STYLES.len()];
@@ -328,6 +348,7 @@ fn long_runs_at_every_level() {
     tally.sums.wants(10);
     tally.sums.wants_none_replaced();
     tally.refreshes.wants(25_000, 800);
+    tally.wants_floors(80, 60);
 }
 
 /// The same where the plain schedule has no tick to spare: would catch a level that is one too low,
@@ -367,6 +388,7 @@ fn long_runs_of_full_plans() {
     tally.sums.wants_full(2_000);
     tally.sums.wants_none_replaced();
     tally.refreshes.wants(5_000, 100);
+    tally.wants_floors(30, 10);
 }
 
 /// A plan at any level, a full one if told so. Half of them are at the highest, which few tables would
@@ -394,7 +416,7 @@ fn runs_with_any_table() {
     let mut both = Both::new(&Levels::base());
     let mut random = Random::new(405);
     let mut tally = Tally::new();
-    for round in 0..900 {
+    for round in 0..1_600 {
         let levels = some_levels(&mut random);
         let plan = short_plan(&mut random, &levels, round % 3 == 0);
         let board = (&levels, &plan[..]);
@@ -419,6 +441,7 @@ fn runs_with_any_table() {
     tally.sums.wants(10);
     tally.sums.wants_none_replaced();
     tally.refreshes.wants(25_000, 900);
+    tally.wants_floors(200, 50);
 }
 
 /// Would catch a table that is mixed up with another one: a state goes on with its own, whatever is
@@ -490,9 +513,10 @@ fn runs_inside_the_fixed_ticks() {
     while runs < 240 {
         let levels = some_levels(&mut random);
         let plan = mostly_fixed(&mut random);
-        if judge_list(&levels, &plan).is_err() {
-            continue;
-        }
+        let plan = match judge_list(&levels, &plan) {
+            Ok(judged) => with_floors(&mut random, &levels, judged.nominal, plan),
+            Err(_) => continue,
+        };
         let board = (&levels, &plan[..]);
         let style = STYLES[runs % STYLES.len()];
         run(&mut both, &mut random, board, style, 120, &mut tally);
@@ -509,6 +533,7 @@ fn runs_inside_the_fixed_ticks() {
     tally.sums.wants(100);
     tally.sums.wants_none_replaced();
     tally.refreshes.wants(4_000, 1);
+    tally.wants_floors(50, 5);
 }
 
 /// A plan of one to four tasks, whose jobs are soon alone. Where there is a lower level than the nominal
@@ -526,11 +551,14 @@ fn plan_of_few(random: &mut Random, levels: &Levels) -> Vec<Task> {
                 period,
                 worst: random.between(1, most),
                 fixed: random.between(0, most_fixed),
+                floor: 0,
             }
         };
         let plan: Vec<Task> = (0..count).map(task).collect();
         match judge_list(levels, &plan) {
-            Ok(judged) if judged.nominal > 0 || levels.count() == 1 => return plan,
+            Ok(judged) if judged.nominal > 0 || levels.count() == 1 => {
+                return with_floors(random, levels, judged.nominal, plan)
+            }
             _ => {}
         }
     }
@@ -544,7 +572,7 @@ fn runs_with_lone_jobs() {
     let mut both = Both::new(&Levels::base());
     let mut random = Random::new(408);
     let mut tally = Tally::new();
-    for round in 0..1_600 {
+    for round in 0..4_000 {
         let levels = levels_of_count(&mut random, 1 + round % MOST_LEVELS as usize);
         let plan = plan_of_few(&mut random, &levels);
         let board = (&levels, &plan[..]);
@@ -563,6 +591,7 @@ fn runs_with_lone_jobs() {
     tally.sums.wants(1_500);
     tally.sums.wants_none_replaced();
     tally.refreshes.wants(18_000, 10);
+    tally.wants_floors(400, 150);
 }
 
 /// A plan of two to six tasks with few periods, each a multiple of the shortest and in any order, so
@@ -580,11 +609,12 @@ fn plan_of_multiples(random: &mut Random, levels: &Levels) -> Vec<Task> {
                 period,
                 worst: random.between((most / 2).max(1), most.max(1)),
                 fixed: random.between(0, most_fixed),
+                floor: 0,
             }
         };
         let plan: Vec<Task> = (0..count).map(task).collect();
-        if judge_list(levels, &plan).is_ok() {
-            return plan;
+        if let Ok(judged) = judge_list(levels, &plan) {
+            return with_floors(random, levels, judged.nominal, plan);
         }
     }
 }
@@ -597,7 +627,7 @@ fn runs_with_pairs() {
     let mut both = Both::new(&Levels::base());
     let mut random = Random::new(409);
     let mut tally = Tally::new();
-    for round in 0..1_600 {
+    for round in 0..2_000 {
         let levels = levels_of_count(&mut random, 1 + round % MOST_LEVELS as usize);
         let plan = plan_of_multiples(&mut random, &levels);
         let board = (&levels, &plan[..]);
@@ -613,6 +643,7 @@ fn runs_with_pairs() {
     tally.sums.wants(1_500);
     tally.sums.wants_none_replaced();
     tally.refreshes.wants(18_000, 30);
+    tally.wants_floors(400, 150);
 }
 
 /// The same where the valve's jobs end early and late (02, No. 7): would catch a finish that lies a tick
@@ -623,7 +654,7 @@ fn runs_of_the_valve() {
     let mut both = Both::new(&Levels::base());
     let mut random = Random::new(410);
     let mut tally = Tally::new();
-    for round in 0..1_200 {
+    for round in 0..1_400 {
         let levels = levels_of_count(&mut random, 1 + round % MOST_LEVELS as usize);
         let plan = valve_plan(&mut random, &levels);
         let board = (&levels, &plan[..]);
@@ -637,6 +668,7 @@ fn runs_of_the_valve() {
     tally.sums.wants_none_replaced();
     tally.refreshes.wants(40_000, 10_000);
     tally.refreshes.wants_each(400);
+    tally.floored.wants_above(500);
 }
 
 /// Two to five tasks with much in fixed ticks and little work, periods short and long.
@@ -653,6 +685,7 @@ fn mostly_fixed(random: &mut Random) -> Vec<Task> {
             period: (1..=period).rev().find(|it| base % it == 0).unwrap_or(1),
             worst: random.between(1, 60),
             fixed: random.between(share / 2, share - 1).min(255),
+            floor: 0,
         }
     };
     (0..count).map(task).collect()

@@ -2,7 +2,7 @@
 
 use crate::both::{Both, Call, ACCEPTED};
 use crate::dispatch::STATE_BYTES;
-use crate::made::{bench_plan, fixed_tasks, has_periods, plan_of_count, tasks};
+use crate::made::{bench_plan, fixed_tasks, floor_tasks, has_periods, plan_of_count, tasks};
 use differ::dispatcher::Order;
 use sim::block::{pack_block, Edition};
 use sim::levels::Levels;
@@ -88,9 +88,9 @@ fn refused_blocks_in_buffers_of_every_length() {
     let bench = block_of(&bench_plan());
     let mut closed = bench.clone();
     closed[14] |= 4;
-    // The block of one task has no closing bits in edition 2; these are its spare ones.
-    let mut spare = block_of(&fixed_tasks(&[(40, 300, 5)]));
-    spare[6] |= 2;
+    // The block of two tasks has one closing bit in edition 2.
+    let mut closed_second = block_of(&fixed_tasks(&[(40, 300, 5), (40, 300, 0)]));
+    closed_second[12] |= 1;
     let refused = [
         (vec![], 1),
         (bench[..1].to_vec(), 1),
@@ -100,7 +100,7 @@ fn refused_blocks_in_buffers_of_every_length() {
         (bench[..14].to_vec(), 4),
         ([&bench[..], &[0]].concat(), 4),
         (closed, 5),
-        (spare, 5),
+        (closed_second, 5),
         (block_of_no_additions(&bench_plan()), 21),
         (block_of(&fixed_tasks(&[(10, 40, 10)])), 8),
         (block_of(&tasks(&[(10, 400), (10, 0)])), 6),
@@ -116,7 +116,11 @@ fn refused_blocks_in_buffers_of_every_length() {
         &[0xff; 4],
         &[0; 34],
     ];
-    for (block, number) in refused {
+    let floored = block_of(&floor_tasks(&[(40, 300, 0, 1), (40, 300, 0, 2)]));
+    let base = refused.map(|(block, number)| (Levels::base(), block, number));
+    let two_levels = (Levels::new(&[50, 100]), floored, 24);
+    for (levels, block, number) in base.into_iter().chain([two_levels]) {
+        both.load(&levels);
         for room in 0..=STATE_BYTES + 40 {
             for pairs in lists {
                 let reply = put_start(&mut both, &mut random, (&block, pairs), room);
@@ -125,7 +129,7 @@ fn refused_blocks_in_buffers_of_every_length() {
         }
     }
     both.saw("refused blocks in buffers of every length", 21_000);
-    for number in (1..=8).chain([21]) {
+    for number in (1..=8).chain([21, 24]) {
         both.wants(Call::Start, number, 1_500);
     }
 }
@@ -163,7 +167,7 @@ fn starts_of_plans_of_every_kind() {
             full_plan(&mut random, &levels, level),
             plan_one_over(&mut random, &levels, level),
             plan_at_largest_hyperperiod(&mut random, &levels),
-            plan_above_largest_hyperperiod(&mut random),
+            plan_above_largest_hyperperiod(&mut random, &levels),
             edge_list(&mut random, &levels),
         ];
         for list in lists {
@@ -174,7 +178,7 @@ fn starts_of_plans_of_every_kind() {
     both.wants(Call::Start, ACCEPTED, 3_000);
     both.wants_editions(&[Call::Start], 1_000);
     both.wants_lists(&[Call::Start], 500);
-    for number in [6, 7, 8, 9] {
+    for number in [6, 7, 8, 9, 24] {
         both.wants(Call::Start, number, 100);
     }
     both.wants(Call::Start, 22, 6_000);
@@ -211,7 +215,7 @@ fn starts_of_damaged_blocks() {
         }
     }
     both.saw("starts of damaged blocks", 45_000);
-    for number in [ACCEPTED, 1, 2, 3, 4, 5, 6, 7, 8, 9, 21] {
+    for number in [ACCEPTED, 1, 2, 3, 4, 5, 6, 7, 8, 9, 21, 24] {
         both.wants(Call::Start, number, 15);
     }
     for call in [Call::Pairs, Call::Start] {

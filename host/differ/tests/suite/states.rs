@@ -8,10 +8,10 @@ use crate::sums::sum_of;
 use crate::view::{told, View};
 use sim::dispatch::{choose, sound};
 use sim::job::{time_needed, Left};
-use sim::layout::{entry_at, of_task};
+use sim::layout::{entry_at, of_task, put_floor};
 use sim::layout::{speed_of, LEVEL_COUNT, SPEEDS};
 use sim::layout::{CLOCK, COUNT, ENTRIES, ENTRIES_END, FIXED, FIXED_LEFT, HEAD_ZERO, LEVEL, TASK};
-use sim::layout::{SPEEDS_END, TOTAL};
+use sim::layout::{FLOOR_AND_WORST, SPEEDS_END, TOTAL};
 use sim::levels::{Levels, FASTEST, MOST_LEVELS};
 use sim::plan::{judge_list, Task, LARGEST_FIXED};
 use sim::random::states::{
@@ -437,6 +437,7 @@ fn rubbish() {
             for task in 0..ENTRIES {
                 of_task(task, FIXED).put(&mut state, 0);
                 of_task(task, FIXED_LEFT).put(&mut state, 0);
+                put_floor(&mut state, task, 0);
             }
         }
         let _ = put_state(&mut both, &mut random, &state);
@@ -458,21 +459,24 @@ fn soundness_is_asked_first() {
     let (good, _) = reached_state(&mut random, &Levels::base(), &bench_plan(), 0);
     // Places where a 1 is wrong: in the head, as fixed ticks of the first task, for which there is no
     // room, or as ones left of them, past the third entry, in the count of levels, in the last speed,
-    // and in the total, which is 14, at either end.
+    // and in the total, which is 14, at either end. Of a floor it is an 8 or more, as there are eight levels.
     let bad_places = [
-        HEAD_ZERO.at,
-        of_task(0, FIXED).at,
-        of_task(0, FIXED_LEFT).at,
-        entry_at(3),
-        ENTRIES_END - 1,
-        LEVEL_COUNT.at,
-        SPEEDS_END - 1,
-        TOTAL.at,
-        STATE_BYTES - 1,
+        (HEAD_ZERO.at, 1),
+        (of_task(0, FLOOR_AND_WORST).at, 0x80),
+        (of_task(2, FLOOR_AND_WORST).at, 0xf0),
+        (of_task(0, FIXED).at, 1),
+        (of_task(0, FIXED_LEFT).at, 1),
+        (entry_at(3), 1),
+        (of_task(3, FLOOR_AND_WORST).at, 0x10),
+        (ENTRIES_END - 1, 1),
+        (LEVEL_COUNT.at, 1),
+        (SPEEDS_END - 1, 1),
+        (TOTAL.at, 1),
+        (STATE_BYTES - 1, 1),
     ];
-    for place in bad_places {
+    for (place, value) in bad_places {
         let mut bad = good;
-        bad[place] = 1;
+        bad[place] = value;
         for d in [0, 1, 4, 5, 11, u32::MAX] {
             for finished in [0, 1] {
                 assert_eq!(both.pass(&mut bad, d, finished), Err(10));
@@ -482,7 +486,7 @@ fn soundness_is_asked_first() {
             assert_eq!(both.show(&bad, room), Err(10));
         }
     }
-    both.saw("soundness first", 198);
-    both.wants(Call::Pass, 10, 60);
-    both.wants(Call::Show, 10, 50);
+    both.saw("soundness first", 264);
+    both.wants(Call::Pass, 10, 144);
+    both.wants(Call::Show, 10, 120);
 }

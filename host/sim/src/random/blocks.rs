@@ -4,7 +4,7 @@ use super::passes::any_pass;
 use super::Random;
 use crate::block::{head, pack_block, Edition};
 use crate::block::{
-    COUNT_BITS, EDITION_BITS, FIXED_BITS, HEAD_BITS, PERIOD_BITS, SPARE_BITS, WORST_BITS,
+    COUNT_BITS, EDITION_BITS, FIXED_BITS, FLOOR_BITS, HEAD_BITS, PERIOD_BITS, WORST_BITS,
 };
 use crate::dispatch::{pass, start};
 use crate::layout::STATE_BYTES;
@@ -17,28 +17,28 @@ pub fn block_of(tasks: &[Task]) -> Vec<u8> {
     pack_block(Edition::of_tasks(tasks), tasks.len() as u64, tasks)
 }
 
-/// The same tasks without their fixed ticks, in a block of edition 2 all the same: one for 21, if
-/// nothing else is asked of it before.
+/// The same tasks without their fixed ticks and their floors, in a block of edition 2 all the same: one
+/// for 21, if nothing else is asked of it before.
 pub fn block_of_no_additions(tasks: &[Task]) -> Vec<u8> {
     let mut tasks = tasks.to_vec();
     for task in &mut tasks {
         task.fixed = 0;
+        task.floor = 0;
     }
     pack_block(Edition::SECOND, tasks.len() as u64, &tasks)
 }
 
-/// The block cut, made longer, with bits flipped, with closing or spare bits set, with another
-/// edition or count, or with a field or all fixed ticks set to zero. Now and then the damage leaves
-/// it as it was.
+/// The block cut, made longer, with bits flipped, with closing bits set, with another floor, edition or
+/// count, or with a field or all additions set to zero. Now and then the damage leaves it as it was.
 pub fn damaged_block(random: &mut Random, block: &[u8]) -> Vec<u8> {
     let mut damaged = block.to_vec();
     match random.below(10) {
         0..=3 => damage_bytes(random, &mut damaged),
         4 => set_closing_bit(random, &mut damaged),
-        5 => set_spare_bit(random, &mut damaged),
+        5 => put_a_floor(random, &mut damaged),
         6 => put_bits(&mut damaged, 0, EDITION_BITS, random.number()),
         7 => put_bits(&mut damaged, EDITION_BITS, COUNT_BITS, random.number()),
-        8 => clear_fixed_ticks(&mut damaged),
+        8 => clear_additions(&mut damaged),
         _ => clear_field(random, &mut damaged),
     }
     damaged
@@ -105,19 +105,19 @@ fn additions(block: &[u8]) -> Vec<usize> {
     }
 }
 
-/// Sets one of the spare bits of a task.
-fn set_spare_bit(random: &mut Random, block: &mut [u8]) {
+/// Gives a task any floor that fits its bits, which the table may have a level for or not.
+fn put_a_floor(random: &mut Random, block: &mut [u8]) {
     let additions = additions(block);
     if !additions.is_empty() {
         let from = random.pick(&additions) + FIXED_BITS;
-        put_bits(block, from + random.place(SPARE_BITS), 1, 1);
+        put_bits(block, from, FLOOR_BITS, random.number());
     }
 }
 
-/// Sets the fixed ticks of every task to zero.
-fn clear_fixed_ticks(block: &mut [u8]) {
+/// Sets the fixed ticks and the floor of every task to zero.
+fn clear_additions(block: &mut [u8]) {
     for from in additions(block) {
-        put_bits(block, from, FIXED_BITS, 0);
+        put_bits(block, from, FIXED_BITS + FLOOR_BITS, 0);
     }
 }
 

@@ -2,7 +2,7 @@
 //! behind them, on each side of the ticks to the next arrival; and the same with a second job open,
 //! where No. 4 allows nothing.
 
-use super::states::{invented_left, some_clock};
+use super::states::{highest_level, invented_left, some_clock};
 use super::Random;
 use crate::clock::LARGEST_CLOCK;
 use crate::dispatch::{by_urgency, choose, choose_with, ticks_to_next_arrival, Rule};
@@ -15,7 +15,7 @@ use crate::schedule::allotment;
 use crate::state::{pack, unpack, Entry, Running, State};
 
 /// How the only open job of a state stands. Its plan, clock and entries are good otherwise, and the
-/// order runs it at a level no higher than nominal.
+/// order runs it at a level from its floor to the higher of nominal and floor, but for the last two.
 #[derive(Clone, Copy, PartialEq, Eq, PartialOrd, Ord, Debug)]
 pub enum Lone {
     /// Its time at nominal is within its plain ticks, and the order's level meets 01's allowance.
@@ -32,18 +32,26 @@ pub enum Lone {
     /// The same with one tick more than these, so not sound. Often 01's allowance is met all the same.
     OverGap,
     /// Ahead of its plain ticks, and the order's level is the next below the lowest that meets 01's
-    /// allowance or the ticks to the next arrival, so not sound.
+    /// allowance or the ticks to the next arrival, so not sound. It is no lower than the floor.
     TooSlow,
+    /// 02, No. 8: the order's level is below the floor, so not sound. With that level as its floor it would
+    /// be, ahead of its plain ticks or behind them.
+    BelowFloor,
+    /// The order's level is above the higher of nominal and floor, so not sound. With that level as its
+    /// floor it would be.
+    TooFast,
 }
 
 impl Lone {
-    pub const ALL: [Lone; 6] = [
+    pub const ALL: [Lone; 8] = [
         Lone::Ahead,
         Lone::ByGap,
         Lone::Behind,
         Lone::AtGap,
         Lone::OverGap,
         Lone::TooSlow,
+        Lone::BelowFloor,
+        Lone::TooFast,
     ];
 
     pub const SOUND: [Lone; 4] = [Lone::Ahead, Lone::ByGap, Lone::Behind, Lone::AtGap];
@@ -87,8 +95,9 @@ pub fn sound_lone_state(
 }
 
 /// One of this kind, if one is found. Not every plan has each: a job that takes a tick at every level
-/// is never one over, and with a period of 1 nothing is less than the ticks to the next arrival. A job
-/// ahead of its plain ticks there is in every plan.
+/// is never one over, with a period of 1 nothing is less than the ticks to the next arrival, and with a
+/// single level none is below a floor or above nominal. A job ahead of its plain ticks there is in every
+/// plan. For an order below the floor the running job's task gets another one than the plan's.
 fn lone_state_of(
     random: &mut Random,
     levels: &Levels,
@@ -100,10 +109,10 @@ fn lone_state_of(
             return (pack(&state), wanted);
         }
     }
-    // The nominal level meets the job's own plain ticks.
+    // The nominal level meets the job's own plain ticks, and so does a floor above it.
     let mut ahead = try_ahead(random, levels, tasks);
     if let Some(order) = &mut ahead.running {
-        order.level = nominal_level(levels, tasks);
+        order.level = highest_level(&tasks[order.task], nominal_level(levels, tasks));
     }
     (pack(&ahead), Lone::Ahead)
 }
@@ -185,7 +194,24 @@ fn try_lone(random: &mut Random, levels: &Levels, tasks: &[Task], kind: Lone) ->
             let mut order = choose(&state)?;
             order.level = order.level.checked_sub(1)?;
             state.running = Some(order);
-            Some(state)
+            let floor = tasks[order.task].floor;
+            (order.level as u64 >= floor).then_some(state)
+        }
+        Lone::BelowFloor => {
+            let lower = without_floors(tasks);
+            let (mut state, order) = try_sound(random, levels, &lower)?;
+            let floor = random.between(order.level as u64 + 1, levels.count() as u64);
+            put_back_floors(&mut state, tasks);
+            state.entries[order.task].task.floor = floor.min(levels.top() as u64);
+            (order.level < levels.top()).then_some(state)
+        }
+        Lone::TooFast => {
+            let (mut state, mut order) = try_sound(random, levels, tasks)?;
+            let highest = highest_level(&tasks[order.task], nominal_level(levels, tasks));
+            let past = random.between(highest as u64 + 1, levels.count() as u64);
+            order.level = past as usize;
+            state.running = Some(order);
+            (order.level <= levels.top()).then_some(state)
         }
         Lone::Behind => try_behind(random, levels, tasks, |random, gap| {
             (gap > 1).then(|| random.between(1, gap - 1))
@@ -195,8 +221,27 @@ fn try_lone(random: &mut Random, levels: &Levels, tasks: &[Task], kind: Lone) ->
     }
 }
 
+/// A sound one of some kind, and its order.
+fn try_sound(random: &mut Random, levels: &Levels, tasks: &[Task]) -> Option<(State, Running)> {
+    let kind = random.pick(&Lone::SOUND);
+    let state = try_lone(random, levels, tasks, kind)?;
+    let order = state.running?;
+    Some((state, order))
+}
+
+fn without_floors(tasks: &[Task]) -> Vec<Task> {
+    let without = |task: &Task| Task { floor: 0, ..*task };
+    tasks.iter().map(without).collect()
+}
+
+fn put_back_floors(state: &mut State, tasks: &[Task]) {
+    for (entry, task) in state.entries.iter_mut().zip(tasks) {
+        entry.task.floor = task.floor;
+    }
+}
+
 /// A lone job ahead of its plain ticks, at any level from the lowest that meets its allowance to the
-/// nominal one.
+/// highest that it may have.
 fn try_ahead(random: &mut Random, levels: &Levels, tasks: &[Task]) -> State {
     let nominal = nominal_level(levels, tasks);
     let mut state = ended_state(random, levels, tasks);
@@ -208,7 +253,8 @@ fn try_ahead(random: &mut Random, levels: &Levels, tasks: &[Task]) -> State {
     let task = random.place(tasks.len());
     state.entries[task] = ahead_entry(random, &tasks[task], levels.speed(nominal));
     let mut order = choose(&state).expect("a job is open");
-    order.level = random.between(order.level as u64, nominal as u64) as usize;
+    let highest = highest_level(&tasks[task], nominal);
+    order.level = random.between(order.level as u64, highest as u64) as usize;
     state.running = Some(order);
     state
 }
@@ -224,7 +270,8 @@ fn try_behind(
     let nominal = nominal_level(levels, tasks);
     let mut state = ended_state(random, levels, tasks);
     let task = random.place(tasks.len());
-    let level = random.between(0, nominal as u64) as usize;
+    let highest = highest_level(&tasks[task], nominal);
+    let level = random.between(tasks[task].floor, highest as u64) as usize;
     state.clock = clock_near_arrival(random, tasks);
     let ticks = ticks_of(random, ticks_to_next_arrival(&state))?;
     let left = left_that_needs(random, &tasks[task], levels.speed(level), ticks)?;

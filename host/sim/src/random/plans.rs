@@ -1,5 +1,7 @@
 //! Random plans: accepted ones at a chosen level, ones on each side of an edge, and lists with
-//! fields at and past their ranges. About half of the plans have no fixed ticks.
+//! fields at and past their ranges. About half of the plans have no fixed ticks, and about half no
+//! floor. What a plan is chosen for has nothing to do with its floors, so they are given to it at the
+//! end.
 
 use super::Random;
 use crate::job::time_needed;
@@ -41,31 +43,35 @@ pub fn plan_at_level_within(
     let usable = usable_periods(base);
     let speed = levels.speed(level);
     let with_fixed = tries_fixed(random);
-    until_found(|| {
+    let tasks = until_found(|| {
         let count = random.between(1, LARGEST_COUNT);
         let periods: Vec<u64> = (0..count).map(|_| random.pick(&usable)).collect();
         let allotments = random_allotments(random, &periods, speed)?;
         let tasks = tasks_with(random, &periods, &allotments, speed, with_fixed);
         let judged = judge_list(levels, &tasks).ok()?;
         (judged.nominal == level).then_some(tasks)
-    })
+    });
+    with_floors(random, levels, level, tasks)
 }
 
 /// A plan with hyperperiod 1,000,000 exactly, accepted.
 pub fn plan_at_largest_hyperperiod(random: &mut Random, levels: &Levels) -> Vec<Task> {
     let with_fixed = tries_fixed(random);
-    until_found(|| {
+    let (tasks, nominal) = until_found(|| {
         let periods = periods_with_hyperperiod(random, LARGEST_HYPERPERIOD)?;
         let speed = random.pick(levels.speeds());
         let allotments = random_allotments(random, &periods, speed)?;
         let tasks = tasks_with(random, &periods, &allotments, speed, with_fixed);
-        judge_list(levels, &tasks).is_ok().then_some(tasks)
-    })
+        let judged = judge_list(levels, &tasks).ok()?;
+        Some((tasks, judged.nominal))
+    });
+    with_floors(random, levels, nominal, tasks)
 }
 
 /// A plan whose hyperperiod is a little above 1,000,000. Its worst cases are anything in range, so
-/// that question 8 would often say no as well, were it asked.
-pub fn plan_above_largest_hyperperiod(random: &mut Random) -> Vec<Task> {
+/// that question 8 would often say no as well, were it asked. Its floors are levels of the table: 24
+/// would be told before 7.
+pub fn plan_above_largest_hyperperiod(random: &mut Random, levels: &Levels) -> Vec<Task> {
     let periods = until_found(|| {
         let above = LARGEST_HYPERPERIOD + random.between(1, 1_000);
         periods_with_hyperperiod(random, above)
@@ -82,19 +88,24 @@ pub fn plan_above_largest_hyperperiod(random: &mut Random) -> Vec<Task> {
             period,
             worst,
             fixed: some_fixed(random, with_fixed, LARGEST_FIXED),
+            floor: 0,
         });
     }
-    tasks
+    // It has no nominal level; any will do in its place.
+    let level = random.place(levels.count());
+    with_floors(random, levels, level, tasks)
 }
 
-/// A plan whose admission sum at the level is the hyperperiod exactly.
+/// A plan whose admission sum at the level is the hyperperiod exactly. Often the level is nominal.
 pub fn full_plan(random: &mut Random, levels: &Levels, level: usize) -> Vec<Task> {
-    plan_with_sum(random, levels.speed(level), 0)
+    let tasks = plan_with_sum(random, levels.speed(level), 0);
+    with_floors(random, levels, level, tasks)
 }
 
 /// A plan whose admission sum at the level is one more than the hyperperiod.
 pub fn plan_one_over(random: &mut Random, levels: &Levels, level: usize) -> Vec<Task> {
-    plan_with_sum(random, levels.speed(level), 1)
+    let tasks = plan_with_sum(random, levels.speed(level), 1);
+    with_floors(random, levels, level, tasks)
 }
 
 /// A full plan at the level with all its ticks fully used, and one unit of work more in the last
@@ -114,7 +125,8 @@ pub fn plan_one_unit_over(random: &mut Random, levels: &Levels, level: usize) ->
 /// of its period, or shares it with a task that fills the rest. That one's period is a multiple of the
 /// valve's: at its arrival the valve comes first, and before its deadline the valve has to wait.
 pub fn valve_plan(random: &mut Random, levels: &Levels) -> Vec<Task> {
-    let speed = random.pick(levels.speeds());
+    let level = random.place(levels.count());
+    let speed = levels.speed(level);
     let with_fixed = tries_fixed(random);
     let period = random.between(1, 12);
     let any = random.between(1, period);
@@ -125,10 +137,32 @@ pub fn valve_plan(random: &mut Random, levels: &Levels) -> Vec<Task> {
         periods.push(times * period);
         ticks.push(times * (period - own));
     }
-    tasks_with(random, &periods, &ticks, speed, with_fixed)
+    let tasks = tasks_with(random, &periods, &ticks, speed, with_fixed);
+    with_floors(random, levels, level, tasks)
 }
 
-/// A list of 0 to 18 tasks, many of them with fields at and past their ranges.
+/// The same tasks with floors, two of three times: each has none, any that is a level of the table, the
+/// nominal one, the one above it, or one below. A table with a single level has no floor but none.
+pub fn with_floors(
+    random: &mut Random,
+    levels: &Levels,
+    nominal: usize,
+    mut tasks: Vec<Task>,
+) -> Vec<Task> {
+    let (nominal, top) = (nominal as u64, levels.top() as u64);
+    let without = random.one_in(3);
+    for task in &mut tasks {
+        let any = random.between(0, top);
+        let below = random.between(0, nominal);
+        let above = (nominal + 1).min(top);
+        let floor = random.pick(&[0, 0, any, below, nominal, above]);
+        task.floor = if without { 0 } else { floor };
+    }
+    tasks
+}
+
+/// A list of 0 to 18 tasks, many of them with fields at and past their ranges, and floors that name no
+/// level.
 pub fn edge_list(random: &mut Random, levels: &Levels) -> Vec<Task> {
     let level = random.place(levels.count());
     let mut tasks = plan_at_level(random, levels, level);
@@ -140,6 +174,7 @@ pub fn edge_list(random: &mut Random, levels: &Levels) -> Vec<Task> {
                 period: 1_000,
                 worst: 1,
                 fixed: 0,
+                floor: 0,
             },
         );
     }
@@ -148,10 +183,11 @@ pub fn edge_list(random: &mut Random, levels: &Levels) -> Vec<Task> {
     }
     for _ in 0..random.below(3) {
         let place = random.place(tasks.len());
-        match random.below(3) {
+        match random.below(4) {
             0 => tasks[place].period = edge_value(random, LARGEST_PERIOD),
             1 => tasks[place].worst = edge_value(random, LARGEST_WORST),
-            _ => tasks[place].fixed = edge_value(random, LARGEST_FIXED),
+            2 => tasks[place].fixed = edge_value(random, LARGEST_FIXED),
+            _ => tasks[place].floor = edge_floor(random, levels),
         }
     }
     tasks
@@ -170,9 +206,33 @@ pub fn edge_count_and_entries(random: &mut Random, levels: &Levels) -> (u64, Vec
             period: edge_value(random, LARGEST_PERIOD),
             worst: edge_value(random, LARGEST_WORST),
             fixed: edge_value(random, LARGEST_FIXED),
+            floor: edge_floor(random, levels),
         });
     }
     (count, tasks)
+}
+
+/// A floor at, near or far past the highest level of the table. Some would be one of its levels with
+/// high bits left out.
+fn edge_floor(random: &mut Random, levels: &Levels) -> u64 {
+    let (top, count) = (levels.top() as u64, levels.count() as u64);
+    let near = [0, 1, top, count, count + 1, 7, 8];
+    let far = [
+        8 + top,
+        15,
+        16,
+        255,
+        256,
+        1 << 16,
+        1 << 31,
+        u64::from(u32::MAX),
+        1 << 32,
+        u64::MAX,
+    ];
+    match random.below(3) {
+        0 => random.pick(&far),
+        _ => random.pick(&near),
+    }
 }
 
 /// A value at, near or far past the ends of the range from 1 to the largest.
@@ -228,6 +288,7 @@ fn hyperperiod_of(periods: &[u64]) -> Option<u64> {
             period: *period,
             worst: 1,
             fixed: 0,
+            floor: 0,
         })
         .collect();
     hyperperiod(&tasks)
@@ -277,9 +338,9 @@ fn some_fixed(random: &mut Random, with_fixed: bool, most: u64) -> u64 {
     }
 }
 
-/// Tasks that take exactly these ticks at the speed. If told so, some of the ticks are fixed ones. As
-/// these are the same at the speeds below, a plan at a level is harder to find with them, so now and
-/// then there are none all the same.
+/// Tasks that take exactly these ticks at the speed, without floors. If told so, some of the ticks are
+/// fixed ones. As these are the same at the speeds below, a plan at a level is harder to find with them,
+/// so now and then there are none all the same.
 fn tasks_with(
     random: &mut Random,
     periods: &[u64],
@@ -302,6 +363,7 @@ fn tasks_with(
             period: *period,
             worst: (ticks - fixed) * speed - unused,
             fixed,
+            floor: 0,
         });
     }
     tasks
@@ -347,7 +409,7 @@ fn prime_powers(number: u64) -> Vec<u64> {
     powers
 }
 
-/// A plan whose admission sum at the speed is the hyperperiod plus the extra ticks.
+/// A plan without floors whose admission sum at the speed is the hyperperiod plus the extra ticks.
 fn plan_with_sum(random: &mut Random, speed: u64, extra: u64) -> Vec<Task> {
     let base = random.pick(&FULL_BASES);
     let usable = usable_periods(base);

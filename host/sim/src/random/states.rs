@@ -57,9 +57,9 @@ pub fn late_state(random: &mut Random, block: &[u8; STATE_BYTES]) -> [u8; STATE_
 }
 
 /// A sound state with any clock and any progress of the jobs, most likely one that no run from a
-/// start can reach. The level of its order is anything from the lowest that fits to the nominal. One
-/// of four has exactly one open job, often one behind its plain ticks (02, No. 4). One of eight, where
-/// the plan has it, has plain ticks left in an entry that is about to be replaced (02, No. 6).
+/// start can reach. The level of its order is anything from the lowest that fits to the highest that is
+/// sound. One of four has exactly one open job, often one behind its plain ticks (02, No. 4). One of
+/// eight, where the plan has it, has plain ticks left in an entry that is about to be replaced (02, No. 6).
 pub fn invented_state(random: &mut Random, levels: &Levels, tasks: &[Task]) -> [u8; STATE_BYTES] {
     match random.below(8) {
         0 | 1 => sound_lone_state(random, levels, tasks).0,
@@ -92,8 +92,14 @@ pub(super) fn with_some_order(random: &mut Random, state: &mut State) {
     let judged = judge_list(&state.levels, &state.tasks()).expect("the plan is an accepted one");
     state.running = choose(state);
     if let Some(running) = &mut state.running {
-        running.level = random.between(running.level as u64, judged.nominal as u64) as usize;
+        let highest = highest_level(&state.entries[running.task].task, judged.nominal);
+        running.level = random.between(running.level as u64, highest as u64) as usize;
     }
+}
+
+/// The highest level that a sound order may run the task's job at: "the higher of nominal and floor".
+pub(super) fn highest_level(task: &Task, nominal: usize) -> usize {
+    nominal.max(task.floor as usize)
 }
 
 /// An early clock, one near the largest, or any.
@@ -204,16 +210,17 @@ fn with_a_field_changed(random: &mut Random, block: &[u8; STATE_BYTES]) -> Vec<u
     let (mut state, judged) = unpack_sound(block);
     let place = random.place(state.entries.len());
     let mut forged = block.to_vec();
-    match random.below(12) {
+    match random.below(14) {
         0 => layout::CLOCK.put(&mut forged, another_clock(random, state.clock)),
         1 => layout::TASK.put(&mut forged, another_task(random, &state, place)),
         2 => {
             let level = layout::LEVEL.get(block);
-            let other = another_level(random, &state.levels, judged.nominal, level);
+            let other = another_level(random, &state, judged.nominal, level);
             layout::LEVEL.put(&mut forged, other);
         }
         3 => layout::COUNT.put(&mut forged, another_count(random, &state)),
         4 => fill_an_empty_byte(random, &mut forged, state.entries.len()),
+        12 | 13 => put_another_floor(random, &mut forged, &state, judged.nominal),
         kind => {
             let nominal = state.levels.speed(judged.nominal);
             change_an_entry(random, &mut state.entries[place], kind, nominal);
@@ -316,11 +323,36 @@ fn another_task(random: &mut Random, state: &State, place: usize) -> u64 {
     random.pick(&[0, 1, most - 1, most, 254, 255, count, place as u64])
 }
 
-/// Where it is below 0, its byte is the largest.
-fn another_level(random: &mut Random, levels: &Levels, nominal: usize, level: u64) -> u64 {
-    let (top, nominal) = (levels.top() as u64, nominal as u64);
+/// At and beside the bounds that a sound order's level has. Where it is below 0, its byte is the largest.
+fn another_level(random: &mut Random, state: &State, nominal: usize, level: u64) -> u64 {
+    let (top, nominal) = (state.levels.top() as u64, nominal as u64);
+    let floor = state
+        .running
+        .map_or(0, |order| state.entries[order.task].task.floor);
     let lower = level.wrapping_sub(1);
-    random.pick(&[0, top, top + 1, 255, nominal, nominal + 1, lower])
+    let above = nominal.max(floor) + 1;
+    let below = floor.wrapping_sub(1);
+    let ends = [0, top, top + 1, 255];
+    let bounds = [nominal, nominal + 1, lower, floor, above, below];
+    random.pick(&[&ends[..], &bounds].concat())
+}
+
+/// Any of the sixteen floors that four bits hold, or one at an edge, in the entry of the task that runs or
+/// in any other: at the ends of the table, past it, and at and beside the order's level and the nominal
+/// one.
+fn put_another_floor(random: &mut Random, block: &mut [u8], state: &State, nominal: usize) {
+    let (nominal, count) = (nominal as u64, state.levels.count() as u64);
+    let level = layout::LEVEL.get(block);
+    let any = random.below(16);
+    let near = [level, level + 1, level.saturating_sub(1)];
+    let edges = [any, any, 0, nominal, nominal + 1, count - 1, count, 8, 15];
+    let floor = random.pick(&[&edges[..], &near].concat());
+    let some = random.place(state.entries.len());
+    let task = match state.running {
+        Some(order) if random.one_in(2) => order.task,
+        _ => some,
+    };
+    layout::put_floor(block, task, floor);
 }
 
 fn another_count(random: &mut Random, state: &State) -> u64 {
@@ -339,12 +371,14 @@ fn fill_an_empty_byte(random: &mut Random, block: &mut [u8], count: usize) {
     block[random.pick(&empty)] = random.number() as u8;
 }
 
-/// Other work, fixed ticks or plain ticks left, or another period, worst case or fixed ticks.
+/// Other work, fixed ticks or plain ticks left, or another period, worst case or fixed ticks. A worst case
+/// past its range doesn't fit its bits, and its lowest ones are 0.
 fn change_an_entry(random: &mut Random, entry: &mut Entry, kind: u64, nominal: u64) {
     let Task {
         period,
         worst,
         fixed,
+        ..
     } = entry.task;
     let Left {
         fixed: fixed_left,

@@ -65,6 +65,7 @@ fn entries_past_the_count_are_not_looked_at() {
         period: 0,
         worst: u64::MAX,
         fixed: u64::MAX,
+        floor: u64::MAX,
     });
     assert_eq!(judge(3, &long), judge_list(&bench_plan()));
     assert_eq!(judge(4, &long), Err(6));

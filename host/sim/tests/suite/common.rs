@@ -23,21 +23,30 @@ pub const BENCH_PASSES: [(u32, bool); 6] = [
 
 /// Tasks from pairs of period and worst case, without fixed ticks.
 pub fn tasks(pairs: &[(u64, u64)]) -> Vec<Task> {
-    let task = |(period, worst): &(u64, u64)| task(*period, *worst, 0);
+    let task = |(period, worst): &(u64, u64)| task(*period, *worst, 0, 0);
     pairs.iter().map(task).collect()
 }
 
-/// Tasks from period, worst case and fixed ticks.
+/// Tasks from period, worst case and fixed ticks, without floors.
 pub fn fixed_tasks(triples: &[(u64, u64, u64)]) -> Vec<Task> {
-    let task = |(period, worst, fixed): &(u64, u64, u64)| task(*period, *worst, *fixed);
+    let task = |(period, worst, fixed): &(u64, u64, u64)| task(*period, *worst, *fixed, 0);
     triples.iter().map(task).collect()
 }
 
-fn task(period: u64, worst: u64, fixed: u64) -> Task {
+/// Tasks from period, worst case, fixed ticks and floor.
+pub fn floor_tasks(numbers: &[(u64, u64, u64, u64)]) -> Vec<Task> {
+    let task = |(period, worst, fixed, floor): &(u64, u64, u64, u64)| {
+        task(*period, *worst, *fixed, *floor)
+    };
+    numbers.iter().map(task).collect()
+}
+
+fn task(period: u64, worst: u64, fixed: u64, floor: u64) -> Task {
     Task {
         period,
         worst,
         fixed,
+        floor,
     }
 }
 

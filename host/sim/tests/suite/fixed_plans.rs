@@ -10,7 +10,7 @@ use sim::random::blocks::{block_of, block_of_no_additions};
 use sim::state::unpack;
 
 /// Period 40, worst case 300 and 5 fixed ticks, packed by hand: 0010 00001, 16 and 20 bits as in 01's
-/// example, 00000101, 000. That is 56 bits, so no closing bit.
+/// example, 00000101, and 000 for no floor. That is 56 bits, so no closing bit.
 const EXAMPLE: [u8; 7] = [0x20, 0x80, 0x14, 0x00, 0x09, 0x60, 0x28];
 
 /// Each call that reads the block wants this refusal, with no byte changed.
@@ -163,18 +163,25 @@ fn each_edition_has_its_own_length() {
     }
 }
 
+/// 02, No. 8: the three bits behind the fixed ticks, which were spare and tested under 5, are the floor.
 #[test]
-fn spare_and_closing_bits() {
+fn floor_and_closing_bits() {
     for count in 1..=16 {
         let good = fixed_tasks(&vec![(4_000, 37, 4); count]);
         // 6 and 21 come later.
         let bad = fixed_tasks(&vec![(0, 37, 0); count]);
-        for plan in [good, bad] {
+        for (plan, number) in [(good, None), (bad, Some(6))] {
             let block = pack_block(Edition::SECOND, count as u64, &plan);
             let end = 9 + 47 * count;
             for task in 0..count {
-                for spare in 44..47 {
-                    refuses_block(&flipped(block.clone(), 9 + 47 * task + spare), 5);
+                for (bit, floor) in [(44, 4), (45, 2), (46, 1)] {
+                    let other = flipped(block.clone(), 9 + 47 * task + bit);
+                    let mut floored = plan.clone();
+                    floored[task].floor = floor;
+                    match number {
+                        Some(number) => refuses_block(&other, number),
+                        None => accepts_block(&other, &floored),
+                    }
                 }
             }
             for closing in end..8 * block.len() {
@@ -182,8 +189,8 @@ fn spare_and_closing_bits() {
             }
         }
     }
-    // The bit before the spare ones is the last of the fixed ticks, the one behind them is the next
-    // task's or a closing one.
+    // The bit before the floor is the last of the fixed ticks, the one behind it is the next task's or a
+    // closing one.
     let plan = fixed_tasks(&[(4_000, 37, 4), (4_000, 37, 4)]);
     let odd = fixed_tasks(&[(4_000, 37, 5), (4_000, 37, 4)]);
     accepts_block(&flipped(block_of(&plan), 9 + 43), &odd);
@@ -264,9 +271,12 @@ fn number_21() {
             accepts_block(&block_of(&plan), &plan);
             plan[place].fixed = 0;
         }
-        // After 4 and 5.
+        // After 4 and 5. With one task and with nine there is no closing bit.
         refuses_block(&block[..block.len() - 1], 4);
-        refuses_block(&flipped(block.clone(), 9 + 46), 5);
+        let last = 8 * block.len() - 1;
+        if last >= 9 + 47 * count {
+            refuses_block(&flipped(block.clone(), last), 5);
+        }
     }
     // After 6.
     refuses_block(&block_of_no_additions(&tasks(&[(0, 37)])), 6);
@@ -307,11 +317,11 @@ fn the_bench_cuts_by_edition_too() {
     let first = pack_block(Edition::FIRST, 2, &sensor_plan());
     let passed = [&first[..], &[0x80, 0x04]].concat();
     assert_eq!(text(&passed), "plan 2 2 40\n0 run 0 2 4\n4 run 1 2 6\n");
-    // With 21 and with 5 there is one line, whatever follows.
+    // With 21 and with 5 there is one line, whatever follows. The last bit is a closing one.
     let needless = [&block_of_no_additions(&sensor_plan())[..], &[0x80, 0x05]].concat();
     assert_eq!(text(&needless), "refused 21\n");
-    let spare = [&flipped(block, 9 + 45)[..], &[0x80, 0x05]].concat();
-    assert_eq!(text(&spare), "refused 5\n");
+    let closing = [&flipped(block, 9 + 94)[..], &[0x80, 0x05]].concat();
+    assert_eq!(text(&closing), "refused 5\n");
 }
 
 #[test]

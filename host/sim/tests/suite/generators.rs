@@ -94,7 +94,10 @@ fn plans_come_with_and_without_fixed_ticks() {
             ("level", plan_at_level(&mut random, &levels, level)),
             ("small", small_plan(&mut random, round)),
             ("largest", plan_at_largest_hyperperiod(&mut random, &levels)),
-            ("above", plan_above_largest_hyperperiod(&mut random)),
+            (
+                "above",
+                plan_above_largest_hyperperiod(&mut random, &levels),
+            ),
             ("full", full_plan(&mut random, &levels, level)),
             ("over", plan_one_over(&mut random, &levels, level)),
             ("unit", plan_one_unit_over(&mut random, &levels, level)),
@@ -114,6 +117,62 @@ fn plans_come_with_and_without_fixed_ticks() {
     assert_eq!(fixed_ticks, (0..=255).collect());
 }
 
+fn has_floor(tasks: &[Task]) -> bool {
+    tasks.iter().any(|task| task.floor > 0)
+}
+
+/// Where a floor stands, if there is one.
+fn kind_of_floor(floor: u64, nominal: usize) -> &'static str {
+    match (floor, nominal as u64) {
+        (0, _) => "none",
+        (floor, nominal) if floor < nominal => "below",
+        (floor, nominal) if floor == nominal => "at",
+        (floor, nominal) if floor == nominal + 1 => "next",
+        _ => "far above",
+    }
+}
+
+#[test]
+fn plans_come_with_and_without_floors() {
+    let mut random = Random::new(32);
+    let mut seen: BTreeMap<(&str, bool, bool), u32> = BTreeMap::new();
+    let mut floors: BTreeMap<&str, u32> = BTreeMap::new();
+    for _ in 0..1_200 {
+        let levels = some_or_base_levels(&mut random);
+        let level = random.place(levels.count());
+        let plans = [
+            ("level", plan_at_level(&mut random, &levels, level)),
+            ("largest", plan_at_largest_hyperperiod(&mut random, &levels)),
+            (
+                "above",
+                plan_above_largest_hyperperiod(&mut random, &levels),
+            ),
+            ("full", full_plan(&mut random, &levels, level)),
+            ("over", plan_one_over(&mut random, &levels, level)),
+            ("unit", plan_one_unit_over(&mut random, &levels, level)),
+            ("valve", valve_plan(&mut random, &levels)),
+        ];
+        for (kind, tasks) in plans {
+            *seen
+                .entry((kind, has_fixed(&tasks), has_floor(&tasks)))
+                .or_default() += 1;
+            // All of them are levels of the table.
+            assert!(tasks.iter().all(|task| task.floor < levels.count() as u64));
+            if let Ok(judged) = sim::plan::judge_list(&levels, &tasks) {
+                for task in &tasks {
+                    let kind = kind_of_floor(task.floor, judged.nominal);
+                    *floors.entry(kind).or_default() += 1;
+                }
+            }
+        }
+    }
+    // Each kind in all four ways.
+    assert_eq!(seen.len(), 28, "{seen:?}");
+    assert!(seen.values().all(|times| *times > 120), "{seen:?}");
+    assert_eq!(floors.len(), 5, "{floors:?}");
+    assert!(floors.values().all(|times| *times > 400), "{floors:?}");
+}
+
 #[test]
 fn plans_around_the_largest_hyperperiod() {
     let levels = Levels::base();
@@ -122,7 +181,7 @@ fn plans_around_the_largest_hyperperiod() {
         let tasks = plan_at_largest_hyperperiod(&mut random, &levels);
         assert_eq!(judge_list(&tasks).unwrap().hyperperiod, 1_000_000);
         assert_eq!(
-            judge_list(&plan_above_largest_hyperperiod(&mut random)),
+            judge_list(&plan_above_largest_hyperperiod(&mut random, &levels)),
             Err(7)
         );
     }
@@ -190,11 +249,13 @@ fn edge_lists_meet_every_answer_and_agree() {
     let mut random = Random::new(5);
     let mut answers = BTreeSet::new();
     let mut editions = BTreeSet::new();
-    let mut refused_for_fixed = 0;
-    for _ in 0..600 {
+    let (mut refused_for_fixed, mut far_floors) = (0, 0);
+    for _ in 0..800 {
         let list = edge_list(&mut random, &levels);
         answers.insert(judge_list(&list).err());
         refused_for_fixed += u32::from(only_fixed_is_out_of_range(&list));
+        let is_far = |task: &Task| task.floor > u64::from(u16::MAX);
+        far_floors += u32::from(judge_list(&list) == Err(24) && list.iter().any(is_far));
         let (count, entries) = edge_count_and_entries(&mut random, &levels);
         let judged = judge(count, &entries);
         answers.insert(judged.err());
@@ -216,10 +277,11 @@ fn edge_lists_meet_every_answer_and_agree() {
     }
     assert_eq!(
         answers,
-        BTreeSet::from([None, Some(3), Some(6), Some(7), Some(8)])
+        BTreeSet::from([None, Some(3), Some(6), Some(7), Some(8), Some(24)])
     );
     assert_eq!(editions, BTreeSet::from([1, 2]));
     assert!(refused_for_fixed > 20, "{refused_for_fixed}");
+    assert!(far_floors > 15, "{far_floors}");
 }
 
 /// Refused with 6, and not if the fixed ticks past 255 were none.
@@ -265,18 +327,21 @@ fn damaged_blocks_meet_every_answer_and_write_back() {
             }
         }
     }
+    // With eight levels every floor that a block can hold is one of them.
     assert_eq!(answers.len(), 10, "accepted, 1 to 8, 21: {answers:?}");
     assert_eq!(editions, BTreeSet::from([1, 2]));
 }
 
 #[test]
-fn damaged_blocks_of_edition_2_have_spare_bits_set_or_no_additions() {
-    let levels = Levels::base();
+fn damaged_blocks_of_edition_2_have_other_floors_or_no_additions() {
     let mut random = Random::new(18);
-    let (mut spare, mut closing, mut none) = (0, 0, 0);
-    for round in 0..2_000 {
-        let tasks = plan_at_level(&mut random, &levels, round % levels.count());
-        if !has_fixed(&tasks) {
+    let (mut other, mut no_level, mut closing, mut none) = (0, 0, 0, 0);
+    for _ in 0..3_000 {
+        let levels = some_or_base_levels(&mut random);
+        let level = random.place(levels.count());
+        let read_plan = |block: &[u8]| sim::plan::read_plan(&levels, block);
+        let tasks = plan_at_level(&mut random, &levels, level);
+        if !has_fixed(&tasks) && !has_floor(&tasks) {
             assert_eq!(read_plan(&block_of_no_additions(&tasks)), Err(21));
             continue;
         }
@@ -287,22 +352,110 @@ fn damaged_blocks_of_edition_2_have_spare_bits_set_or_no_additions() {
             continue;
         }
         let set = |place: usize| damaged[place / 8] & (0x80 >> (place % 8)) != 0;
-        let spare_set = (9..end).any(|place| (place - 9) % 47 >= 44 && set(place));
-        let closing_set = (end..8 * block.len()).any(set);
         match read_plan(&damaged) {
             Err(5) => {
-                assert!(spare_set || closing_set);
-                spare += u32::from(!closing_set);
-                closing += u32::from(!spare_set);
+                assert!((end..8 * block.len()).any(set));
+                closing += 1;
             }
             Err(21) => none += 1,
+            Err(24) => no_level += 1,
+            Ok((read, _)) => other += u32::from(floors_of(&read) != floors_of(&tasks)),
             _ => {}
         }
     }
     assert!(
-        spare > 40 && closing > 40 && none > 40,
-        "{spare} {closing} {none}"
+        other > 60 && no_level > 60 && closing > 60 && none > 60,
+        "{other} {no_level} {closing} {none}"
     );
+}
+
+fn floors_of(tasks: &[Task]) -> Vec<u64> {
+    tasks.iter().map(|task| task.floor).collect()
+}
+
+/// What a state's order is to its floors, where there is one.
+#[test]
+fn invented_and_reached_states_have_orders_at_and_above_floors() {
+    let mut random = Random::new(33);
+    let mut seen: BTreeMap<&str, u32> = BTreeMap::new();
+    for round in 0..10_000 {
+        let (levels, tasks) = any_plan(&mut random);
+        let block = match round % 2 {
+            0 => invented_state(&mut random, &levels, &tasks),
+            _ => reached_state(&mut random, &levels, &tasks, 12).0,
+        };
+        assert!(is_sound(&block));
+        let state = sim::state::unpack(&block).unwrap();
+        assert_eq!(state.tasks(), tasks);
+        let order = match state.running {
+            Some(order) => order,
+            None => continue,
+        };
+        let judged = sim::plan::judge_list(&levels, &tasks).unwrap();
+        let floor = tasks[order.task].floor as usize;
+        let kind = match order.level {
+            _ if floor == 0 => "none",
+            level if level == floor && floor > judged.nominal => "above nominal",
+            level if level == floor => "at it",
+            _ => "above it",
+        };
+        *seen.entry(kind).or_default() += 1;
+    }
+    assert_eq!(seen.len(), 4, "{seen:?}");
+    assert!(seen.values().all(|times| *times > 200), "{seen:?}");
+}
+
+/// Every floor that four bits hold gets into a state, and whether it is sound then hangs on the table and
+/// on the order.
+#[test]
+fn forged_states_have_every_floor() {
+    let mut random = Random::new(34);
+    let mut nibbles: BTreeMap<u64, u32> = BTreeMap::new();
+    let (mut no_level, mut over_the_order, mut under, mut sound_still) = (0, 0, 0, 0);
+    for _ in 0..30_000 {
+        let (levels, tasks) = any_plan(&mut random);
+        let block = invented_state(&mut random, &levels, &tasks);
+        let forged = forged_state(&mut random, &block);
+        let before = sim::state::unpack(&block).unwrap();
+        let after = match sim::state::unpack(&forged) {
+            // Nothing but a floor has changed.
+            Some(after) if is_but_for_floors(&before, &after) => after,
+            _ => continue,
+        };
+        for task in 0..tasks.len() {
+            if after.tasks()[task].floor != tasks[task].floor {
+                *nibbles.entry(after.tasks()[task].floor).or_default() += 1;
+            }
+        }
+        let is_level = |task: &Task| task.floor < levels.count() as u64;
+        let floor = after.running.map(|it| after.tasks()[it.task].floor);
+        let level = after.running.map(|it| it.level as u64);
+        let in_table = after.tasks().iter().all(is_level);
+        assert!(in_table || !is_sound(&forged));
+        no_level += u32::from(!in_table);
+        over_the_order += u32::from(in_table && floor > level);
+        under += u32::from(in_table && floor <= level && !is_sound(&forged));
+        sound_still += u32::from(is_sound(&forged));
+    }
+    assert_eq!(nibbles.len(), 16, "{nibbles:?}");
+    assert!(nibbles.values().all(|times| *times > 10), "{nibbles:?}");
+    // The third kind is an order above nominal whose floor is below it.
+    assert!(
+        no_level > 100 && over_the_order > 60 && under > 20 && sound_still > 200,
+        "{no_level} {over_the_order} {under} {sound_still}"
+    );
+}
+
+/// Whether two states differ, and in floors alone.
+fn is_but_for_floors(one: &sim::state::State, other: &sim::state::State) -> bool {
+    let mut same = other.clone();
+    if same.entries.len() != one.entries.len() {
+        return false;
+    }
+    for (entry, own) in same.entries.iter_mut().zip(&one.entries) {
+        entry.task.floor = own.task.floor;
+    }
+    same == *one && other != one
 }
 
 #[test]
@@ -587,6 +740,10 @@ struct Told {
     gap: u64,
     /// Whether the order's level meets 01's allowance.
     meets_base: bool,
+    /// The order's level, its job's floor, and the higher of that and nominal.
+    level: usize,
+    floor: usize,
+    highest: usize,
 }
 
 fn told(block: &[u8]) -> Told {
@@ -613,6 +770,9 @@ fn told(block: &[u8]) -> Told {
         order_time: time_at(running.level),
         gap: tasks.iter().map(deadline).min().unwrap() - state.clock,
         meets_base: time_at(running.level) <= base,
+        level: running.level,
+        floor: entry.task.floor as usize,
+        highest: judged.nominal.max(entry.task.floor as usize),
     }
 }
 
@@ -620,14 +780,19 @@ fn told(block: &[u8]) -> Told {
 fn is_of_kind(told: &Told, kind: Lone) -> bool {
     let behind = told.nominal_time > told.plain_left;
     let meets_gap = told.order_time <= told.gap;
-    match kind {
+    let holds = match kind {
         Lone::Ahead => !behind && told.meets_base,
         Lone::ByGap => !behind && !told.meets_base && meets_gap,
         Lone::Behind => behind && told.order_time < told.gap,
         Lone::AtGap => behind && told.order_time == told.gap,
         Lone::OverGap => behind && told.order_time == told.gap + 1,
         Lone::TooSlow => !behind && !told.meets_base && !meets_gap,
-    }
+        Lone::BelowFloor => told.level < told.floor,
+        Lone::TooFast => told.level > told.highest,
+    };
+    // Of the last two alone the level is out of its bounds.
+    let out_of_bounds = !(told.floor..=told.highest).contains(&told.level);
+    holds && out_of_bounds == matches!(kind, Lone::BelowFloor | Lone::TooFast)
 }
 
 #[test]
@@ -635,19 +800,26 @@ fn lone_states_are_of_the_kind_told() {
     let mut random = Random::new(19);
     let mut kinds: BTreeMap<(Lone, bool), u32> = BTreeMap::new();
     let mut counts = BTreeSet::new();
-    for _ in 0..6_000 {
+    for _ in 0..9_000 {
         let (levels, tasks) = any_plan(&mut random);
         let (state, kind) = lone_state(&mut random, &levels, &tasks);
         let told = told(&state);
         assert_eq!(told.open, 1);
         assert!(is_of_kind(&told, kind), "{kind:?} {state:?}");
         assert_eq!(is_sound(&state), kind.is_sound(), "{kind:?} {state:?}");
+        // The floor is all that is wrong with an order below it, and with one above nominal.
+        if let Lone::BelowFloor | Lone::TooFast = kind {
+            let mut mended = sim::state::unpack(&state).unwrap();
+            let order = mended.running.unwrap();
+            mended.entries[order.task].task.floor = order.level as u64;
+            assert!(is_sound(&sim::state::pack(&mended)), "{state:?}");
+        }
         *kinds.entry((kind, told.meets_base)).or_default() += 1;
         counts.insert(tasks.len());
     }
-    // Those that are behind on either side of 01's allowance.
+    // Those that are behind, or whose level is wrong, on either side of 01's allowance.
     assert!(kinds.values().all(|times| *times > 200), "{kinds:?}");
-    assert_eq!(kinds.len(), 9, "{kinds:?}");
+    assert_eq!(kinds.len(), 13, "{kinds:?}");
     assert_eq!(counts, (1..=16).collect());
 }
 
@@ -726,6 +898,7 @@ fn small_plan_of_one() -> Vec<Task> {
         period: 10,
         worst: 95,
         fixed: 0,
+        floor: 0,
     }]
 }
 
@@ -734,7 +907,7 @@ fn invented_and_forged_states_have_lone_jobs_of_every_kind() {
     let mut random = Random::new(22);
     let mut invented: BTreeMap<Lone, u32> = BTreeMap::new();
     let (mut over, mut slower, mut in_company) = (0, 0, 0);
-    for _ in 0..12_000 {
+    for _ in 0..20_000 {
         let (levels, tasks) = any_plan(&mut random);
         let block = invented_state(&mut random, &levels, &tasks);
         assert!(is_sound(&block));
@@ -919,6 +1092,7 @@ fn replacing_states_are_sound_and_replace_ticks() {
         period: 3,
         worst: 10,
         fixed: 0,
+        floor: 0,
     }];
     let levels = Levels::base();
     assert_eq!(replacing_state(&mut random, &levels, &one_tick), None);

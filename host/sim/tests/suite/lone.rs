@@ -2,7 +2,7 @@
 //! tests.
 
 use crate::common::{
-    fixed_tasks, idle, is_sound, queue, refuses_pass, run, sensor_plan, tasks, unsound,
+    floor_tasks, idle, is_sound, queue, refuses_pass, run, sensor_plan, tasks, unsound,
 };
 use sim::dispatch::{choose_with, pass, sound, start, Order, Rule};
 use sim::forging::{self, Progress};
@@ -294,7 +294,7 @@ fn soundness_takes_the_time_at_the_orders_level() {
 }
 
 /// All states of a plan in its first hyperperiod, with any work, fixed ticks and plain ticks left that
-/// are in range, and any order to run a task.
+/// are in range, and any order to run a task at a level up to the highest that a sound one may have.
 fn every_state(speeds: &[u64], plan: &[Task], check: &mut impl FnMut([u8; STATE_BYTES])) {
     let levels = Levels::new(speeds);
     let judged = judge_list(&levels, plan).unwrap();
@@ -319,7 +319,7 @@ fn every_state(speeds: &[u64], plan: &[Task], check: &mut impl FnMut([u8; STATE_
     for clock in 0..judged.hyperperiod {
         for progress in &progress {
             for order in (0..plan.len()).flat_map(|task| {
-                let levels = 0..=judged.nominal;
+                let levels = 0..=judged.nominal.max(plan[task].floor as usize);
                 levels.map(move |level| (task, level))
             }) {
                 check(forged(speeds, plan, clock, order, progress));
@@ -332,16 +332,21 @@ fn every_state(speeds: &[u64], plan: &[Task], check: &mut impl FnMut([u8; STATE_
 /// alone.
 #[test]
 fn every_sound_state_of_small_plans_stays_sound() {
-    let plans: [(&[u64], &[(u64, u64, u64)]); 5] = [
-        (&[1], &[(4, 3, 0), (8, 2, 0)]),
-        (&[1, 2], &[(3, 2, 0), (3, 2, 0)]),
-        (&[1, 2], &[(2, 1, 0), (6, 4, 0)]),
-        (&[1, 2, 3], &[(4, 3, 0), (6, 4, 1)]),
-        (&[1, 2], &[(4, 2, 0), (4, 2, 0), (8, 2, 0)]),
+    let plans: [(&[u64], &[(u64, u64, u64, u64)]); 9] = [
+        (&[1], &[(4, 3, 0, 0), (8, 2, 0, 0)]),
+        (&[1, 2], &[(3, 2, 0, 0), (3, 2, 0, 0)]),
+        (&[1, 2], &[(2, 1, 0, 0), (6, 4, 0, 0)]),
+        (&[1, 2, 3], &[(4, 3, 0, 0), (6, 4, 1, 0)]),
+        (&[1, 2], &[(4, 2, 0, 0), (4, 2, 0, 0), (8, 2, 0, 0)]),
+        // 02, No. 8: floors at nominal and above it.
+        (&[1, 2], &[(4, 3, 0, 1), (4, 3, 0, 0)]),
+        (&[1, 2, 3], &[(4, 3, 0, 2), (4, 3, 0, 1)]),
+        (&[1, 2, 3], &[(4, 3, 0, 0), (6, 4, 1, 2)]),
+        (&[1, 2, 4], &[(4, 2, 0, 2), (4, 2, 0, 2), (8, 2, 0, 0)]),
     ];
     for (speeds, plan) in plans {
         let (mut sound_states, mut behind) = (0, 0);
-        every_state(speeds, &fixed_tasks(plan), &mut |state| {
+        every_state(speeds, &floor_tasks(plan), &mut |state| {
             let (now, judged) = match sound(&state) {
                 Some(found) => found,
                 None => return,

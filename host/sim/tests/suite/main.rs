@@ -9,6 +9,7 @@ mod common;
 mod edges;
 mod fixed_plans;
 mod fixed_ticks;
+mod floors;
 mod generators;
 mod knee;
 mod level_blocks;

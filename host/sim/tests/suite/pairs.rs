@@ -2,13 +2,13 @@
 //! good list changes neither the state nor an order, and what it promises of a run.
 
 use crate::base::{actual_book, start, BASE_LEVELS};
-use crate::common::{bench_plan, fixed_tasks, idle, run, sensor_plan, tasks, BENCH_BLOCK};
+use crate::common::{bench_plan, floor_tasks, idle, run, sensor_plan, tasks, BENCH_BLOCK};
 use sim::books::{pairs_hold, ActualBook};
 use sim::dispatch::{pass, Order};
 use sim::layout::STATE_BYTES;
 use sim::level_block::pack_levels;
 use sim::pairs::{pack_pairs, Pair};
-use sim::plan::Task;
+use sim::plan::{judge_list, Task};
 use sim::random::blocks::{block_of, block_of_no_additions};
 use sim::random::pairs::{any_list, bad_list, good_list, good_pairs};
 use sim::random::passes::any_pass;
@@ -284,6 +284,11 @@ fn refused_before() -> Vec<(u32, Vec<u8>, Vec<u8>)> {
         base(5, changed(14, 0xc1)),
         base(6, block_of(&tasks(&[(10, 400), (0, 400)]))),
         base(21, block_of_no_additions(&bench_plan())),
+        (
+            24,
+            pack_levels(1, &[100]),
+            block_of(&floor_tasks(&[(10, 400, 0, 0), (10, 400, 0, 1)])),
+        ),
         base(7, block_of(&tasks(&[(1_000, 1), (1_001, 1)]))),
         base(8, block_of(&tasks(&[(10, 400), (10, 400), (30, 601)]))),
     ]
@@ -477,6 +482,8 @@ struct Tally {
     newer_open: u64,
     /// Passes at which the list turned round breaks the promise.
     turned_round: u64,
+    /// Accepted passes of a pair's later task at a level above nominal (02, No. 8).
+    above_nominal: u64,
 }
 
 impl Tally {
@@ -535,16 +542,28 @@ fn run_with(random: &mut Random, levels: &Levels, plan: &[Task], passes: usize, 
     let (level_block, block) = (write_levels(levels), block_of(plan));
     let mut order = sim::start(&level_block, &block, &list, &mut state).unwrap();
     let mut book = ActualBook::new(levels, plan, order);
+    let nominal = judge_list(levels, plan).unwrap().nominal;
     tally.runs += 1;
     for _ in 0..passes {
         let (d, finished) = any_pass(random, order);
         let reply = pass(&mut state, d, finished);
         if let Ok(next) = reply {
             tally.check(plan, &book, &list);
+            tally.above_nominal += u64::from(runs_later_above(&list, order, nominal));
             order = next;
         }
         book.pass(d, finished, reply);
         book.forget_closed();
+    }
+}
+
+/// Whether the order runs the later task of a pair at a level above nominal.
+fn runs_later_above(list: &[u8], order: Order, nominal: usize) -> bool {
+    match order {
+        Order::Run { task, level, .. } => {
+            usize::from(level) > nominal && list.chunks(2).any(|pair| pair[1] == task)
+        }
+        Order::Idle { .. } => false,
     }
 }
 
@@ -569,6 +588,7 @@ fn the_promise_on_random_runs() {
     assert!(tally.runs > 700 && tally.accepted > 50_000, "{tally:?}");
     assert!(tally.later_runs > 10_000, "{tally:?}");
     assert!(tally.could_be_open > 10_000, "{tally:?}");
+    assert!(tally.above_nominal > 1_000, "{tally:?}");
     tally.wants(1_000);
 }
 
@@ -615,24 +635,27 @@ fn put_every_pass(
 }
 
 /// The speeds, the tasks, and up to which tick it is led.
-type SmallPlan = (&'static [u64], &'static [(u64, u64, u64)], u64);
+type SmallPlan = (&'static [u64], &'static [(u64, u64, u64, u64)], u64);
 
 /// Would catch a rare order of finishes that random runs miss: of small plans, with all their good
 /// pairs, all runs there are.
 #[test]
 fn the_promise_on_every_run_of_small_plans() {
-    let plans: [SmallPlan; 7] = [
-        (&[1, 2], &[(3, 2, 0), (3, 2, 0)], 12),
-        (&[1, 2], &[(2, 1, 0), (6, 4, 0)], 12),
-        (&[1, 2], &[(3, 2, 0), (6, 8, 0)], 18),
-        (&[1, 2], &[(9, 6, 0), (3, 4, 0)], 18),
-        (&[1, 3], &[(5, 4, 1), (5, 3, 0)], 10),
-        (&[1, 2], &[(8, 2, 0), (4, 2, 0), (4, 2, 0)], 8),
-        (&[2, 3, 5], &[(6, 5, 1), (3, 4, 0)], 12),
+    let plans: [SmallPlan; 9] = [
+        (&[1, 2], &[(3, 2, 0, 0), (3, 2, 0, 0)], 12),
+        (&[1, 2], &[(2, 1, 0, 0), (6, 4, 0, 0)], 12),
+        (&[1, 2], &[(3, 2, 0, 0), (6, 8, 0, 0)], 18),
+        (&[1, 2], &[(9, 6, 0, 0), (3, 4, 0, 0)], 18),
+        (&[1, 3], &[(5, 4, 1, 0), (5, 3, 0, 0)], 10),
+        (&[1, 2], &[(8, 2, 0, 0), (4, 2, 0, 0), (4, 2, 0, 0)], 8),
+        (&[2, 3, 5], &[(6, 5, 1, 0), (3, 4, 0, 0)], 12),
+        // 02, No. 8: the one task or the other above its nominal level, which is 1 in both.
+        (&[1, 2, 3], &[(3, 4, 0, 2), (6, 4, 0, 0)], 12),
+        (&[1, 2, 3], &[(3, 2, 0, 1), (6, 6, 0, 2)], 12),
     ];
     let mut tally = Tally::default();
     for (speeds, plan, until) in plans {
-        let (levels, plan) = (Levels::new(speeds), fixed_tasks(plan));
+        let (levels, plan) = (Levels::new(speeds), floor_tasks(plan));
         let list = pack_pairs(&good_pairs(&plan));
         let mut state = [0; STATE_BYTES];
         let block = block_of(&plan);

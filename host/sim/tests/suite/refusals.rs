@@ -1,5 +1,6 @@
 //! Each refusal number from 1 to 17 is reached, from every call that can give it, and the questions
-//! come in 01's order. 18 to 20 are in `level_blocks`, 21 is in `fixed_plans`, and 22 in `pairs`.
+//! come in 01's order. 18 to 20 are in `level_blocks`, 21 is in `fixed_plans`, 22 in `pairs`, and 24 in
+//! `floors`.
 
 use crate::base::{judge, judge_list, listing, read_plan, start, write_plan};
 use crate::common::{bench_plan, led, refuses_pass, refuses_show, tasks, BENCH_BLOCK};

@@ -1,8 +1,8 @@
 //! Random runs: plans led through passes, with demand 3, what 02's No. 4 says of the finishes, No. 6 of
-//! the total and No. 7 of the valve, the queue and the order checked after each against what the books
-//! alone say.
+//! the total, No. 7 of the valve and No. 8 of the level, the queue and the order checked after each
+//! against what the books alone say.
 
-use crate::common::{fixed_tasks, queue};
+use crate::common::{floor_tasks, queue};
 use sim::books::{
     demand3_holds, last_finish_past_plain, lone_finishes_hold, past_plain_finish, total_holds,
     ActualBook, BookJob, PlainBook,
@@ -42,6 +42,51 @@ struct Tally {
     lone: LoneTally,
     total: TotalTally,
     valve: ValveTally,
+    floors: FloorTally,
+}
+
+/// What 02's No. 8 is about.
+#[derive(Default, Debug)]
+struct FloorTally {
+    /// Runs of plans that have a floor.
+    runs: u64,
+    /// New orders for a task with a floor, at a level that without it would be lower: up to nominal, and
+    /// above it. Of a lone job, and of one in company. And those that the floor leaves as they are.
+    raised: u64,
+    above_nominal: u64,
+    alone: u64,
+    in_company: u64,
+    left_alone: u64,
+    /// Passes, accepted and refused, at whose end such an order above nominal stands.
+    stands: u64,
+    stands_refused: u64,
+    /// After these, a job is open past its plain finish in a plan that has a floor.
+    past_plain: u64,
+    /// A job that finished early with a level that its floor had raised.
+    early: u64,
+    /// The valve, task 0, was given a level above nominal.
+    valve_above: u64,
+}
+
+impl FloorTally {
+    /// Each of these at least so many times.
+    #[track_caller]
+    fn wants(&self, runs: u64, times: u64) {
+        assert!(self.runs > runs, "{self:?}");
+        let seen = [
+            self.raised,
+            self.above_nominal,
+            self.alone,
+            self.in_company,
+            self.left_alone,
+            self.stands,
+            self.stands_refused,
+            self.past_plain,
+            self.early,
+            self.valve_above,
+        ];
+        assert!(seen.iter().all(|seen| *seen > times), "{self:?}");
+    }
 }
 
 /// What 02's No. 7 is about.
@@ -204,6 +249,7 @@ struct Run {
     order: Order,
     actual: ActualBook,
     plain: PlainBook,
+    nominal: usize,
     /// What is left of each task's latest job, told by the passes and replies alone, tick by tick.
     left: Vec<Left>,
     valve: Refresh,
@@ -216,6 +262,7 @@ impl Run {
         let run = Run {
             actual: ActualBook::new(levels, &plan, order),
             plain: PlainBook::new(levels, &plan),
+            nominal: judge_list(levels, &plan).unwrap().nominal,
             left: plan.iter().map(Task::whole_job).collect(),
             valve: Refresh::new(&plan),
             levels: levels.clone(),
@@ -254,11 +301,14 @@ impl Run {
                 tally.refused += 1;
                 assert_eq!(self.state, before, "a refused pass changed the state");
                 tally.lone.past_plain_refused += u64::from(self.past_plain().is_some());
+                tally.floors.stands_refused += u64::from(self.is_above_nominal());
             }
             Ok(order) => {
                 tally.accepted += 1;
-                self.follow(d, finished, order, tally);
+                tally.floors.early += u64::from(self.finishes_early_by_floor(d, finished));
+                let is_new = self.follow(d, finished, order, tally);
                 self.count_lone(finished, &mut tally.lone);
+                self.count_floors(is_new, &mut tally.floors);
             }
         }
         self.check_books_and_queue();
@@ -266,8 +316,8 @@ impl Run {
         self.plain.forget_closed();
     }
 
-    /// Checks the order against the definitions, after an accepted pass.
-    fn follow(&mut self, d: u32, finished: bool, order: Order, tally: &mut Tally) {
+    /// Checks the order against the definitions, after an accepted pass. Says whether it is a new one.
+    fn follow(&mut self, d: u32, finished: bool, order: Order, tally: &mut Tally) -> bool {
         let mut in_fixed = false;
         if let Order::Run { task, level, .. } = self.order {
             let left = &mut self.left[usize::from(task)];
@@ -307,12 +357,62 @@ impl Run {
         match order {
             Order::Idle { .. } => tally.idle += 1,
             Order::Run { level, .. } => {
-                let nominal = judge_list(&self.levels, &self.plan).unwrap().nominal;
-                if usize::from(level) < nominal {
+                if usize::from(level) < self.nominal {
                     tally.below_nominal += 1;
                 }
             }
         }
+        finished || arrived
+    }
+
+    /// The task and the level of the order that stands.
+    fn running(&self) -> Option<(usize, usize)> {
+        match self.order {
+            Order::Run { task, level, .. } => Some((usize::from(task), usize::from(level))),
+            Order::Idle { .. } => None,
+        }
+    }
+
+    fn is_above_nominal(&self) -> bool {
+        matches!(self.running(), Some((_, level)) if level > self.nominal)
+    }
+
+    /// Whether such a pass ends a job that had time left at a level that is its floor's.
+    fn finishes_early_by_floor(&self, d: u32, finished: bool) -> bool {
+        let at_floor = |(task, level): &(usize, usize)| {
+            let floor = self.plan[*task].floor as usize;
+            floor > 0 && *level == floor
+        };
+        let has_time = |(task, level): (usize, usize)| {
+            time_needed(self.left[task], self.levels.speed(level)) > u64::from(d)
+        };
+        finished && self.running().filter(at_floor).map_or(false, has_time)
+    }
+
+    /// What an accepted pass, and the order that came of it, have to do with 02's No. 8.
+    fn count_floors(&self, is_new: bool, tally: &mut FloorTally) {
+        tally.stands += u64::from(self.is_above_nominal());
+        let has_floor = self.plan.iter().any(|task| task.floor > 0);
+        tally.past_plain += u64::from(has_floor && self.past_plain().is_some());
+        let (task, level) = match self.running() {
+            Some(order) if is_new && self.plan[order.0].floor > 0 => order,
+            _ => return,
+        };
+        let lowest = match self.new_order_from(|_| 0) {
+            Order::Run { level, .. } => usize::from(level),
+            Order::Idle { .. } => panic!("a job is open"),
+        };
+        let lone = self.open_jobs().len() == 1;
+        if level == lowest {
+            tally.left_alone += 1;
+            return;
+        }
+        assert_eq!(level, self.plan[task].floor as usize);
+        tally.raised += u64::from(level <= self.nominal);
+        tally.above_nominal += u64::from(level > self.nominal);
+        tally.alone += u64::from(lone);
+        tally.in_company += u64::from(!lone);
+        tally.valve_above += u64::from(task == VALVE && level > self.nominal);
     }
 
     /// The job that is open and closed in the plain schedule, if there is one.
@@ -373,8 +473,13 @@ impl Run {
         allowance
     }
 
-    /// A new order as 01 and 02's No. 4 define it, from the books and what is left of the jobs.
+    /// A new order as 01 and 02's No. 4 and No. 8 define it, from the books and what is left of the jobs.
     fn new_order(&self) -> Order {
+        self.new_order_from(|task| self.plan[task].floor as usize)
+    }
+
+    /// The same with these floors.
+    fn new_order_from(&self, floor: impl Fn(usize) -> usize) -> Order {
         let arrival = self.gap();
         let open = self.open_jobs();
         let urgent = open
@@ -396,7 +501,8 @@ impl Run {
         }
         let left = self.left[job.task];
         let needed = |level| time_needed(left, self.levels.speed(level));
-        let level = (0..self.levels.count())
+        // "the lowest at or above the floor that meets the allowance"
+        let level = (floor(job.task)..self.levels.count())
             .find(|level| needed(*level) <= allowance)
             .unwrap();
         let hold = needed(level).min(arrival) as u32;
@@ -484,12 +590,17 @@ fn run_on_a_small_plan(levels: &Levels, random: &mut Random, round: u32, tally: 
     if plan.iter().any(|task| task.period > 10_000) {
         return;
     }
-    tally.runs += 1;
-    tally.with_fixed += u64::from(plan.iter().any(|task| task.fixed > 0));
+    count_run(&plan, tally);
     let mut run = Run::new(levels, plan);
     for _ in 0..120 {
         run.step(random, tally);
     }
+}
+
+fn count_run(plan: &[Task], tally: &mut Tally) {
+    tally.runs += 1;
+    tally.with_fixed += u64::from(plan.iter().any(|task| task.fixed > 0));
+    tally.floors.runs += u64::from(plan.iter().any(|task| task.floor > 0));
 }
 
 #[test]
@@ -497,7 +608,7 @@ fn random_runs_on_small_plans() {
     let levels = Levels::base();
     let mut random = Random::new(2_001);
     let mut tally = Tally::default();
-    for round in 0..400 {
+    for round in 0..1_000 {
         run_on_a_small_plan(&levels, &mut random, round, &mut tally);
     }
     assert!(tally.runs > 350, "{}", tally.runs);
@@ -516,6 +627,7 @@ fn random_runs_on_small_plans() {
     tally.lone.wants(100);
     tally.total.wants(10);
     tally.valve.wants(10_000, 150);
+    tally.floors.wants(150, 50);
 }
 
 #[test]
@@ -539,7 +651,7 @@ fn random_runs_on_large_plans() {
 fn random_runs_with_random_tables() {
     let mut random = Random::new(2_003);
     let mut tally = Tally::default();
-    for round in 0..300 {
+    for round in 0..500 {
         let levels = some_levels(&mut random);
         run_on_a_small_plan(&levels, &mut random, round, &mut tally);
     }
@@ -552,6 +664,7 @@ fn random_runs_with_random_tables() {
     tally.lone.wants(50);
     tally.total.wants(4);
     tally.valve.wants(8_000, 100);
+    tally.floors.wants(100, 30);
 }
 
 /// Plans of one to four tasks, in which a job is often alone; of random tables and 01's.
@@ -567,8 +680,7 @@ fn random_runs_with_lone_jobs() {
         if plan.len() > 4 {
             continue;
         }
-        tally.runs += 1;
-        tally.with_fixed += u64::from(plan.iter().any(|task| task.fixed > 0));
+        count_run(&plan, &mut tally);
         let mut run = Run::new(&levels, plan);
         for _ in 0..60 {
             run.step(&mut random, &mut tally);
@@ -578,6 +690,7 @@ fn random_runs_with_lone_jobs() {
     tally.lone.wants(500);
     tally.total.wants(200);
     tally.valve.wants(30_000, 350);
+    tally.floors.wants(1_000, 200);
 }
 
 /// A pass after which the valve's job has ended with its first tick, or goes on for as long as it can, one
@@ -609,7 +722,7 @@ fn random_runs_of_the_valve() {
     while tally.runs < 1_000 {
         let levels = some_or_base_levels(&mut random);
         let plan = valve_plan(&mut random, &levels);
-        tally.runs += 1;
+        count_run(&plan, &mut tally);
         let mut run = Run::new(&levels, plan);
         for _ in 0..60 {
             let (d, finished) = swinging_pass(&run, &mut random);
@@ -617,6 +730,7 @@ fn random_runs_of_the_valve() {
         }
     }
     tally.valve.wants(20_000, 200);
+    assert!(tally.floors.valve_above > 500, "{tally:?}");
 }
 
 /// Every pass that may be accepted, and one refused with 14, up to a tick.
@@ -645,23 +759,33 @@ fn put_every_pass(run: &Run, until: u64, tally: &mut Tally) {
 #[test]
 fn every_run_of_small_plans() {
     let mut tally = Tally::default();
-    let plans: [(&[u64], &[(u64, u64, u64)], u64); 8] = [
-        (&[1, 2], &[(3, 2, 0), (3, 2, 0)], 12),
-        (&[1, 2], &[(2, 1, 0), (6, 4, 0)], 12),
-        (&[1, 2, 3], &[(4, 3, 0), (6, 5, 0)], 12),
-        (&[1, 3], &[(5, 4, 1), (5, 3, 0)], 10),
-        (&[1, 2], &[(4, 2, 0), (4, 2, 0), (8, 2, 0)], 8),
-        (&[2, 3, 5], &[(3, 4, 0), (6, 5, 1)], 12),
+    let plans: [(&[u64], &[(u64, u64, u64, u64)], u64); 13] = [
+        (&[1, 2], &[(3, 2, 0, 0), (3, 2, 0, 0)], 12),
+        (&[1, 2], &[(2, 1, 0, 0), (6, 4, 0, 0)], 12),
+        (&[1, 2, 3], &[(4, 3, 0, 0), (6, 5, 0, 0)], 12),
+        (&[1, 3], &[(5, 4, 1, 0), (5, 3, 0, 0)], 10),
+        (&[1, 2], &[(4, 2, 0, 0), (4, 2, 0, 0), (8, 2, 0, 0)], 8),
+        (&[2, 3, 5], &[(3, 4, 0, 0), (6, 5, 1, 0)], 12),
         // 02, No. 7: the valve alone, and before and after a task of twice its period.
-        (&[1], &[(2, 2, 0)], 12),
-        (&[1], &[(3, 1, 0), (6, 4, 0)], 12),
+        (&[1], &[(2, 2, 0, 0)], 12),
+        (&[1], &[(3, 1, 0, 0), (6, 4, 0, 0)], 12),
+        // 02, No. 8: a floor at nominal, under the one task and under the other; floors above nominal, of
+        // a task alone and beside others; and one with fixed ticks before it.
+        (&[1, 2], &[(3, 2, 0, 1), (3, 2, 0, 0)], 12),
+        (&[1, 2, 3], &[(4, 3, 0, 0), (6, 5, 0, 1)], 12),
+        (&[1, 2, 4], &[(4, 4, 0, 2)], 12),
+        (&[1, 2, 3], &[(3, 2, 0, 2), (3, 2, 0, 1), (6, 2, 0, 2)], 12),
+        (&[1, 2, 3], &[(5, 4, 1, 2), (5, 3, 0, 1)], 10),
     ];
     for (speeds, plan, until) in plans {
-        let run = Run::new(&Levels::new(speeds), fixed_tasks(plan));
+        let plan = floor_tasks(plan);
+        tally.floors.runs += u64::from(plan.iter().any(|task| task.floor > 0));
+        let run = Run::new(&Levels::new(speeds), plan);
         put_every_pass(&run, until, &mut tally);
     }
     assert!(tally.runs > 3_000, "{}", tally.runs);
     tally.lone.wants(100);
     tally.total.wants(60);
     tally.valve.wants(3_000, 200);
+    tally.floors.wants(4, 30);
 }

@@ -68,13 +68,18 @@ fn the_plan_within() {
         layout::COUNT.put(&mut forged, count);
         unsound(&forged);
     }
-    // 6. With a period of 65,535 a level admits this worst case, so the range alone is against it.
+    // 6. With a period of 65,535 a level admits the largest worst case. Since 02's No. 8 the next larger
+    // doesn't fit its 20 bits: in the three bytes it is a floor of 1 and a worst case of 0.
     unsound(&changed(|state| state.entries[0].task.period = 0));
-    let largest = unpack(&led(&tasks(&[(65_535, 1_048_575)]), &[]).0).unwrap();
-    is_sound(&pack(&largest));
-    let mut past = largest.clone();
-    past.entries[0].task.worst = 1_048_576;
-    unsound(&pack(&past));
+    let (largest, _) = led(&tasks(&[(65_535, 1_048_575)]), &[]);
+    is_sound(&largest);
+    let mut past = largest;
+    layout::of_task(0, layout::FLOOR_AND_WORST).put(&mut past, 1_048_576);
+    assert_eq!(
+        (layout::floor_in(&past, 0), layout::worst_in(&past, 0)),
+        (1, 0)
+    );
+    unsound(&past);
     // 7. With 1,000 beside it, 1,250 is a good period and 1,001 isn't.
     let mut pair = unpack(&led(&tasks(&[(1_000, 10), (1_000, 10)]), &[]).0).unwrap();
     pair.entries[1].task.period = 1_250;

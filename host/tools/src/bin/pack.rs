@@ -25,9 +25,10 @@ The text form, line by line:
 
   speeds S1 S2 ..        the levels' speeds, before all else; without this line
                          10 20 30 40 50 60 80 100
-  task PERIOD WORST [FIXED]
-                         a task, FIXED being its fixed ticks, 0 where it is left
-                         out; all tasks come before the passes
+  task PERIOD WORST [FIXED [FLOOR]]
+                         a task, FIXED being its fixed ticks and FLOOR the lowest
+                         level that it is run at, each 0 where it is left out; all
+                         tasks come before the passes
   before EARLIER LATER   a pair: task LATER reads what task EARLIER wrote; all
                          pairs come before the passes, and before or after the
                          tasks
@@ -36,12 +37,12 @@ The text form, line by line:
   # ...                  a comment, also after one of the above
 
 Blank lines are ignored. Numbers are decimal: a speed 0 to 1023, PERIOD 0 to
-65535, WORST 0 to 1048575, FIXED 0 to 255, EARLIER and LATER 0 to 255, D 0 to
-32767; at most 15 speeds and 31 tasks. The plan block is of edition 2 if a task
-has fixed ticks, else of edition 1. The bench program takes no pairs: to-bytes
-leaves them out, with a warning, and to-text knows of none. What the dispatcher
-would refuse can be packed too, as long as it fits; a warning then names the
-refusal.
+65535, WORST 0 to 1048575, FIXED 0 to 255, FLOOR 0 to 7, EARLIER and LATER 0 to
+255, D 0 to 32767; at most 15 speeds and 31 tasks. The plan block is of edition 2
+if a task has fixed ticks or a floor, else of edition 1. The bench program takes
+no pairs: to-bytes leaves them out, with a warning, and to-text knows of none.
+What the dispatcher would refuse can be packed too, as long as it fits; a warning
+then names the refusal.
 
 Errors name the line of the text (from 1) or the byte of the input (from 0).
 ";

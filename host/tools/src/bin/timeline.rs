@@ -21,8 +21,9 @@ to one hyperperiod past that end. Long runs are scaled down to fit.
 
 Each task has a row: its jobs as bars where they ran, as high as the level is
 fast among the loaded speeds, and beneath them the canonical (\"plain\")
-schedule. Fixed ticks are hatched in both. Refused passes are marked at their
-tick with their number. The legend tells the rest.
+schedule. Fixed ticks are hatched in both. A task with a floor has a line through
+its bars, at the height of the lowest level that it is run at. Refused passes are
+marked at their tick with their number. The legend tells the rest.
 
 --pairs takes the file of a list of pairs, as pack to-pairs writes it. An arrow
 then goes from the finish of each earlier task's job to the first bar of the

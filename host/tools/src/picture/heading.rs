@@ -52,11 +52,15 @@ fn title_words(run: &Run) -> Vec<String> {
         } else {
             ','
         };
-        let fixed = match task.fixed {
-            0 => String::new(),
-            ticks => format!(", {ticks}"),
+        let additions = match (task.fixed, task.floor) {
+            (0, 0) => String::new(),
+            (fixed, 0) => format!(", {fixed}"),
+            (fixed, floor) => format!(", {fixed}, {floor}"),
         };
-        parts.push(format!("({}, {}{fixed}){mark}", task.period, task.worst));
+        parts.push(format!(
+            "({}, {}{additions}){mark}",
+            task.period, task.worst
+        ));
     }
     parts.push(format!("nominal level {}", run.judged.nominal));
     parts

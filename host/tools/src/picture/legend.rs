@@ -1,9 +1,9 @@
 //! What the signs mean.
 
 use super::style::{
-    arrival_mark, bar, canonical_bar, colour, deadline_mark, finish_mark, fixed_part, idle_bar,
-    level_height, nominal_line, ordered_box, pair_arrow, past_part, rectangle, refused_mark,
-    soft_words, text_width, unused_box, words, INK,
+    arrival_mark, bar, canonical_bar, colour, deadline_mark, finish_mark, fixed_part, floor_line,
+    idle_bar, level_height, nominal_line, ordered_box, pair_arrow, past_part, rectangle,
+    refused_mark, soft_words, text_width, unused_box, words, INK,
 };
 use crate::run::Run;
 use crate::svg::Element;
@@ -45,6 +45,12 @@ const ITEMS: [Item; 11] = [
     ),
 ];
 
+/// Told only if a task has a floor.
+const FLOOR: Item = (
+    |x, y| floor_line(x, x + 24.0, y),
+    "floor: the lowest level that the task is run at (02, No. 8)",
+);
+
 /// Told only if there are pairs.
 const PAIR: Item = (
     |x, y| pair_arrow(x + 1.0, y - 5.0, x + 22.0, y + 5.0),
@@ -77,8 +83,9 @@ pub fn draw(run: &Run, left: f64, top: f64, right: f64) -> (Element, f64) {
     let mut group = Element::new("g").set("class", "legend");
     add_levels(&run.levels, left, top, &mut group);
     let (mut x, mut y) = (left, top + SCALE + 2.0 * LINE + 4.0);
+    let floor = run.tasks.iter().any(|task| task.floor > 0).then_some(FLOOR);
     let pair = (!run.pairs.is_empty()).then_some(PAIR);
-    for (sign, meaning) in ITEMS.into_iter().chain(pair) {
+    for (sign, meaning) in ITEMS.into_iter().chain(floor).chain(pair) {
         let width = SIGN + 4.0 + text_width(meaning, SIZE);
         if x + width > right && x > left {
             x = left;

@@ -1,9 +1,9 @@
 //! The rows of the tasks, and the row of idle time below them.
 
 use super::style::{
-    arrival_mark, bar, canonical_bar, colour, deadline_mark, finish_mark, fixed_part, idle_bar,
-    level_height, line, narrow_idle_bar, narrow_past_part, nominal_line, ordered_box, past_part,
-    soft_words, text_width, ticks, unused_box, words, INK, SHADE,
+    arrival_mark, bar, canonical_bar, colour, deadline_mark, finish_mark, fixed_part, floor_line,
+    idle_bar, level_height, line, narrow_idle_bar, narrow_past_part, nominal_line, ordered_box,
+    past_part, soft_words, text_width, ticks, unused_box, words, INK, SHADE,
 };
 use super::view::View;
 use super::{LEFT, MARGIN};
@@ -86,8 +86,34 @@ impl Row<'_> {
             }
         }
         self.add_order(&mut group);
+        if self.has_floor() {
+            self.add_floor(&mut group);
+        }
         self.add_marks(&mut group);
         group
+    }
+
+    fn floor(&self) -> usize {
+        self.view.run.tasks[self.task].floor as usize
+    }
+
+    fn has_floor(&self) -> bool {
+        self.floor() > 0
+    }
+
+    /// The line at the height of the floor, over the bars, and then the finish marks, which it would go
+    /// through.
+    fn add_floor(&self, group: &mut Element) {
+        let (left, right) = (self.view.scale.left(), self.view.scale.right());
+        let floor = self.floor();
+        let hint = format!("task {} is not run below level {floor}", self.task);
+        let drawn = floor_line(left, right, self.base - self.bar_height(floor));
+        group.add(drawn.hint(&hint));
+        for stretch in &self.view.run.stretches {
+            if stretch.task == self.task {
+                self.add_finish(stretch, group);
+            }
+        }
     }
 
     fn add_names(&self, group: &mut Element) {
@@ -103,6 +129,9 @@ impl Row<'_> {
         ];
         if task.fixed > 0 {
             figures.push(format!("fixed {}", task.fixed));
+        }
+        if task.floor > 0 {
+            figures.push(format!("floor L{}", task.floor));
         }
         for (place, text) in figures.iter().enumerate() {
             let y = self.top + 41.0 + 13.0 * place as f64;
@@ -195,11 +224,25 @@ impl Row<'_> {
         group.add(drawn);
         self.add_fixed("fixed", stretch.span.first(stretch.fixed), high, group);
         self.add_past("past", stretch.span.last(stretch.past_plain), high, group);
-        let ends_here = stretch.early.is_some() && shown.to == stretch.span.to;
-        if ends_here && self.view.scale.has_room_for_finishes() {
-            group.add(finish_mark(x + width, self.base - high));
+        // With a floor they come after its line.
+        if !self.has_floor() {
+            self.add_finish(stretch, group);
         }
         self.add_label(x, width, high, &[format!("L{}", stretch.level)], group);
+    }
+
+    /// The mark of a job that finished at the end of a bar, where that end is shown.
+    fn add_finish(&self, stretch: &Stretch, group: &mut Element) {
+        let shown = match stretch.span.within(self.view.window) {
+            Some(shown) => shown,
+            None => return,
+        };
+        let ends_here = stretch.early.is_some() && shown.to == stretch.span.to;
+        if ends_here && self.view.scale.has_room_for_finishes() {
+            let (x, width) = self.place(shown);
+            let high = self.bar_height(stretch.level);
+            group.add(finish_mark(x + width, self.base - high));
+        }
     }
 
     /// The fixed ticks at the beginning of a bar of this height.

@@ -13,6 +13,7 @@ pub const SHADE: &str = "#f2f4f7";
 pub const CANONICAL: &str = "#bcc5d1";
 pub const REFUSED: &str = "#c21f2c";
 pub const PAIR: &str = "#9b2fae";
+pub const FLOOR: &str = "#e8590c";
 
 /// One colour a level, from pale and slow to dark and fast. Darker also in print without colours.
 const COLOURS: [&str; 8] = [
@@ -205,6 +206,13 @@ pub fn nominal_line(x1: f64, x2: f64, y: f64) -> Element {
         .set("class", "nominal")
         .set("stroke-opacity", 0.6)
         .set("stroke-dasharray", "1 4")
+}
+
+/// The line at the height of a task's floor. It goes over the bars, in a colour that no level has.
+pub fn floor_line(x1: f64, x2: f64, y: f64) -> Element {
+    line(x1, y, x2, y, FLOOR)
+        .set("class", "floor")
+        .set("stroke-width", 1.4)
 }
 
 pub fn patterns() -> Element {

@@ -139,7 +139,7 @@ fn arrows_go_from_a_finish_to_a_beginning() {
 fn arrows_touch_their_bars() {
     let mut random = Random::new(52);
     let (mut down, mut up) = (0, 0);
-    for _ in 0..60 {
+    for _ in 0..80 {
         let input = any_run(&mut random, 30);
         let list = good_list(&mut random, &follow(&input).unwrap().tasks);
         let seen = Seen::new(&picture_with(&input, &list, None, None));

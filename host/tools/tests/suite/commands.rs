@@ -135,10 +135,33 @@ fn pack_there_and_back_with_fixed_ticks() {
     let bytes = with_levels(&[&block[..], &[0x80, 0x07]].concat());
     gives(pack(&["to-bytes"], text.as_bytes()), &bytes);
     gives(pack(&["to-text"], &bytes), text.as_bytes());
-    let byte = "pack: standard input: byte 17: the spare bits of task 0 are not zero";
-    let mut spare = bytes;
-    spare[17] |= 1;
-    stops(pack(&["to-text"], &spare), 1, byte);
+    // The last bit of the block was a spare one, and is the floor's.
+    let mut floored = bytes;
+    floored[17] |= 1;
+    let text = "task 40 300 5 1\n\nfinish 7\n";
+    gives(pack(&["to-text"], &floored), text.as_bytes());
+    gives(pack(&["to-bytes"], text.as_bytes()), &floored);
+}
+
+/// Would catch a floor that is packed without a warning where the board has no such level.
+#[test]
+fn pack_warns_of_a_floor_that_is_no_level() {
+    let warning = "pack: warning: the bench program refuses this with 24: a floor is not the \
+                   number of a loaded level\n";
+    let text = "speeds 10 20\ntask 40 300 0 2\n";
+    let ended = pack(&["to-bytes"], text.as_bytes());
+    assert_eq!((ended.status, ended.said.as_str()), (Some(0), warning));
+    let back = pack(&["to-text"], &ended.out);
+    assert_eq!((back.status, back.said.as_str()), (Some(0), warning));
+    assert_eq!(back.out, text.as_bytes());
+    // With a third level there is nothing to warn of.
+    let enough = "speeds 10 20 30\ntask 40 300 0 2\n";
+    let packed = pack(&["to-bytes"], enough.as_bytes());
+    assert_eq!((packed.status, packed.said.as_str()), (Some(0), ""));
+    gives(pack(&["to-text"], &packed.out), enough.as_bytes());
+    let refused = "timeline: the input is refused with 24: a floor is not the number of a loaded \
+                   level";
+    stops(timeline(&[], &ended.out), 1, refused);
 }
 
 /// The example with these lines in front of its passes.
@@ -280,7 +303,7 @@ fn timeline_stops_where_the_bench_program_does() {
                   count's, or its closing bits are not zero";
     stops(timeline(&[], &EXAMPLE[..LEVELS_END - 1]), 1, levels);
     let additions = "timeline: the input is refused with 21: the edition is 2, but no task has \
-                     fixed ticks";
+                     fixed ticks or a floor";
     let block = [0x20, 0x80, 0x14, 0x00, 0x09, 0x60, 0x00];
     stops(timeline(&[], &with_levels(&block)), 1, additions);
     let nothing = "timeline: nothing to draw from tick 25 to tick 25";
@@ -332,7 +355,8 @@ fn help_says_the_text_form_and_the_options() {
         "to-text",
         "speeds S1 S2 ..",
         "to-pairs",
-        "task PERIOD WORST [FIXED]",
+        "task PERIOD WORST [FIXED [FLOOR]]",
+        "FLOOR 0 to 7",
         "before EARLIER LATER",
         "pass D",
         "finish D",

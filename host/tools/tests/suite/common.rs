@@ -1,6 +1,6 @@
 //! What several tests need.
 
-use sim::block::{FIXED_BITS, PERIOD_BITS, WORST_BITS};
+use sim::block::{FIXED_BITS, FLOOR_BITS, PERIOD_BITS, WORST_BITS};
 use sim::level_block::SPEED_BITS;
 use sim::plan::Task;
 use sim::random::blocks::bench_input;
@@ -40,27 +40,31 @@ finish 5
 pass 1
 ";
 
-/// Tasks without fixed ticks.
+/// Tasks without fixed ticks and without floors.
 pub fn tasks(pairs: &[(u64, u64)]) -> Vec<Task> {
-    let task = |(period, worst): &(u64, u64)| Task {
-        period: *period,
-        worst: *worst,
-        fixed: 0,
-    };
-    pairs.iter().map(task).collect()
+    let four = |(period, worst): &(u64, u64)| (*period, *worst, 0, 0);
+    tasks_with_floors(&pairs.iter().map(four).collect::<Vec<_>>())
 }
 
 /// Period, worst case and fixed ticks of each task.
 pub fn tasks_with_fixed(triples: &[(u64, u64, u64)]) -> Vec<Task> {
-    let task = |(period, worst, fixed): &(u64, u64, u64)| Task {
+    let four = |(period, worst, fixed): &(u64, u64, u64)| (*period, *worst, *fixed, 0);
+    tasks_with_floors(&triples.iter().map(four).collect::<Vec<_>>())
+}
+
+/// Period, worst case, fixed ticks and floor of each task.
+pub fn tasks_with_floors(fours: &[(u64, u64, u64, u64)]) -> Vec<Task> {
+    let task = |(period, worst, fixed, floor): &(u64, u64, u64, u64)| Task {
         period: *period,
         worst: *worst,
         fixed: *fixed,
+        floor: *floor,
     };
-    triples.iter().map(task).collect()
+    fours.iter().map(task).collect()
 }
 
-/// Any script that fits its fields: most plans in it are refused, and half of them have no fixed ticks.
+/// Any script that fits its fields: most plans in it are refused, half of them have no fixed ticks, and
+/// half no floors.
 pub fn any_script(random: &mut Random) -> Script {
     let field = |random: &mut Random, bits: usize| match random.below(4) {
         0 => 0,
@@ -76,11 +80,13 @@ pub fn any_script(random: &mut Random) -> Script {
         }
     }
     let fixed_bits = random.pick(&[0, FIXED_BITS]);
+    let floor_bits = random.pick(&[0, FLOOR_BITS]);
     for _ in 0..random.below(32) {
         script.tasks.push(Task {
             period: field(random, PERIOD_BITS),
             worst: field(random, WORST_BITS),
             fixed: field(random, fixed_bits),
+            floor: field(random, floor_bits),
         });
     }
     for _ in 0..random.below(40) {
@@ -92,8 +98,8 @@ pub fn any_script(random: &mut Random) -> Script {
     script
 }
 
-/// A bench input with any speeds and an accepted plan of short periods, with fixed ticks or without;
-/// most of its passes are accepted, some are refused, and now and then an odd byte is left.
+/// A bench input with any speeds and an accepted plan of short periods, with fixed ticks and floors or
+/// without; most of its passes are accepted, some are refused, and now and then an odd byte is left.
 pub fn any_run(random: &mut Random, passes: usize) -> Vec<u8> {
     let levels = some_or_base_levels(random);
     run_at(random, &levels, passes)

@@ -1,7 +1,8 @@
 //! The bench input: each reason why it can't be said in text, with its byte; and the refusals that
 //! can.
 
-use crate::common::{tasks, tasks_with_fixed, with_levels, EXAMPLE, LEVELS_END, PLAN_END};
+use crate::common::{tasks, tasks_with_fixed, tasks_with_floors};
+use crate::common::{with_levels, EXAMPLE, LEVELS_END, PLAN_END};
 use sim::listing;
 use sim::pairs::Pair;
 use tools::bench::{from_bytes, refusal, start_refusal, to_bytes, to_pairs, BytesError, Why};
@@ -139,18 +140,19 @@ fn a_cut_block_with_fixed_ticks() {
     }
 }
 
-/// Task 0 has its spare bits at the end of the block's seventh byte, task 1 in the last byte, before the
-/// closing bit.
+/// Task 0 has its floor at the end of the block's seventh byte, task 1 in the last byte, before the closing
+/// bit. The bits were spare before 02's No. 8, and an error if set.
 #[test]
-fn spare_bits() {
-    let first = [(6, 2, 0), (6, 1, 0), (6, 0, 0)];
-    let second = [(12, 3, 1), (12, 2, 1), (12, 1, 1)];
-    for (place, bit, task) in first.into_iter().chain(second) {
-        let byte = LEVELS_END + place;
+fn floors_in_a_block() {
+    let first = [(6, 2, 0, 4), (6, 1, 0, 2), (6, 0, 0, 1)];
+    let second = [(12, 3, 1, 4), (12, 2, 1, 2), (12, 1, 1, 1)];
+    for (place, bit, task, floor) in first.into_iter().chain(second) {
         let mut input = with_fixed_ticks();
-        input[byte] |= 1 << bit;
-        let message = format!("byte {byte}: the spare bits of task {task} are not zero");
-        fails(&input, byte, Why::SpareBits { task }, &message);
+        input[LEVELS_END + place] |= 1 << bit;
+        let mut script = plan_of(&[(40, 300, 255), (10, 7, 0)]);
+        script.tasks[task].floor = floor;
+        assert_eq!(to_bytes(&script), input);
+        assert_eq!(from_bytes(&input), Ok(script));
     }
     let mut input = with_fixed_ticks();
     input[LEVELS_END + 12] |= 1;
@@ -162,13 +164,22 @@ fn spare_bits() {
 #[test]
 fn the_second_edition_without_fixed_ticks() {
     let message =
-        "byte 11: the edition is 2, but no task has fixed ticks; text without them means \
-                   edition 1";
+        "byte 11: the edition is 2, but no task has fixed ticks or a floor; text without \
+                   them means edition 1";
     let mut input = with_fixed_ticks();
     input[LEVELS_END + 5] &= 0xf8;
     input[LEVELS_END + 6] &= 0x07;
     fails(&input, 11, Why::NoAddition, message);
     fails(&with_levels(&[0x20, 0x00]), 11, Why::NoAddition, message);
+    // A floor alone is an addition.
+    let mut floored = input.clone();
+    floored[LEVELS_END + 12] |= 2;
+    let script = from_bytes(&floored).unwrap();
+    assert_eq!(
+        script.tasks,
+        tasks_with_floors(&[(40, 300, 0, 0), (10, 7, 0, 1)])
+    );
+    assert_eq!(to_bytes(&script), floored);
     // Bits that are not zero are told before it, as the questions have it.
     input[LEVELS_END + 12] |= 1;
     let message = "byte 23: the closing bits of the plan block are not zero";
@@ -261,6 +272,15 @@ fn plan_of(triples: &[(u64, u64, u64)]) -> Script {
     }
 }
 
+/// A task with this floor over these speeds, and one without.
+fn floors_over(speeds: &[u64], floor: u64) -> Script {
+    Script {
+        speeds: speeds.to_vec(),
+        tasks: tasks_with_floors(&[(1_000, 30, 0, floor), (1_000, 30, 0, 0)]),
+        ..Script::default()
+    }
+}
+
 #[test]
 fn refusals_that_can_be_packed() {
     is_refused(&[], 0, 3);
@@ -275,6 +295,14 @@ fn refusals_that_can_be_packed() {
     is_refused_so(&plan_of(&[(1_000, 1, 1), (1_001, 1, 0)]), 7);
     is_refused_so(&plan_of(&[(10, 400, 0), (10, 400, 0), (30, 600, 1)]), 8);
     is_refused_so(&plan_of(&[(255, 1, 255)]), 8);
+    is_refused_so(&floors_over(&[10, 20], 2), 24);
+    is_refused_so(&floors_over(&[10], 7), 24);
+    // After 6, and before 7 and 8.
+    let mut script = floors_over(&[10, 20], 2);
+    script.tasks.extend(tasks(&[(1_999, 1), (1, 1_000)]));
+    is_refused_so(&script, 24);
+    script.tasks.extend(tasks(&[(0, 1)]));
+    is_refused_so(&script, 6);
     // 11 + 6 + 2 * 32,760 bytes are one too many.
     is_refused(&[(40, 300)], 32_760, 17);
     is_refused(&[(0, 300)], 32_760, 17);
@@ -315,6 +343,8 @@ fn refused_speeds_that_can_be_packed() {
 fn accepted_inputs_have_no_refusal() {
     assert_eq!(refusal(&from_bytes(&EXAMPLE).unwrap()), None);
     assert_eq!(refusal(&plan_of(&[(256, 10, 255)])), None);
+    assert_eq!(refusal(&floors_over(&[10, 20], 1)), None);
+    assert_eq!(refusal(&floors_over(&[10, 20, 30], 2)), None);
     // 2 + 6 + 2 * 32,764 bytes are just enough.
     let mut script = Script {
         speeds: vec![8],

@@ -1,6 +1,7 @@
 //! The text form: what it says, and each mistake with its line.
 
-use crate::common::{tasks, tasks_with_fixed, with_levels, EXAMPLE, EXAMPLE_TEXT};
+use crate::common::{tasks, tasks_with_fixed, tasks_with_floors};
+use crate::common::{with_levels, EXAMPLE, EXAMPLE_TEXT};
 use sim::pairs::Pair;
 use tools::bench::{from_bytes, to_bytes};
 use tools::script::{Pass, Script};
@@ -48,6 +49,32 @@ fn fixed_ticks_are_written_unless_there_are_none() {
     assert_eq!(write(&script), text);
     assert_eq!(parse("task 40 300 255\ntask 10 7 0\npass 1"), Ok(script));
     assert_eq!(write(&parse("task 40 300 000").unwrap()), "task 40 300\n");
+}
+
+/// Would catch a floor that is lost, or taken for fixed ticks.
+#[test]
+fn a_task_with_a_floor() {
+    let script = parse("task 40 300 0 3").unwrap();
+    assert_eq!(script.tasks, tasks_with_floors(&[(40, 300, 0, 3)]));
+    // 0010 00001 0000000000101000 00000000000100101100 00000000 011.
+    let block = [0x20, 0x80, 0x14, 0x00, 0x09, 0x60, 0x03];
+    assert_eq!(to_bytes(&script), with_levels(&block));
+    assert_eq!(write(&script), "task 40 300 0 3\n");
+    let both = parse("task 40 300 5 3").unwrap();
+    assert_eq!(both.tasks, tasks_with_floors(&[(40, 300, 5, 3)]));
+    let block = [0x20, 0x80, 0x14, 0x00, 0x09, 0x60, 0x2b];
+    assert_eq!(to_bytes(&both), with_levels(&block));
+}
+
+/// No more is written than is needed: a floor of 0 never is, and fixed ticks of 0 only before a floor.
+#[test]
+fn floors_are_written_unless_there_are_none() {
+    let text = "task 40 300 255 7\ntask 10 7 0 1\ntask 10 7 2\ntask 10 7\n\npass 1\n";
+    let script = parse(text).unwrap();
+    assert_eq!(write(&script), text);
+    let longer = "task 40 300 255 7\ntask 10 7 0 1\ntask 10 7 2 0\ntask 10 7 0 0\npass 1";
+    assert_eq!(parse(longer), Ok(script));
+    assert_eq!(write(&parse("task 40 300 00 00").unwrap()), "task 40 300\n");
 }
 
 #[test]
@@ -103,6 +130,10 @@ fn not_numbers() {
             &format!("line 1: the number of fixed ticks {quoted} is not a decimal number"),
         );
         fails(
+            &format!("task 1 1 0 {word}"),
+            &format!("line 1: the floor {quoted} is not a decimal number"),
+        );
+        fails(
             &format!("\n\nfinish {word}"),
             &format!("line 3: the d {quoted} is not a decimal number"),
         );
@@ -111,8 +142,8 @@ fn not_numbers() {
 
 #[test]
 fn numbers_out_of_range() {
-    assert!(parse("task 65535 1048575 255\npass 32767\nfinish 32767").is_ok());
-    assert!(parse("task 0 0 0\npass 0\nfinish 0").is_ok());
+    assert!(parse("task 65535 1048575 255 7\npass 32767\nfinish 32767").is_ok());
+    assert!(parse("task 0 0 0 0\npass 0\nfinish 0").is_ok());
     let period = "is out of range: its 16 bits hold 0 to 65535";
     fails(
         "task 65536 1",
@@ -127,6 +158,10 @@ fn numbers_out_of_range() {
         "task 1 1 256",
         "line 1: the number of fixed ticks 256 is out of range: its 8 bits hold 0 to 255",
     );
+    fails(
+        "task 1 1 255 8",
+        "line 1: the floor 8 is out of range: its 3 bits hold 0 to 7",
+    );
     let d = "is out of range: its 15 bits hold 0 to 32767";
     fails("pass 32768", &format!("line 1: the d 32768 {d}"));
     fails("finish 32768", &format!("line 1: the d 32768 {d}"));
@@ -140,7 +175,7 @@ fn numbers_out_of_range() {
 
 #[test]
 fn words_left_over() {
-    fails("task 1 2 3 4", "line 1: \"4\" is one word too many");
+    fails("task 1 2 3 4 5", "line 1: \"5\" is one word too many");
     fails(
         "pass 1\npass 1 finish",
         "line 2: \"finish\" is one word too many",

@@ -1,6 +1,6 @@
 //! The picture, read back from its SVG: bars, idle time, canonical strips, marks.
 
-use crate::common::{any_run, run_at, tasks, tasks_with_fixed, EXAMPLE};
+use crate::common::{any_run, run_at, tasks, tasks_with_fixed, tasks_with_floors, EXAMPLE};
 use crate::told::{told, Ran};
 use crate::xml::{read, Node};
 use sim::random::blocks::block_of;
@@ -429,18 +429,22 @@ fn label_box(label: &Node) -> (f64, f64, f64, f64) {
 #[test]
 fn labels_lie_neither_on_each_other_nor_on_lines() {
     let mut random = Random::new(37);
-    let mut all = 0;
+    let (mut all, mut floors) = (0, 0);
     for _ in 0..60 {
         let input = any_run(&mut random, 20);
         let seen = Seen::new(&picture(&input, None, None));
         for task in 0..count(&input) {
             let part = format!("task-{task}");
             let nominal = seen.all("nominal", &part).next().unwrap().number("y1");
+            let floor = seen.all("floor", &part).next();
+            let lines: Vec<f64> = floor.map(|line| line.number("y1")).into_iter().collect();
+            floors += lines.len();
+            let lines = [&lines[..], &[nominal]].concat();
             let mut boxes: Vec<_> = seen.all("label", &part).map(label_box).collect();
             boxes.sort_by(|a, b| a.0.total_cmp(&b.0));
             assert!(boxes.windows(2).all(|pair| pair[0].1 < pair[1].0));
             for (left, right, top, bottom) in &boxes {
-                assert!(nominal < *top || *bottom < nominal);
+                assert!(lines.iter().all(|line| line < top || bottom < line));
                 for mark in seen.all("finish", &part) {
                     let x = mark.number("cx");
                     assert!(x + 4.0 < *left || *right < x - 4.0);
@@ -449,7 +453,107 @@ fn labels_lie_neither_on_each_other_nor_on_lines() {
             all += boxes.len();
         }
     }
-    assert!(all > 300);
+    assert!(all > 300 && floors > 40, "{all} {floors}");
+}
+
+/// The example `floors`: the floors of the valve, of the angle sensor and of the gait are 3, 4 and 6, and
+/// nominal is 4.
+const FLOORS: &[u8] = include_bytes!("../../../../examples/floors.in");
+
+/// Would catch a line at another height than its level's bars have, one that stops short of the picture, one
+/// that bars are drawn over, and one for a task without a floor.
+#[test]
+fn floors_are_drawn_over_the_bars() {
+    let seen = Seen::new(&picture(FLOORS, None, None));
+    let base_of = |part: &str| {
+        let bar = seen.all("bar", part).next().unwrap();
+        bar.number("y") + bar.number("height")
+    };
+    let axis = seen.all("number", "axis");
+    let numbers: Vec<f64> = axis.map(|number| number.number("x")).collect();
+    for (part, speed) in [("task-0", 40.0), ("task-1", 50.0), ("task-2", 80.0)] {
+        let line = seen.all("floor", part).next().unwrap();
+        assert_eq!(seen.all("floor", part).count(), 1);
+        let high = base_of(part) - line.number("y1");
+        assert!((high - 48.0 * speed / 100.0).abs() < 0.01, "{part}: {high}");
+        assert_eq!(line.number("y1"), line.number("y2"));
+        // From tick 0 to the end of the picture.
+        assert!((line.number("x1") - numbers[0]).abs() < 0.01);
+        assert!((line.number("x2") - numbers[numbers.len() - 1]).abs() < 0.01);
+        // Behind all bars and boxes of its row in the file, so over them; before the finish marks.
+        let place = |class: &str| {
+            let own = |node: &Node| node.is(class) && node.is_inside(part);
+            seen.nodes.iter().rposition(own)
+        };
+        let line_at = place("floor");
+        assert!(place("bar") < line_at && place("early") < line_at);
+        assert!(place("ordered") < line_at && place("fixed") < line_at);
+        let first_finish = seen
+            .nodes
+            .iter()
+            .position(|node| node.is("finish") && node.is_inside(part));
+        assert!(first_finish > line_at);
+    }
+    assert_eq!(seen.all("finish", "task-0").count(), 4);
+    assert_eq!(seen.all("finish", "task-1").count(), 2);
+    assert_eq!(seen.all("finish", "task-2").count(), 2);
+    let texts: Vec<&str> = seen.nodes.iter().map(|node| node.text.as_str()).collect();
+    for text in [
+        "Plan (10, 200, 0, 3), (20, 90, 2, 4), (20, 290, 0, 6); nominal level 4",
+        "floor L3",
+        "floor L4",
+        "floor L6",
+        "task 2 is not run below level 6",
+    ] {
+        assert!(texts.contains(&text), "{text}");
+    }
+}
+
+const FLOOR_MEANING: &str = "floor: the lowest level that the task is run at (02, No. 8)";
+
+/// Would catch a line for a task that has no floor, and a legend that tells of floors where there are none or
+/// doesn't where there is one.
+#[test]
+fn only_tasks_with_a_floor_have_a_line() {
+    let plan = tasks_with_floors(&[(10, 100, 0, 0), (20, 100, 0, 7)]);
+    let input = [&write_levels(&Levels::base())[..], &block_of(&plan)].concat();
+    let seen = Seen::new(&picture(&input, None, None));
+    assert_eq!(seen.all("floor", "task-0").count(), 0);
+    assert_eq!(seen.all("floor", "task-1").count(), 1);
+    assert_eq!(seen.all("floor", "legend").count(), 1);
+    let told = |seen: &Seen| seen.nodes.iter().any(|node| node.text == FLOOR_MEANING);
+    assert!(told(&seen));
+    for input in [&EXAMPLE[..], &sensor_with(&[0x80, 4]), LONE_JOB] {
+        let seen = Seen::new(&picture(input, None, None));
+        assert!(!told(&seen));
+        assert!(!seen.nodes.iter().any(|node| node.is("floor")));
+        assert!(!seen.nodes.iter().any(|node| node.text.starts_with("floor")));
+    }
+}
+
+/// No bar is below the line of its task, in any run.
+#[test]
+fn bars_reach_the_floor() {
+    let mut random = Random::new(39);
+    let (mut at, mut above) = (0, 0);
+    for _ in 0..160 {
+        let input = any_run(&mut random, 30);
+        let seen = Seen::new(&picture(&input, None, None));
+        for task in 0..count(&input) {
+            let part = format!("task-{task}");
+            let line = match seen.all("floor", &part).next() {
+                Some(line) => line.number("y1"),
+                None => continue,
+            };
+            for bar in seen.all("bar", &part).chain(seen.all("ordered", &part)) {
+                let over = line - bar.number("y");
+                assert!(over > -0.01, "{over}");
+                at += u32::from(over < 0.01);
+                above += u32::from(over >= 0.01);
+            }
+        }
+    }
+    assert!(at > 100 && above > 50, "{at} {above}");
 }
 
 #[test]

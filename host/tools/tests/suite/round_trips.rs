@@ -73,18 +73,13 @@ fn fault_past_levels(input: &[u8]) -> Option<usize> {
     if input.len() < needed {
         return Some(input.len());
     }
-    let spare = |task: usize| 9 + 47 * task + 44..9 + 47 * task + 47;
-    let fixed = |task: usize| 9 + 47 * task + 36..9 + 47 * task + 44;
-    if each == 47 {
-        let set = (0..count).flat_map(spare).find(|bit| is_set(input, *bit));
-        if let Some(bit) = set {
-            return Some(bit / 8);
-        }
-    }
+    // Fixed ticks and floors.
+    let additions = |task: usize| 9 + 47 * task + 36..9 + 47 * task + 47;
     if (used..8 * needed).any(|bit| is_set(input, bit)) {
         return Some(needed - 1);
     }
-    if each == 47 && !(0..count).flat_map(fixed).any(|bit| is_set(input, bit)) {
+    let mut bits = (0..count).flat_map(additions);
+    if each == 47 && !bits.any(|bit| is_set(input, bit)) {
         return Some(0);
     }
     ((input.len() - needed) % 2 == 1).then_some(input.len() - 1)
@@ -97,7 +92,7 @@ fn is_set(input: &[u8], bit: usize) -> bool {
 #[test]
 fn damaged_inputs_fail_at_their_byte_or_come_back() {
     let mut random = Random::new(3);
-    let (mut failed, mut came_back) = (BTreeMap::new(), [0; 2]);
+    let (mut failed, mut came_back) = (BTreeMap::new(), [0; 4]);
     for round in 0..4_000 {
         let levels = some_or_base_levels(&mut random);
         let level = random.place(levels.count());
@@ -118,15 +113,21 @@ fn damaged_inputs_fail_at_their_byte_or_come_back() {
             Ok(script) => {
                 assert_eq!(fault(&input), None, "{input:02x?}");
                 assert_eq!(to_bytes(&script), input);
-                came_back[usize::from(script.tasks.iter().any(|task| task.fixed > 0))] += 1;
+                let fixed = script.tasks.iter().any(|task| task.fixed > 0);
+                let floors = script.tasks.iter().any(|task| task.floor > 0);
+                came_back[usize::from(fixed) + 2 * usize::from(floors)] += 1;
                 assert_eq!(parse(&write(&script)), Ok(script));
             }
         }
     }
-    for kind in ["CutBlock", "SpareBits", "ClosingBits", "NoAddition"] {
+    for kind in ["CutBlock", "ClosingBits", "NoAddition"] {
         assert!(failed.get(kind) > Some(&50), "{kind}: {failed:?}");
     }
-    assert!(came_back.iter().all(|times| *times > 250), "{came_back:?}");
+    // With neither, with fixed ticks, with floors, and with both.
+    assert!(came_back.iter().all(|times| *times > 120), "{came_back:?}");
+    let [neither, fixed, floors, both] = came_back;
+    let halves = [neither + floors, fixed + both, neither + fixed];
+    assert!(halves.iter().all(|times| *times > 250), "{came_back:?}");
 }
 
 /// The first word of a reason's name.
@@ -141,7 +142,7 @@ fn kind(why: Why) -> String {
 #[test]
 fn the_refusal_is_the_one_that_the_bench_program_prints() {
     let mut random = Random::new(4);
-    let mut refused = 0;
+    let (mut refused, mut for_floors) = (0, 0);
     for _ in 0..1_500 {
         let levels = some_or_base_levels(&mut random);
         let mut plan = edge_list(&mut random, &levels);
@@ -149,6 +150,7 @@ fn the_refusal_is_the_one_that_the_bench_program_prints() {
             task.period &= 0xffff;
             task.worst &= 0xf_ffff;
             task.fixed &= 0xff;
+            task.floor &= 0x7;
         }
         let mut input = bench_input(&mut random, &levels, &plan, 3);
         let script = from_bytes(&input).unwrap_or_else(|_| {
@@ -160,11 +162,12 @@ fn the_refusal_is_the_one_that_the_bench_program_prints() {
             Some(number) => {
                 assert_eq!(printed, format!("refused {number}\n"));
                 refused += 1;
+                for_floors += u32::from(number == 24);
             }
             None => assert!(printed.starts_with("plan ")),
         }
     }
-    assert!(refused > 150);
+    assert!(refused > 150 && for_floors > 40, "{refused} {for_floors}");
 }
 
 /// The same of level blocks: any speeds that fit their fields, with a good plan behind them.

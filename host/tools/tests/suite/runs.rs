@@ -1,8 +1,9 @@
 //! A run as the picture sees it, against what the listing tells.
 
-use crate::common::{any_run, with_levels, EXAMPLE, LEVELS_END, PLAN_END};
+use crate::common::{any_run, tasks_with_fixed, with_levels, EXAMPLE, LEVELS_END, PLAN_END};
 use crate::told::{told, Ran};
 use sim::layout::STATE_BYTES;
+use sim::random::blocks::block_of;
 use sim::random::Random;
 use sim::schedule::PlainJob;
 use sim::{start, Order, PlainBook};
@@ -157,10 +158,18 @@ fn whole_inputs_refused() {
     assert_eq!(refused(&[0x18, 0x80, 0x00]), 3);
     assert_eq!(follow(&EXAMPLE[..PLAN_END - 1]).unwrap_err(), 4);
     assert_eq!(refused(&[0x20, 0x80, 0x14, 0x00, 0x09, 0x60]), 4);
-    assert_eq!(refused(&[0x20, 0x80, 0x14, 0x00, 0x09, 0x60, 0x2c]), 5);
+    let mut closed = block_of(&tasks_with_fixed(&[(40, 300, 5), (40, 300, 0)]));
+    closed[12] |= 1;
+    assert_eq!(refused(&closed), 5);
     assert_eq!(refused(&[0x10, 0x80, 0, 0, 0, 0x20]), 6);
     assert_eq!(refused(&[0x20, 0x80, 0, 0, 0, 0x20, 0]), 6);
     assert_eq!(refused(&[0x20, 0x80, 0x14, 0x00, 0x09, 0x60, 0]), 21);
+    let one_level = [
+        &[0x11, 0x90][..],
+        &[0x20, 0x80, 0x14, 0x00, 0x09, 0x60, 0x2c],
+    ]
+    .concat();
+    assert_eq!(follow(&one_level).unwrap_err(), 24);
     let long = [&EXAMPLE[..PLAN_END], &vec![0; 65_537 - PLAN_END]].concat();
     assert_eq!(follow(&long).unwrap_err(), 17);
     assert_eq!(follow(&long[..65_536]).unwrap().refusals.len(), 32_755);

@@ -6,13 +6,14 @@ use native.Mathlib.Omega.{arith}
 use borrow.Author.Needs.{needs}
 use borrow.Author.Tests.{not-true, not-false}
 use Rattle.arith.proofs.Loops.{length-mapped}
+use Rattle.plan.specs.Questions.{inRange}
 use Rattle.plan.proofs.Held.{Held}
 use Rattle.judging.proofs.ranges.TaskRanges.{Scanned, scanned-more, scanned-not, scanned-all}
 use Rattle.judging.proofs.ranges.in_range.Statement.{statement}
 use Rattle.judging.proofs.ranges.in_range.Tie as tie
 
 abbrev Inv-loop : tie.InvT-loop
-Inv-loop p count i₀ i = Scanned p i
+Inv-loop p count i₀ i = Scanned inRange p i
 
 abbrev μ-loop : tie.MeasureT-loop
 μ-loop p count i₀ i = count - i

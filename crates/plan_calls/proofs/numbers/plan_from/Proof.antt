@@ -45,6 +45,15 @@ add-number-at-2 c = omega arith
 number-at-requires-3 : tie.Need-number-at-requires-3 Inv-loop μ-loop
 number-at-requires-3 c κs = search needs
 
+mul-number-at-4 : tie.Need-mul-number-at-4 Inv-loop μ-loop
+mul-number-at-4 c = omega arith
+
+add-number-at-3 : tie.Need-add-number-at-3 Inv-loop μ-loop
+add-number-at-3 c = omega arith
+
+number-at-requires-4 : tie.Need-number-at-requires-4 Inv-loop μ-loop
+number-at-requires-4 c κs = search needs
+
 mul-t : tie.Need-mul-t Inv-loop μ-loop
 mul-t c = omega arith
 
@@ -59,9 +68,14 @@ loop-less c = omega arith
 
 loop-again : tie.Need-loop-again Inv-loop μ-loop
 loop-again c =
-    let s = c .before .before in
+    let s = c .before .before .before in
     put-more (s .before .before .loop .inv) (omega arith)
-    (λ j. record { period = s .number-at .ensures j; worst = c .before .number-at2 .ensures j; fixed = c .number-at3 .ensures j })
+    (λ j. record {
+      period = s .number-at .ensures j;
+      worst = c .before .before .number-at2 .ensures j;
+      fixed = c .before .number-at3 .ensures j;
+      floor = c .number-at4 .ensures j;
+    })
 
 returns : tie.Need-returns Inv-loop μ-loop
 returns c = put-all (c .before .loop .inv) (omega arith)
@@ -82,6 +96,9 @@ plan-from-spec =
     mul-number-at-3
     add-number-at-2
     number-at-requires-3
+    mul-number-at-4
+    add-number-at-3
+    number-at-requires-4
     mul-t
     element-set-from-t
     add-i

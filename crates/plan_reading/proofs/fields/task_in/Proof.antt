@@ -41,16 +41,20 @@ bits-at-requires-2 c κs = omega (arith, room (c .before) .0, room (c .before) .
 fixed-in-requires : tie.Need-fixed-in-requires
 fixed-in-requires c κs = room (c .before .before)
 
+floor-in-requires : tie.Need-floor-in-requires
+floor-in-requires c κs = room (c .before .before .before)
+
 returns : tie.Need-returns
 returns c =
-    let worst = c .before in
+    let worst = c .before .before in
     let placed = worst .before .before in
     let s = start placed in
     task-read (s .args .edition) (s .args .i) (unpacked (s .args .block .now))
     (placed .bit-count .ensures)
     (worst .before .bits-at .ensures)
     (worst .bits-at2 .ensures)
-    (c .fixed-in .ensures)
+    (c .before .fixed-in .ensures)
+    (c .floor-in .ensures)
 
 pub task-in-spec : {M : Type 1} → statement M
 task-in-spec =
@@ -61,4 +65,5 @@ task-in-spec =
     add-bits-at
     bits-at-requires-2
     fixed-in-requires
+    floor-in-requires
     returns)

@@ -5,9 +5,9 @@ use native.Mathlib.Omega.{arith}
 use borrow.Author.Needs.{needs}
 use Rattle.arith.proofs.Loops.{length-mapped}
 use Rattle.plan.specs.Blocks.{taskWidth}
-use Rattle.plan.proofs.BlockBits.{width-least}
+use Rattle.plan.proofs.BlockBits.{width-least, width-most}
 use Rattle.plan.proofs.Held.{Held}
-use Rattle.plan_writing.proofs.bits.PutLaws.{AtTask, at-task, rest-below, bit-past, bit-period, bit-worst, bit-fixed, bit-spare}
+use Rattle.plan_writing.proofs.bits.PutLaws.{AtTask, at-task, rest-below, bit-past, bit-period, bit-worst, bit-fixed, bit-floor}
 use Rattle.plan_writing.proofs.bits.task_bit.Statement.{statement}
 use Rattle.plan_writing.proofs.bits.task_bit.Tie as tie
 
@@ -84,10 +84,19 @@ returns-4 c =
     let past = else .before .before .before in
     bit-fixed (place (past .before)) (past .if1 .left) (within (past .before)) (else .if3 .left) (c .before .if4 .taken) (c .bit-of3 .ensures)
 
+sub-bit-of-4 : tie.Need-sub-bit-of-4
+sub-bit-of-4 c =
+    let past = c .before .before .before .before in
+    omega (arith, within (past .before), width-most (past .before .before .args .edition))
+
+bit-of-requires-4 : tie.Need-bit-of-requires-4
+bit-of-requires-4 c κs = search needs
+
 returns-5 : tie.Need-returns-5
 returns-5 c =
-    let past = c .before .before .before .before in
-    bit-spare (place (past .before)) (past .if1 .left) (within (past .before)) (c .if4 .left)
+    let else = c .before in
+    let past = else .before .before .before .before in
+    bit-floor (place (past .before)) (past .if1 .left) (within (past .before)) (else .if4 .left) (c .bit-of4 .ensures)
 
 pub task-bit-spec : {M : Type 1} → statement M
 task-bit-spec =
@@ -110,4 +119,6 @@ task-bit-spec =
     sub-bit-of-3
     bit-of-requires-3
     returns-4
+    sub-bit-of-4
+    bit-of-requires-4
     returns-5)

@@ -1,23 +1,27 @@
 -- `order_sound` meets its contract, by each way out.
 -- Assumes nothing.
-use Prim.Native.Nat.{ℕ, _<_}
-use mathlib.Core.Path.{refl, ap, _∙_}
+use Prim.Native.Nat.{ℕ, _<_, max}
+use mathlib.Core.Path.{_≡_, refl, sym, ap, ap₂, _∙_}
+use mathlib.Core.Bool.{true}
 use mathlib.Core.List.{List}
 use native.Mathlib.Omega.{arith}
 use borrow.Author.Needs.{needs}
+use borrow.Author.Tests.{not-true, not-false}
 use lib.Dec.{leb, eqb}
-use lib.ListN.{getD}
+use lib.ListN.{length, getD}
+use Rattle.arith.proofs.QuestionLaws.{within-high}
 use Rattle.plan.specs.Times.{timeOf}
 use Rattle.levels.specs.Code.{loaded}
 use Rattle.levels.proofs.Tables.{speed-positive, speed-most}
 use Rattle.reclaiming.specs.Fields.{offsetOf}
-use Rattle.reclaiming.specs.StateBlock.{restIn, headFields, taskField, levelField, decode}
+use Rattle.reclaiming.specs.StateBlock.{restIn, floorOf, headFields, taskField, levelField, decode, places, stateLength}
+use Rattle.reclaiming.specs.Questions.{levelSound}
 use Rattle.state.specs.Code.{entryIn}
 use Rattle.state.proofs.BlockLaws.{task-byte, level-byte}
-use Rattle.urgency.proofs.HeadLaws.{Looked, Told, first-open, told-task}
+use Rattle.urgency.proofs.HeadLaws.{Looked, Told, first-open, told-task, told-floor}
 use Rattle.orders.specs.Lone.{allowedUntil}
 use Rattle.orders.proofs.lone.LoneLaws.{next-short}
-use Rattle.soundness.proofs.order.OrderTests.{Weighed, not-idle, idle-level, other-task, level-high, level-meets}
+use Rattle.soundness.proofs.order.OrderTests.{Weighed, levelIn, not-idle, idle-level, other-task, level-unsound, level-meets}
 use Rattle.soundness.proofs.order.order_sound.Statement.{statement}
 use Rattle.soundness.proofs.order.order_sound.Tie as tie
 
@@ -62,14 +66,41 @@ runs c =
     let k = told (c .before) in
     record { looked = k .looked; some = k .some; task = omega (arith, c .if3 .left, k .task, task-byte (block (begun c))) }
 
--- the level that the order names is one of the table's
-level-in : (c : tie.Else4) → getD (block (begun (c .before))) (offsetOf headFields levelField) 0 < begun (c .before) .args .levels
-level-in c = omega (arith, c .if4 .left, begun (c .before) .pre .0 .3)
+-- whether its level is sound, as it was asked
+level-told : (c : tie.After-level-sound) → c .level-sound .result ≡ levelIn (block (begun (c .before .before))) (begun (c .before .before) .args .highest)
+level-told c =
+    let s : tie.Start = begun (c .before .before) in
+    let b : List ℕ = block s in
+    let floor = c .before .floor-at .ensures ∙ ap (λ (n : ℕ). entryIn b n .floor) (task-byte b) in
+    c .level-sound .ensures ∙ ap₂ (levelSound (s .args .highest)) (told-floor (runs (c .before .before)) floor) (level-byte b)
+
+-- and it is
+abbrev asked-level : tie.Else4 → tie.Else3
+asked-level c = c .before .before .before
+
+level-well : (c : tie.Else4) → levelIn (block (begun (asked-level c))) (begun (asked-level c) .args .highest) ≡ true
+level-well c = sym (level-told (c .before)) ∙ not-false _ (c .if4 .left)
+
+-- so it is one of the table's
+level-in : (c : tie.Else4) → decode (block (begun (asked-level c))) .level < begun (asked-level c) .args .levels
+level-in c =
+    let s : tie.Start = begun (asked-level c) in
+    let floor : ℕ = floorOf (decode (block s)) (decode (block s) .task) in
+    let k = runs (asked-level c) in
+    omega (
+      arith,
+      within-high floor (max (s .args .highest) floor) (decode (block s) .level) (level-well c),
+      s .pre .0 .3,
+      s .pre .1 .1 .1 (decode (block s) .task) (omega (arith, first-open k .below, k .looked .same)),
+    )
+
+level-read : (c : tie.Else4) → getD (block (begun (asked-level c))) (offsetOf headFields levelField) 0 < begun (asked-level c) .args .levels
+level-read c = omega (arith, level-in c, level-byte (block (begun (asked-level c))))
 
 weighed :
     (c : tie.After-meets-until) →
     let read : tie.After-rest-at = c .before .before in
-    let o : tie.Else3 = read .before .before in
+    let o : tie.Else3 = asked-level (read .before) in
     let s : tie.Start = begun o in
     Weighed (s .args .speeds .now) (s .args .levels) (block s) (keys s) (s .args .count) (asked (o .before) .most-urgent .result) (s .args .highest)
     (read .rest-at .result) (s .args .next)
@@ -77,19 +108,19 @@ weighed :
 weighed c =
     let read : tie.After-rest-at = c .before .before in
     let fast : tie.Else4 = read .before in
-    let s : tie.Start = begun (fast .before) in
+    let s : tie.Start = begun (asked-level fast) in
     let b : List ℕ = block s in
-    let best : ℕ = asked (fast .before .before) .most-urgent .result in
+    let best : ℕ = asked (asked-level fast .before) .most-urgent .result in
     record {
       table = s .pre .0 .0;
       read = record {
-        told = runs (fast .before);
+        told = runs (asked-level fast);
         rest-in = read .rest-at .ensures .0 ∙ ap (λ (n : ℕ). restIn (entryIn b n)) (task-byte b);
-        arrival = s .pre .1 .1;
+        arrival = s .pre .1 .1 .0;
         allowed-in = refl;
       };
-      top = s .pre .0 .3;
-      low = omega (arith, fast .if4 .left, level-byte b);
+      low = level-in fast;
+      sound = level-well fast;
       found-is =
           c .meets-until .ensures
           ∙ ap (λ (n : ℕ). leb (timeOf (getD (s .args .speeds .now) n 0) (read .rest-at .result)) (allowedUntil b (keys s) (s .args .count) best (s .args .next)))
@@ -132,32 +163,40 @@ returns-3 c =
     let s : tie.Start = start (asked (c .before)) in
     other-task (told (c .before)) (s .args .highest) (λ e. c .if3 .taken (task-byte (block s) ∙ e))
 
+-- its task has an entry
+place : (c : tie.Else3) → (getD (block (begun c)) (offsetOf headFields taskField) 0 < places) × (length (block (begun c)) ≡ stateLength)
+place c = (omega (arith, told-task (runs c), task-byte (block (begun c))), runs c .looked .holds .size)
+
+floor-at-requires : tie.Need-floor-at-requires
+floor-at-requires c κs = place c
+
+level-sound-requires : tie.Need-level-sound-requires
+level-sound-requires c κs = search needs
+
 returns-4 : tie.Need-returns-4
 returns-4 c =
-    let s : tie.Start = begun (c .before) in
-    level-high (runs (c .before)) (s .args .highest) (omega (arith, c .if4 .taken, level-byte (block s)))
+    let o : tie.Else3 = c .before .before .before in
+    level-unsound (runs o) (begun o .args .highest) (sym (level-told (c .before)) ∙ not-true _ (c .if4 .taken))
 
 rest-at-requires : tie.Need-rest-at-requires
-rest-at-requires c κs =
-    let k = runs (c .before) in
-    (omega (arith, told-task k, task-byte (block (begun (c .before)))), k .looked .holds .size)
+rest-at-requires c κs = place (asked-level c)
 
 mul-meets-until : tie.Need-mul-meets-until
-mul-meets-until c = omega (arith, level-in (c .before), begun (c .before .before) .pre .0 .0 .few)
+mul-meets-until c = omega (arith, level-read (c .before), begun (asked-level (c .before)) .pre .0 .0 .few)
 
 element-copy-out-meets-until : tie.Need-element-copy-out-meets-until
-element-copy-out-meets-until c = omega (arith, level-in (c .before), begun (c .before .before) .pre .0 .0 .few)
+element-copy-out-meets-until c = omega (arith, level-read (c .before), begun (asked-level (c .before)) .pre .0 .0 .few)
 
 meets-until-requires : tie.Need-meets-until-requires
 meets-until-requires c κs =
     let fast : tie.Else4 = c .before .before in
-    let k = runs (fast .before) in
-    let s : tie.Start = begun (fast .before) in (
+    let k = runs (asked-level fast) in
+    let s : tie.Start = begun (asked-level fast) in (
       omega (arith, k .looked .holds .few, k .looked .same),
       k .looked .holds .size,
-      omega (arith, next-short (table s) (block s) (k .looked .keyed) (omega (arith, first-open k .below)) (s .pre .1 .1)),
-      speed-positive (s .pre .0 .0) _ (level-in fast),
-      speed-most (s .pre .0 .0) _ (level-in fast),
+      omega (arith, next-short (table s) (block s) (k .looked .keyed) (omega (arith, first-open k .below)) (s .pre .1 .1 .0)),
+      speed-positive (s .pre .0 .0) _ (level-read fast),
+      speed-most (s .pre .0 .0) _ (level-read fast),
     )
 
 returns-5 : tie.Need-returns-5
@@ -176,6 +215,8 @@ order-sound-spec =
     returns-2
     task-in-requires
     returns-3
+    floor-at-requires
+    level-sound-requires
     returns-4
     rest-at-requires
     mul-meets-until

@@ -7,7 +7,7 @@ use borrow.Author.Needs.{needs}
 use lib.ListN.{length}
 use Rattle.arith.proofs.Loops.{length-mapped}
 use Rattle.levels.specs.Code.{loaded}
-use Rattle.plan.proofs.Held.{task-at}
+use Rattle.plan.proofs.Held.{floor-below, task-at}
 use Rattle.starting.proofs.image.MakingLaws.{Making, making-none, ticks-small, making-more, making-all}
 use Rattle.starting.proofs.image.fresh.Statement.{statement}
 use Rattle.starting.proofs.image.fresh.Tie as tie
@@ -22,13 +22,13 @@ size : (c : tie.Start Inv-loop μ-loop) → length (c .args .t3 .tasks) ≡ 16
 size c = search (length-mapped, needs)
 
 blank-requires : tie.Need-blank-requires Inv-loop μ-loop
-blank-requires c κs = (c .pre .1 .0, c .pre .0 .0, c .pre .0 .1)
+blank-requires c κs = (c .pre .1 .0 .0, c .pre .0 .0, c .pre .0 .1)
 
 loop-holds : tie.Need-loop-holds Inv-loop μ-loop
 loop-holds c =
     let s : tie.Start Inv-loop μ-loop = c .before in
     making-none (loaded (s .args .speeds .now) (s .args .levels)) (s .args .speed)
-    (record { held = record { places = size s; most = s .pre .1 .0 }; ranges = s .pre .1 .1 })
+    (record { held = record { places = size s; most = s .pre .1 .0 .0 }; ranges = s .pre .1 .0 .1 })
     (c .blank .ensures)
 
 mul-t : tie.Need-mul-t Inv-loop μ-loop
@@ -45,7 +45,7 @@ task-time-requires c κs =
     let turn : tie.In-loop Inv-loop μ-loop = c .before .before in
     let s : tie.Start Inv-loop μ-loop = turn .before .before .before in
     let range = task-at (turn .before .loop .inv .plan) (turn .before .loop .i) (turn .loop-test .taken) in
-    (s .pre .1 .2, s .pre .1 .3, omega (arith, range .fixed-high), omega (arith, range .worst-high))
+    (s .pre .1 .1 .0, s .pre .1 .1 .1, omega (arith, range .fixed-high), omega (arith, range .worst-high))
 
 slice-aggregate-put-entry : tie.Need-slice-aggregate-put-entry Inv-loop μ-loop
 slice-aggregate-put-entry c = search needs
@@ -53,14 +53,21 @@ slice-aggregate-put-entry c = search needs
 put-entry-requires : tie.Need-put-entry-requires Inv-loop μ-loop
 put-entry-requires c κs =
     let turn : tie.In-loop Inv-loop μ-loop = c .before .before .before .before in
-    (omega (arith, turn .before .loop .inv .plan .held .most), turn .before .loop .inv .size)
+    let s : tie.Start Inv-loop μ-loop = turn .before .before .before in
+    let plan = turn .before .loop .inv .plan in
+    let i = turn .before .loop .i in (
+      omega (arith, plan .held .most),
+      turn .before .loop .inv .size,
+      omega (arith, s .pre .0 .0, floor-below (plan .held) (s .args .levels) (s .pre .1 .0 .2) i (turn .loop-test .taken)),
+      task-at plan i (turn .loop-test .taken) .worst-high,
+    )
 
 add-total : tie.Need-add-total Inv-loop μ-loop
 add-total c =
     let timed : tie.After-task-time Inv-loop μ-loop = c .before .before .before in
     let turn : tie.In-loop Inv-loop μ-loop = timed .before .before .before in
     let now = turn .before .loop .inv in
-    omega (arith, now .small, now .plan .held .most, ticks-small now (turn .loop-test .taken) (turn .before .before .before .pre .1 .2) (timed .task-time .ensures))
+    omega (arith, now .small, now .plan .held .most, ticks-small now (turn .loop-test .taken) (turn .before .before .before .pre .1 .1 .0) (timed .task-time .ensures))
 
 add-i : tie.Need-add-i Inv-loop μ-loop
 add-i c = omega arith
@@ -73,7 +80,7 @@ loop-again c =
     let timed : tie.After-task-time Inv-loop μ-loop = c .before .before .before in
     let full : tie.After-whole-of Inv-loop μ-loop = timed .before in
     let turn : tie.In-loop Inv-loop μ-loop = full .before .before in
-    making-more (turn .before .loop .inv) (turn .loop-test .taken) (turn .before .before .before .pre .1 .2) (full .whole-of .ensures) (timed .task-time .ensures) (c .before .put-entry .ensures)
+    making-more (turn .before .loop .inv) (turn .loop-test .taken) (turn .before .before .before .pre .1 .1 .0) (full .whole-of .ensures) (timed .task-time .ensures) (c .before .put-entry .ensures)
 
 slice-aggregate-put-total : tie.Need-slice-aggregate-put-total Inv-loop μ-loop
 slice-aggregate-put-total c = search needs

@@ -12,7 +12,7 @@ abbrev start : tie.After-put-number → tie.Start
 start c = c .before .before .before
 
 abbrev first : tie.After-put-number2 → tie.After-put-number
-first c = c .before .before .before .before
+first c = c .before .before .before .before .before .before
 
 abbrev second : tie.After-put-number3 → tie.After-put-number2
 second c = c .before .before .before .before
@@ -38,29 +38,35 @@ put-number-requires c κs = search needs
 add-put-number-2 : tie.Need-add-put-number-2
 add-put-number-2 c = search needs
 
-put-number-requires-2 : tie.Need-put-number-requires-2
-put-number-requires-2 c κs = search needs
+mul-put-number : tie.Need-mul-put-number
+mul-put-number c = search needs
 
 add-put-number-3 : tie.Need-add-put-number-3
 add-put-number-3 c = search needs
 
-put-number-requires-3 : tie.Need-put-number-requires-3
-put-number-requires-3 c κs = search needs
+put-number-requires-2 : tie.Need-put-number-requires-2
+put-number-requires-2 c κs = search needs
 
 add-put-number-4 : tie.Need-add-put-number-4
 add-put-number-4 c = search needs
 
-put-number-requires-4 : tie.Need-put-number-requires-4
-put-number-requires-4 c κs = search needs
+put-number-requires-3 : tie.Need-put-number-requires-3
+put-number-requires-3 c κs = search needs
 
 add-put-number-5 : tie.Need-add-put-number-5
 add-put-number-5 c = search needs
 
-put-number-requires-5 : tie.Need-put-number-requires-5
-put-number-requires-5 c κs = search needs
+put-number-requires-4 : tie.Need-put-number-requires-4
+put-number-requires-4 c κs = search needs
 
 add-put-number-6 : tie.Need-add-put-number-6
 add-put-number-6 c = search needs
+
+put-number-requires-5 : tie.Need-put-number-requires-5
+put-number-requires-5 c κs = search needs
+
+add-put-number-7 : tie.Need-add-put-number-7
+add-put-number-7 c = search needs
 
 put-number-requires-6 : tie.Need-put-number-requires-6
 put-number-requires-6 c κs = search needs
@@ -98,14 +104,16 @@ put-entry-spec =
     add-put-number
     put-number-requires
     add-put-number-2
-    put-number-requires-2
+    mul-put-number
     add-put-number-3
-    put-number-requires-3
+    put-number-requires-2
     add-put-number-4
-    put-number-requires-4
+    put-number-requires-3
     add-put-number-5
-    put-number-requires-5
+    put-number-requires-4
     add-put-number-6
+    put-number-requires-5
+    add-put-number-7
     put-number-requires-6
     same-length
     returns)
