@@ -4,7 +4,10 @@ use plan::Plan;
 use plan::Task;
 ghost use mathlib.Core.Path.{_≡_};
 ghost use Prim.Native.Nat.{_+_, _*_, _<_, _≤_};
+ghost use lib.Dec.{eqb};
 ghost use lib.ListN.{length, drop};
+ghost use Rattle.arith.specs.Choice.{pick};
+ghost use Rattle.arith.specs.Digits.{number};
 ghost use Rattle.arith.specs.Bits.{unpacked};
 ghost use Rattle.plan.specs.Blocks.{taskWidth, taskFrom, tasksFrom, bitCount, blockLength, editionOf, tasksOf, planOf};
 
@@ -26,26 +29,15 @@ pub(crate) fn bit_count(edition: u32, count: usize) -> usize
     9 + task_width(edition) * count
 }
 
-// The fixed ticks of the task that stands at a place; only edition 2 has a field for them.
-fn fixed_in(block: &[u8], edition: u32, at: usize) -> u32
-    requires { ⌜ (at ≤ 761) × (at + taskWidth edition ≤ 8 * length (now block)) ⌝ }
-    ensures { λ r. ⌜ r ≡ taskFrom edition (drop at (unpacked (now (block .entry)))) .fixed ⌝ }
+// What a task adds, in so many bits at a place; only edition 2 has a field for it.
+fn addition_in(block: &[u8], edition: u32, at: usize, n: usize) -> u32
+    requires { ⌜ (n ≤ 8) × (at ≤ 1024) × (edition ≡ 2 → at + n ≤ 8 * length (now block)) ⌝ }
+    ensures { λ r. ⌜ r ≡ pick (eqb edition 2) (number 2 n (drop at (unpacked (now (block .entry))))) 0 ⌝ }
 {
     if edition != 2 {
         return 0;
     }
-    numeric::bits_at(block, at + 36, 8)
-}
-
-// The floor of the task that stands at a place; it too is in edition 2 alone.
-fn floor_in(block: &[u8], edition: u32, at: usize) -> u32
-    requires { ⌜ (at ≤ 761) × (at + taskWidth edition ≤ 8 * length (now block)) ⌝ }
-    ensures { λ r. ⌜ r ≡ taskFrom edition (drop at (unpacked (now (block .entry)))) .floor ⌝ }
-{
-    if edition != 2 {
-        return 0;
-    }
-    numeric::bits_at(block, at + 44, 3)
+    numeric::bits_at(block, at, n)
 }
 
 // Task i of a block.
@@ -56,8 +48,8 @@ fn task_in(block: &[u8], edition: u32, i: usize) -> Task
     let at = bit_count(edition, i);
     let period = numeric::bits_at(block, at, 16);
     let worst = numeric::bits_at(block, at + 16, 20);
-    let fixed = fixed_in(block, edition, at);
-    let floor = floor_in(block, edition, at);
+    let fixed = addition_in(block, edition, at + 36, 8);
+    let floor = addition_in(block, edition, at + 44, 3);
     Task {
         period,
         worst,
