@@ -238,7 +238,9 @@ fn fields_at_and_past_their_ranges() {
     let periods = edges(LARGEST_PERIOD as u32, 16);
     let worsts = edges(LARGEST_WORST as u32, 20);
     let fixed_ticks = edges(LARGEST_FIXED as u32, 8);
-    let floors = edges(MOST_LEVELS as u32 - 1, 3);
+    let mut floors = edges(MOST_LEVELS as u32 - 1, 3);
+    // With the high bit left out, these are levels.
+    floors.extend((3..32).map(|bit| (1 << bit) + 2));
     for length in [1, 2, 15, 16, 17, 1_000] {
         let places = if length > 20 {
             vec![0, 15, 16, 999]

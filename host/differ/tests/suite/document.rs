@@ -231,7 +231,8 @@ fn each_field_at_the_ends_of_its_range() {
             for floor in 1..8 {
                 wants(&with_all(65_535, 1, 0, floor), accepted(0, 65_535));
             }
-            for floor in past(3) {
+            // With the high bit left out, the second ones are levels.
+            for floor in past(3).into_iter().chain((3..32).map(|bit| (1 << bit) + 2)) {
                 wants(&with_all(65_535, 1, 0, floor), Err(24));
             }
         }

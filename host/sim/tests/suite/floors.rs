@@ -548,6 +548,12 @@ fn soundness_of_the_level() {
         let (state, _) = led(&floor_tasks(&[(40, 300, 0, floor)]), &[]);
         assert_eq!(sound_levels(&state), [floor]);
     }
+    // Another task's floor above nominal lifts the bound of that task alone. 31 ticks of 40 are
+    // nominal at level 0.
+    for floor in 0..8 {
+        let (state, _) = led(&floor_tasks(&[(40, 300, 0, floor), (80, 20, 0, 7)]), &[]);
+        assert_eq!(sound_levels(&state), [floor]);
+    }
     // Nominal is level 2 here, with 30 units a tick: 7 ticks of 7.
     for (floor, levels) in [(0, &[2][..]), (1, &[2]), (2, &[2]), (3, &[3]), (7, &[7])] {
         let (state, _) = led(&floor_tasks(&[(7, 210, 0, floor)]), &[]);
