@@ -1,4 +1,6 @@
 // An answer packed into one number, as C gets it.
+#![tactic(auto)]
+
 ghost use Rattle.std.specs.Prelude.{◌≡◌, ◌<◌, ◌^◌};
 ghost use Rattle.plan.specs.Numbers.{load_number, verdict_number, written_number, paired_number};
 ghost use Rattle.reclaiming.specs.Numbers.{reply_number, queued_number};

@@ -1,4 +1,6 @@
 // The bench program: reads a plan block and passes from standard input, and writes their listing.
+#![tactic(auto)]
+
 ghost use Rattle.std.specs.Prelude.{◌≡◌, length};
 
 // Room for the largest input, and for one byte more, so that a longer one is noticed.

@@ -1,4 +1,6 @@
 // Runs the cases that are not proved, and prints what each call gives.
+#![tactic(auto)]
+
 mod base;
 mod fixed_ticks;
 mod floors;

@@ -1,3 +1,5 @@
 // The dispatcher: whole runs on lent blocks, each from its start on.
+#![tactic(auto)]
+
 mod passes;
 pub mod play;

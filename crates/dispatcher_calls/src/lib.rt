@@ -1,4 +1,6 @@
 // The dispatcher's calls, for C and for tests: on numbers and lent slices, an answer packed into one number.
+#![tactic(auto)]
+
 ghost use Rattle.std.specs.Prelude.{◌≡◌, length};
 ghost use Rattle.plan.specs.Numbers.{written_number};
 ghost use Rattle.reclaiming.specs.Calls.{start_reply, start_buffer, pass_reply, pass_bytes, show_reply, show_buffer, queued_reply};

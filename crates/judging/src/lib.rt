@@ -1,4 +1,6 @@
 // Judging a plan: over a table of speeds, and over a level block.
+#![tactic(auto)]
+
 pub mod admission;
 pub mod ranges;
 pub mod verdicts;

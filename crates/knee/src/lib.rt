@@ -1,4 +1,6 @@
 // The knee itself: the damping at an angle, with its call for C. Beside it, how often a run sets the valve.
+#![tactic(auto)]
+
 mod curve;
 pub mod valve;
 

@@ -1,5 +1,7 @@
 // Tables of speeds as the code holds them, eight numbers, of which the first so many are the levels' speeds; the length of a level block, and the
 // speeds in it.
+#![tactic(auto)]
+
 pub mod reading;
 
 ghost use Rattle.std.specs.Prelude.{◌≡◌, ◌*◌, ◌≤◌, length};

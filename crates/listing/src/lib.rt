@@ -1,4 +1,6 @@
 // The bench program's library: the listing of an input.
+#![tactic(auto)]
+
 mod cutting;
 mod run_lines;
 

@@ -1,4 +1,6 @@
 // An order: which one is chosen, which one stands, and its hold.
+#![tactic(auto)]
+
 pub mod choosing;
 pub mod lone;
 

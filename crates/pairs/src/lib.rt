@@ -1,4 +1,6 @@
 // The list of pairs that comes with a plan: what question 22 asks.
+#![tactic(auto)]
+
 pub mod reading;
 
 ghost use Rattle.std.specs.Prelude.{◌≡◌, true, ◌≤◌, ◌%◌, length};

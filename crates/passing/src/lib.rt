@@ -1,4 +1,6 @@
 // A pass on a state block: whether it is accepted, what it makes of the state, and the order that stands then.
+#![tactic(auto)]
+
 mod accepted;
 mod questions;
 

@@ -1,4 +1,5 @@
 // Plans as values. What is right of them, and how they are judged, read and written, is in specs/ and proofs/.
+#![tactic(auto)]
 
 // A task: its period in ticks, its worst case in units of work, the fixed ticks that its job takes at every level, and its floor, the lowest
 // level that its job is run at.

@@ -1,4 +1,6 @@
 // The calls on plans, for C and for tests: on numbers and lent slices, an answer packed into one number.
+#![tactic(auto)]
+
 mod judged;
 pub mod lists;
 mod numbers;

@@ -1,4 +1,6 @@
 // Writing a plan block.
+#![tactic(auto)]
+
 mod bits;
 pub mod round_trips;
 

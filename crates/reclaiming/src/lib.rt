@@ -1,4 +1,5 @@
 // What the dispatcher promises is in specs/ and proofs/. The code has the types alone.
+#![tactic(auto)]
 
 // A task's entry in the state: its plan, with its floor, the work left of its job, the remaining ticks of that job in the plain schedule, the
 // task's fixed ticks, and those of them that are left of the job, unspent.

@@ -1,4 +1,6 @@
 // Showing the queue: the tasks that have remaining ticks, most urgent first.
+#![tactic(auto)]
+
 mod ready;
 
 ghost use Rattle.std.specs.Prelude.{◌≡◌, ◌++◌, ℕ, ◌*◌, ◌<◌, ◌≤◌, length, get_or, take, drop};

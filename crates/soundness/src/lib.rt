@@ -1,4 +1,6 @@
 // Whether a state block is sound.
+#![tactic(auto)]
+
 mod entries;
 mod order;
 

@@ -1,4 +1,6 @@
 // Starting: a state in which every task of a plan has a new job, with an order chosen in it.
+#![tactic(auto)]
+
 mod image;
 
 ghost use Rattle.std.specs.Prelude.{◌≡◌, ◌<◌, length};

@@ -1,4 +1,6 @@
 // The state block: its fields, and reading them.
+#![tactic(auto)]
+
 pub mod clock;
 pub mod layout;
 pub mod storing;

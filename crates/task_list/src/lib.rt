@@ -1,4 +1,6 @@
 // A list of tasks as a host holds it, judged without being packed.
+#![tactic(auto)]
+
 ghost use Rattle.std.specs.Prelude.{◌≡◌, [], length};
 ghost use Rattle.plan.specs.Blocks.{plan_of};
 ghost use Rattle.plan.specs.Answers.{judged_list};

@@ -1,4 +1,6 @@
 // Words and numbers in decimal stored into a lent buffer: each function returns the place past what it stored.
+#![tactic(auto)]
+
 pub mod lines;
 
 ghost use Rattle.std.specs.Prelude.{[], ◌∷◌, ◌+◌, ◌≤◌, length};

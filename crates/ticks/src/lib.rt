@@ -1,4 +1,6 @@
 // What d ticks make of a state, in its bytes.
+#![tactic(auto)]
+
 mod arriving;
 mod draining;
 

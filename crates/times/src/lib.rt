@@ -1,4 +1,6 @@
 // The time that a job needs, and what ticks leave of it: all that the code knows of how work and speeds make a time.
+#![tactic(auto)]
+
 ghost use Rattle.std.specs.Prelude.{◌≡◌, ◌<◌, ◌≤◌, leb};
 ghost use Rattle.plan.specs.Times.{time_of, worn, whole, no_rest, task_time};
 
