@@ -63,7 +63,7 @@ pub fn play(
 }
 
 // What playing a list and then showing the queue answer: the start's reply as a number, and what showing answers.
-#[derive(Drop)]
+#[derive(Clone, Copy)]
 pub struct Played {
     pub first: u64,
     pub shown: Written,

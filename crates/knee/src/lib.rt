@@ -10,7 +10,7 @@ ghost use Rattle.knee.specs.Curve.{damping_reply, damping_number};
 use crate::curve::damping_from;
 
 // What the lookup answers: the damping, or a refusal's number.
-#[derive(Drop)]
+#[derive(Clone, Copy)]
 pub enum Damped {
     Value(u32),
     Refused(u32),

@@ -21,7 +21,7 @@ use state::{LEVEL_AT, PLACES, TASK_AT, WORK_AT, WORK_WIDTH, floor_at, rest_at};
 use urgency::{NO_KEY, most_urgent, task_in};
 
 // An order without its hold: the task (255 for idle), the level, and the time that is left of its job there.
-#[derive(Drop)]
+#[derive(Clone, Copy)]
 pub struct Choice {
     pub task: u32,
     pub level: u32,

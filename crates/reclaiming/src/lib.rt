@@ -3,7 +3,7 @@
 
 // A task's entry in the state: its plan, with its floor, the work left of its job, the remaining ticks of that job in the plain schedule, the
 // task's fixed ticks, and those of them that are left of the job, unspent.
-#[derive(Drop)]
+#[derive(Clone, Copy)]
 pub struct Entry {
     pub period: u32,
     pub floor: u32,
@@ -15,7 +15,7 @@ pub struct Entry {
 }
 
 // What starting and passing answer: an order, or a refusal's number.
-#[derive(Drop)]
+#[derive(Clone, Copy)]
 pub enum Reply {
     Run { task: u32, level: u32, hold: u32 },
     Idle { hold: u32 },
@@ -23,7 +23,7 @@ pub enum Reply {
 }
 
 // What asking for the total of the plain ticks left answers: the total, or a refusal's number.
-#[derive(Drop)]
+#[derive(Clone, Copy)]
 pub enum Queued {
     Ticks(u32),
     Refused(u32),

@@ -8,7 +8,7 @@ use plan::Rest;
 use state::{remaining_at, rest_at, task_at, total_at};
 
 // What was found of the entries: whether each is sound and they come to the total, and whether each job can be done at the nominal speed in its remaining ticks.
-#[derive(Drop)]
+#[derive(Clone, Copy)]
 pub struct Entries {
     pub sound: bool,
     pub ahead: bool,

@@ -31,7 +31,7 @@ use state::{COUNT_AT, PLACES, clock_at, task_at};
 use urgency::{keys_of, next_arrival};
 
 // A block that was tested: whether it is sound and, if so, its nominal level, the keys of its jobs and the ticks to the next arrival.
-#[derive(Drop)]
+#[derive(Clone, Copy)]
 pub struct Tested {
     pub sound: bool,
     pub next: u32,

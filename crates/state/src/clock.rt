@@ -2,7 +2,7 @@
 ghost use Rattle.std.specs.Prelude.{◌≡◌, ◌+◌, ◌≤◌, leb};
 ghost use Rattle.reclaiming.specs.Passes.{largest_clock};
 
-#[derive(Drop)]
+#[derive(Clone, Copy)]
 pub struct Clock {
     pub ticks: u32,
 }

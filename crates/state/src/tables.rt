@@ -13,7 +13,7 @@ use crate::{
 };
 
 // The table of a block: its count of levels and the numbers at all eight places; 0 levels where the block has no table.
-#[derive(Drop)]
+#[derive(Clone, Copy)]
 pub struct OwnTable {
     pub levels: usize,
     pub speeds: [u32; 8],
