@@ -408,16 +408,16 @@ module _ {speeds b : List ℕ} {count : ℕ} {p : Plan} {v : Verdict} (k : Judge
 
 -- a clock that is out of range, or in it
 module _ (speeds b : List ℕ) {clock : ℕ} (c : clock ≡ (decode b).clock) where
-  in_time : {t : Bool} → leb clock largest_clock ≡ t → in_time (decode b).clock ≡ t
-  in_time f = ap (λ (n : ℕ). leb n largest_clock) (sym c) ∙ f
+  in_time_lem : {t : Bool} → leb clock largest_clock ≡ t → in_time (decode b).clock ≡ t
+  in_time_lem f = ap (λ (n : ℕ). leb n largest_clock) (sym c) ∙ f
 
   pub clock_refused : {r : Tested} → leb clock largest_clock ≡ false → r ≡ tested_by [] false [] → r ≡ tested_by speeds (timed_sound speeds (decode b)) b
-  clock_refused f e = tested_not speeds b e (ap (λ (t : Bool). both t (state_sound speeds (decode b))) (in_time f))
+  clock_refused f e = tested_not speeds b e (ap (λ (t : Bool). both t (state_sound speeds (decode b))) (in_time_lem f))
 
   pub clock_accepted :
       {r : Tested} →
       leb clock largest_clock ≡ true → r ≡ tested_by speeds (state_sound speeds (decode b)) b → r ≡ tested_by speeds (timed_sound speeds (decode b)) b
-  clock_accepted f e = e ∙ ap (λ (t : Bool). tested_by speeds t b) (sym (ap (λ (t : Bool). both t (state_sound speeds (decode b))) (in_time f)))
+  clock_accepted f e = e ∙ ap (λ (t : Bool). tested_by speeds t b) (sym (ap (λ (t : Bool). both t (state_sound speeds (decode b))) (in_time_lem f)))
 
 -- a block, by each way out
 abbrev Right : List ℕ → List ℕ → Tested → Type 0

@@ -1,0 +1,13 @@
+use mathlib.Core.Path.{ap, ◌∙◌}
+use lib.IntN.{ℤ}
+use mir.Syntax.{w32}
+use mir.ValLaws.{to_z-of_z}
+use Rattle.knee.specs.Curve.{damping_reply, damping_number}
+use Rattle.knee.proofs.kilmstra_damping.Goals as goal
+
+-- first, so that a wrong answer is refused here
+pub returns : goal.returns
+returns c =
+    c.damping_number.ensures
+    ∙ ap damping_number c.damping-d.ensures
+    ∙ ap (λ (z : ℤ). damping_number (damping_reply z)) (to_z-of_z w32 c.args.angle c.fits.angle)

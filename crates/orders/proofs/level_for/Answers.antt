@@ -1,0 +1,54 @@
+use Prim.Native.Nat.{ℕ, ◌+◌, ◌/◌}
+use native.Mathlib.Omega.{arith}
+use Rattle.levels.specs.Code.{loaded}
+use Rattle.levels.proofs.Tables.{levels_are, speed_positive, speed_most}
+use Rattle.reclaiming.proofs.Lowest.{lowest_le}
+use Rattle.orders.proofs.OrderLaws.{Tried, level_high, level_low}
+use Rattle.orders.proofs.level_for.Goals.{After-is_enough, In-loop-low}
+use Rattle.orders.proofs.level_for.Goals as goal
+
+-- the level that a turn tries
+abbrev middle : In-loop-low → ℕ
+middle c = (c.loop-low.low + c.loop-low.high) / 2
+
+tried : (c : After-is_enough) →
+    Tried c.args.speeds.now c.args.levels c.args.rest c.args.allowed c.args.floor ((c.loop-low.low + c.loop-low.high) / 2) c.is_enough.result
+tried c = record { table = c.requires.table.0; above = omega arith; low = omega arith; found_is = c.is_enough.ensures }
+
+pub loop-low-init : goal.loop-low-init
+loop-low-init c = (
+  omega arith,
+  omega arith,
+  lowest_le (loaded c.args.speeds.now c.args.levels) c.args.floor c.args.rest c.args.allowed c.args.highest c.requires.table.2
+      (omega (arith, c.requires.table.3, levels_are c.requires.table.0)) c.requires.rest_bound,
+  omega arith,
+)
+
+pub loop-low-preserved-then-is_enough : goal.loop-low-preserved-then-is_enough
+loop-low-preserved-then-is_enough c =
+    let now = c.loop-low.invariant in
+    (now.0, now.1, level_high (tried (goal.at.loop-low-preserved-then-is_enough c).After-is_enough) c.if-is_enough.true, omega arith)
+
+pub loop-low-preserved : goal.loop-low-preserved
+loop-low-preserved c =
+    let now = c.loop-low.invariant in
+    (omega arith, level_low (tried (goal.at.loop-low-preserved c).After-is_enough) c.if-is_enough.false, now.2, now.3)
+
+pub returns : goal.returns
+returns c = (omega arith, omega arith)
+
+pub overflow_add-middle : goal.overflow_add-middle
+overflow_add-middle c = omega (arith, c.requires.table.0.few)
+
+pub offset_bounds-speeds-middle : goal.offset_bounds-speeds-middle
+offset_bounds-speeds-middle c = omega (arith, c.requires.table.0.few)
+
+pub bounds-speeds-middle : goal.bounds-speeds-middle
+bounds-speeds-middle c = omega (arith, c.requires.table.0.few)
+
+pub is_enough-requires : goal.is_enough-requires
+is_enough-requires c =
+    (speed_positive c.requires.table.0 (middle (goal.at.is_enough-requires c).In-loop-low) (omega arith), speed_most c.requires.table.0 (middle (goal.at.is_enough-requires c).In-loop-low) (omega arith), c.requires.table.1)
+
+pub overflow_add-low : goal.overflow_add-low
+overflow_add-low c = omega (arith, c.requires.table.0.few)

@@ -1,0 +1,44 @@
+use Prim.Native.Nat.{ℕ}
+use mathlib.Core.List.{List}
+use native.Mathlib.Omega.{arith}
+use Rattle.state.proofs.tables.TableLaws.{Gathers, gathered_length, none_long, none_few, none_many, found_none, found_falling, found_rising}
+use Rattle.state.proofs.tables.own_table.Goals.{After-shared_slice_known-1, After-speeds_of-speeds}
+use Rattle.state.proofs.tables.own_table.Goals as goal
+
+-- the block
+abbrev bytes : After-shared_slice_known-1 → List ℕ
+bytes c = c.args.block.now
+
+pub returns-then-block-ne-STATE_LENGTH : goal.returns-then-block-ne-STATE_LENGTH
+returns-then-block-ne-STATE_LENGTH c = found_none (bytes (goal.at.returns-then-block-ne-STATE_LENGTH c).After-shared_slice_known-1) (none_long (bytes (goal.at.returns-then-block-ne-STATE_LENGTH c).After-shared_slice_known-1) c.if-block-ne-STATE_LENGTH.true) c.no_table.ensures
+
+pub returns-then-count-lt1 : goal.returns-then-count-lt1
+returns-then-count-lt1 c =
+    found_none (bytes (goal.at.returns-then-count-lt1 c).After-shared_slice_known-1) (none_few (bytes (goal.at.returns-then-count-lt1 c).After-shared_slice_known-1) c.if-block-ne-STATE_LENGTH.false (omega (arith, c.levels_at-count.ensures, c.if-count-lt1.true))) c.no_table-then-count-lt1.ensures
+
+pub returns-then-count-gt-LEVEL_PLACES : goal.returns-then-count-gt-LEVEL_PLACES
+returns-then-count-gt-LEVEL_PLACES c =
+    found_none (bytes (goal.at.returns-then-count-gt-LEVEL_PLACES c).After-shared_slice_known-1) (none_many (bytes (goal.at.returns-then-count-gt-LEVEL_PLACES c).After-shared_slice_known-1) c.if-block-ne-STATE_LENGTH.false (omega (arith, c.levels_at-count.ensures, c.if-count-gt-LEVEL_PLACES.true))) c.no_table-then-count-gt-LEVEL_PLACES.ensures
+
+-- the speeds that were gathered
+gathers : (c : After-speeds_of-speeds) →
+    Gathers (c.args.block.now) c.speeds_of-speeds.result c.levels_at-count.result
+gathers c =
+    record {
+      size = c.if-block-ne-STATE_LENGTH.false;
+      some = omega (arith, c.if-count-lt1.false);
+      few = omega (arith, c.if-count-gt-LEVEL_PLACES.false);
+      counted = c.levels_at-count.ensures;
+      gathered = c.speeds_of-speeds.ensures;
+    }
+
+pub rises-requires : goal.rises-requires
+rises-requires c = (omega (arith, c.if-count-gt-LEVEL_PLACES.false), gathered_length (gathers (goal.at.rises-requires c).After-speeds_of-speeds))
+
+pub returns-then-not-rises : goal.returns-then-not-rises
+returns-then-not-rises c =
+    found_falling (gathers (goal.at.returns-then-not-rises c).After-speeds_of-speeds) c.rises.ensures c.if-not-rises.true c.no_table-then-not-rises.ensures
+
+pub returns : goal.returns
+returns c =
+    found_rising (gathers (goal.at.returns c).After-speeds_of-speeds) c.rises.ensures c.if-not-rises.false

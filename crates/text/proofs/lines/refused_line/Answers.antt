@@ -1,0 +1,11 @@
+use native.Mathlib.Omega.{arith}
+use Rattle.text.proofs.Puts.{◌then◌, wider}
+use Rattle.text.proofs.lines.refused_line.Goals as goal
+
+pub returns : goal.returns
+returns c =
+    wider
+    (c.put_word-worded.ensures
+    then c.put_spaced-numbered.ensures
+    then c.put_byte.ensures)
+    (omega arith)
