@@ -16,7 +16,6 @@ use Rattle.plan.specs.LevelBlocks.{loading, speeds_in}
 use Rattle.plan.specs.Questions.{task_questions, judging, writing, room_question}
 use Rattle.arith.specs.Asking.{Question, first_no}
 use Rattle.plan.specs.Answers.{answered, write_number, stored_by}
-use Rattle.plan.specs.Laws.{Bytes}
 use Rattle.judging.proofs.verdicts.Judgements.{count_low, count_high, count_good}
 use Rattle.arith.proofs.QuestionLaws.{ask_no, ask_yes, no_before, yes_before}
 use Rattle.plan.proofs.AnswerLaws.{Refusal, told_refused, told_admitted, Leaves, leaves_refused, leaves_written}

@@ -1,3 +1,1 @@
 pub mod Gathering
-pub mod TaskSlices
-pub mod Passing

@@ -10,4 +10,4 @@ pub returns : goal.returns
 returns c =
     c.damping_number.ensures
     ∙ ap damping_number c.damping-d.ensures
-    ∙ ap (λ (z : ℤ). damping_number (damping_reply z)) (to_z-of_z w32 c.args.angle c.fits.angle)
+    ∙ ap (λ (z : ℤ). damping_number (damping_reply z)) (to_z-of_z w32 c.args.angle c.ranges.angle)

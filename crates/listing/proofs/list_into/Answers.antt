@@ -8,8 +8,8 @@ pub returns-then-input-gt65536 : goal.returns-then-input-gt65536
 returns-then-input-gt65536 c =
     let all = front c.refused_line.ensures (omega (arith, c.requires)) (over_is c.args.input.now (omega arith)) in record {
       value = all.0;
-      out_after = all.1;
-      upper_bound = all.2;
+      out_after = all.1.0;
+      upper_bound = all.1.1;
     }
 
 pub slice_bounds-plan_listing-end : goal.slice_bounds-plan_listing-end
@@ -20,6 +20,6 @@ pub returns : goal.returns
 returns c =
     let all = front c.plan_listing.ensures (omega (arith, c.requires)) (cut_is c.args.input.now (omega arith) c.level_cut-cut.ensures.value) in record {
       value = all.0;
-      out_after = all.1;
-      upper_bound = all.2;
+      out_after = all.1.0;
+      upper_bound = all.1.1;
     }

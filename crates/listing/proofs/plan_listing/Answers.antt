@@ -24,7 +24,7 @@ known c = record { is_cut = c.plan_cut-cut.ensures.value; is_read = c.read-judge
 
 pub returns-in_default : goal.returns-in_default
 returns-in_default c =
-    as_text c.refused_line.ensures (refused_is (known (goal.at.returns-in_default c).After-read-judged) c.refusal_of.ensures c.enum_told-1.given.1) (omega arith)
+    as_text c.refused_line.ensures (refused_is (known (goal.at.returns-in_default c).After-read-judged) c.refusal_of.ensures c.in_default.is) (omega arith)
 
 pub slice_bounds-started_lines-end : goal.slice_bounds-started_lines-end
 slice_bounds-started_lines-end c =
@@ -32,4 +32,4 @@ slice_bounds-started_lines-end c =
 
 pub returns : goal.returns
 returns c =
-    as_text (c.plan_line-at.ensures then c.started_lines.ensures) (admitted_is (known (goal.at.returns c).After-read-judged) c.verdict-1.given.1) (omega arith)
+    as_text (c.plan_line-at.ensures then c.started_lines.ensures) (admitted_is (known (goal.at.returns c).After-read-judged) c.in-Admitted.is) (omega arith)

@@ -24,6 +24,11 @@ loop-low-init c = (
   omega arith,
 )
 
+pub is_enough-requires : goal.is_enough-requires
+is_enough-requires c =
+    let m = middle (goal.at.is_enough-requires c).In-loop-low in
+    (speed_positive c.requires.table.0 m (omega arith), speed_most c.requires.table.0 m (omega arith), c.requires.table.1)
+
 pub loop-low-preserved-then-is_enough : goal.loop-low-preserved-then-is_enough
 loop-low-preserved-then-is_enough c =
     let now = c.loop-low.invariant in
@@ -33,22 +38,3 @@ pub loop-low-preserved : goal.loop-low-preserved
 loop-low-preserved c =
     let now = c.loop-low.invariant in
     (omega arith, level_low (tried (goal.at.loop-low-preserved c).After-is_enough) c.if-is_enough.false, now.2, now.3)
-
-pub returns : goal.returns
-returns c = (omega arith, omega arith)
-
-pub overflow_add-middle : goal.overflow_add-middle
-overflow_add-middle c = omega (arith, c.requires.table.0.few)
-
-pub offset_bounds-speeds-middle : goal.offset_bounds-speeds-middle
-offset_bounds-speeds-middle c = omega (arith, c.requires.table.0.few)
-
-pub bounds-speeds-middle : goal.bounds-speeds-middle
-bounds-speeds-middle c = omega (arith, c.requires.table.0.few)
-
-pub is_enough-requires : goal.is_enough-requires
-is_enough-requires c =
-    (speed_positive c.requires.table.0 (middle (goal.at.is_enough-requires c).In-loop-low) (omega arith), speed_most c.requires.table.0 (middle (goal.at.is_enough-requires c).In-loop-low) (omega arith), c.requires.table.1)
-
-pub overflow_add-low : goal.overflow_add-low
-overflow_add-low c = omega (arith, c.requires.table.0.few)

@@ -20,14 +20,14 @@ pub loop-k-init : goal.loop-k-init
 loop-k-init c = record { within = omega arith; even = refl; rest = refl }
 
 pub overflow_cast-earlier : goal.overflow_cast-earlier
-overflow_cast-earlier c = omega (arith, c.shared_slice_known-in-loop-k-1.given c.loop-k.k)
+overflow_cast-earlier c = omega (arith, c.type_inv.pairs c.loop-k.k)
 
 pub bounds-pairs-k-in-loop-k : goal.bounds-pairs-k-in-loop-k
 bounds-pairs-k-in-loop-k c =
     second_there c.requires.2 c.loop-k.invariant (omega (arith, c.loop-k-test.true))
 
 pub overflow_cast-later : goal.overflow_cast-later
-overflow_cast-later c = omega (arith, c.shared_slice_known-in-loop-k-2-1.given (c.loop-k.k + 1))
+overflow_cast-later c = omega (arith, c.type_inv.pairs (c.loop-k.k + 1))
 
 pub returns-then-p-earlier : goal.returns-then-p-earlier
 returns-then-p-earlier c =

@@ -20,14 +20,14 @@ abbrev asked : After-read_levels-board → List ℕ → List Question
 asked c speeds = reading speeds (block c)
 
 -- the level block is accepted
-loads : (c : In-Levels) → Loads (c.args.levels.now) c.read_levels-board.result.speeds c.answer-in-Levels-1.given.0.0
-loads c = told_loaded (c.args.levels.now) c.read_levels-board.ensures c.answer-in-Levels-1.given.1
+loads : (c : In-Levels) → Loads (c.args.levels.now) c.read_levels-board.result.speeds c.in-Levels.count
+loads c = told_loaded (c.args.levels.now) c.read_levels-board.ensures c.in-Levels.is
 
 -- first, so that a wrong answer is refused here
 pub returns-in-Refused : goal.returns-in-Refused
 returns-in-Refused c =
     entered_refused (table (goal.at.returns-in-Refused c).After-read_levels-board) (asked (goal.at.returns-in-Refused c).After-read_levels-board) (tasks_in (block (goal.at.returns-in-Refused c).After-read_levels-board))
-    (told_unloaded (table (goal.at.returns-in-Refused c).After-read_levels-board) c.read_levels-board.ensures c.answer-1.given.1) c.refused.ensures
+    (told_unloaded (table (goal.at.returns-in-Refused c).After-read_levels-board) c.read_levels-board.ensures c.in-Refused.is) c.refused.ensures
 
 pub returns-in-Levels : goal.returns-in-Levels
 returns-in-Levels c =

@@ -29,7 +29,7 @@ wanted c =
     let rated : Rated (loaded c.args.speeds.now c.args.levels) c.args.p c.verdict_of-v.result = record { low = c.if-count-lt1.false; high = c.if-count-gt16.false; verdict_is = c.verdict_of-v.ensures } in
     let plan : Held c.args.p = record { places = search (length_mapped, rules); most = c.if-count-gt16.false } in
     record {
-      fine = rated_fine rated c.enum_told-1.given.1;
+      fine = rated_fine rated c.in_default.is;
       wanted = c.block_length-wanted.ensures ∙ sym (plan_block-length plan c.edition_of-edition.ensures);
     }
 
@@ -49,7 +49,7 @@ returns-then-count-gt16 c =
 
 pub returns-in-Refused : goal.returns-in-Refused
 returns-in-Refused c =
-    let all = wrote_refused (rated (goal.at.returns-in-Refused c).After-verdict_of-v) c.args.buffer.now c.v-1.given.1 in record {
+    let all = wrote_refused (rated (goal.at.returns-in-Refused c).After-verdict_of-v) c.args.buffer.now c.in-Refused.is in record {
       value = all.0;
       buffer_after = all.1;
     }

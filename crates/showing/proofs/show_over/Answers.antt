@@ -1,48 +1,30 @@
-use Prim.Native.Nat.{ℕ}
-use mathlib.Core.List.{List}
 use native.Mathlib.Omega.{arith}
 use borrow.Author.Tests.{not-true, not-false}
-use Rattle.plan.specs.declared.Written.{Written}
 use Rattle.levels.specs.Code.{loaded}
 use Rattle.soundness.specs.Code.{Good}
 use Rattle.soundness.proofs.SoundLaws.{tested_good}
 use Rattle.showing.proofs.ready.ReadySteps.{listed_few, listed_below}
-use Rattle.showing.proofs.ShowLaws.{LeftByShow, Shown, over_own, Showing, show_unsound, show_short, show_stored}
-use Rattle.showing.proofs.show_over.Goals.{After-ready-q, After-test_block-tested, Else-not-tested}
+use Rattle.showing.proofs.ShowLaws.{over_own, Showing, show_unsound, show_short, show_stored}
+use Rattle.showing.proofs.show_over.Goals.{After-ready-q, Else-not-tested}
 use Rattle.showing.proofs.show_over.Goals as goal
 
--- the speeds of the block's own table, as they are handed over
-abbrev table : After-test_block-tested → List ℕ
-table c = loaded c.args.speeds.now c.args.levels
-
-abbrev state : Else-not-tested → List ℕ
-state c = c.args.state.now
-
-abbrev buffer : After-ready-q → List ℕ
-buffer c = c.args.buffer.now
-
--- what is shown at them is what the call shows
-answers : (c : tie.After-test-block) {r : Written} {m : List ℕ} →
-    LeftByShow (table c) (start c).args.state.now (start c).args.buffer.now r m →
-    Shown (start c).args.state.now (start c).args.buffer.now r m
-answers c = over_own (start c).requires (start c).args.buffer.now
-
-good : (c : Else-not-tested) → Good (loaded c.args.speeds.now c.args.levels) (state c) c.test_block-tested.result.keys c.test_block-tested.result.nominal
+good : (c : Else-not-tested) →
+    Good (loaded c.args.speeds.now c.args.levels) c.args.state.now c.test_block-tested.result.keys c.test_block-tested.result.nominal
 good c =
-    tested_good (loaded c.args.speeds.now c.args.levels) (state c) c.test_block-tested.result c.test_block-tested.ensures c.requires.table.rising
+    tested_good (loaded c.args.speeds.now c.args.levels) c.args.state.now c.test_block-tested.result c.test_block-tested.ensures c.requires.table.rising
     (not-false c.test_block-tested.result.sound c.if-not-tested.false)
 
 showing : (c : After-ready-q) →
-    Showing (loaded c.args.speeds.now c.args.levels) (c.args.state.now) c.test_block-tested.result.keys c.test_block-tested.result.nominal
+    Showing (loaded c.args.speeds.now c.args.levels) c.args.state.now c.test_block-tested.result.keys c.test_block-tested.result.nominal
     c.count_at.result c.ready-q.result
 showing c =
-    let good : Good (loaded c.args.speeds.now c.args.levels) (c.args.state.now) c.test_block-tested.result.keys c.test_block-tested.result.nominal = tested_good (loaded c.args.speeds.now c.args.levels) (c.args.state.now) c.test_block-tested.result c.test_block-tested.ensures c.requires.table.rising
+    let good : Good (loaded c.args.speeds.now c.args.levels) c.args.state.now c.test_block-tested.result.keys c.test_block-tested.result.nominal =
+    tested_good (loaded c.args.speeds.now c.args.levels) c.args.state.now c.test_block-tested.result c.test_block-tested.ensures c.requires.table.rising
     (not-false c.test_block-tested.result.sound c.if-not-tested.false) in
-    let counted = c.count_at.ensures in
     record {
       good = good;
-      counted = counted;
-      listed = record { few = omega (arith, counted, (good).holds.few); is = c.ready-q.ensures };
+      counted = c.count_at.ensures;
+      listed = record { few = omega (arith, c.count_at.ensures, good.holds.few); is = c.ready-q.ensures };
     }
 
 pub test_block-tested-requires : goal.test_block-tested-requires
@@ -50,12 +32,10 @@ test_block-tested-requires c = (c.requires.table, c.requires.size)
 
 pub returns-then-not-tested : goal.returns-then-not-tested
 returns-then-not-tested c =
-    let all = answers (goal.at.returns-then-not-tested c).After-test_block-tested
-    (show_unsound (table (goal.at.returns-then-not-tested c).After-test_block-tested) c.args.state.now c.args.buffer.now c.test_block-tested.result c.test_block-tested.ensures
-    (not-true c.test_block-tested.result.sound c.if-not-tested.true)) in record {
-      value = all.0;
-      buffer_after = all.1;
-    }
+    let all = over_own c.requires c.args.buffer.now
+    (show_unsound (loaded c.args.speeds.now c.args.levels) c.args.state.now c.args.buffer.now c.test_block-tested.result c.test_block-tested.ensures
+    (not-true c.test_block-tested.result.sound c.if-not-tested.true)) in
+    record { value = all.0; buffer_after = all.1 }
 
 pub count_at-requires : goal.count_at-requires
 count_at-requires c = (good (goal.at.count_at-requires c).Else-not-tested).holds
@@ -70,20 +50,19 @@ overflow_mul-wanted c = omega (arith, listed_few (showing (goal.at.overflow_mul-
 
 pub returns-then-buffer-wanted : goal.returns-then-buffer-wanted
 returns-then-buffer-wanted c =
-    let all = answers (goal.at.returns-then-buffer-wanted c).After-test_block-tested (show_short (showing (goal.at.returns-then-buffer-wanted c).After-ready-q) (buffer (goal.at.returns-then-buffer-wanted c).After-ready-q) (omega (arith, c.if-buffer-wanted.true))) in record {
-      value = all.0;
-      buffer_after = all.1;
-    }
+    let all = over_own c.requires c.args.buffer.now
+    (show_short (showing (goal.at.returns-then-buffer-wanted c).After-ready-q) c.args.buffer.now (omega (arith, c.if-buffer-wanted.true))) in
+    record { value = all.0; buffer_after = all.1 }
 
 pub put_queue-requires : goal.put_queue-requires
-put_queue-requires c = record {
-  state_len = ((good (goal.at.put_queue-requires c).Else-not-tested).holds.size, listed_few (showing (goal.at.put_queue-requires c).After-ready-q).listed, c.if-buffer-wanted.false);
-  by_index = listed_below (showing (goal.at.put_queue-requires c).After-ready-q).listed;
-}
+put_queue-requires c =
+    let k = showing (goal.at.put_queue-requires c).After-ready-q in record {
+      state_len = (k.good.holds.size, listed_few k.listed, c.if-buffer-wanted.false);
+      by_index = listed_below k.listed;
+    }
 
 pub returns : goal.returns
 returns c =
-    let all = answers (goal.at.returns c).After-test_block-tested (show_stored (showing (goal.at.returns c).After-ready-q) (buffer (goal.at.returns c).After-ready-q) c.if-buffer-wanted.false c.put_queue.ensures) in record {
-      value = all.0;
-      buffer_after = all.1;
-    }
+    let all = over_own c.requires c.args.buffer.now
+    (show_stored (showing (goal.at.returns c).After-ready-q) c.args.buffer.now c.if-buffer-wanted.false c.put_queue.ensures) in
+    record { value = all.0; buffer_after = all.1 }

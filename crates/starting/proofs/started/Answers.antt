@@ -34,10 +34,11 @@ below c = omega (arith, level_below (accepted c), levels_are c.requires.table.0)
 -- the new image
 new : (c : After-fresh-image) → Newly (loaded c.args.speeds.now c.args.levels) (tasks_of c.args.p) c.fresh-image.result
 new c =
-    let accepted : Planned (loaded c.args.speeds.now c.args.levels) c.args.p c.args.highest = planned (loaded c.args.speeds.now c.args.levels) c.args.p c.args.highest ((let size : length c.args.p.tasks ≡ 16 = search (length_mapped, rules) in size)) c.requires.p_value c.requires.highest_value in
-    let below : c.args.highest < c.args.levels = omega (arith, level_below ((let accepted : Planned (loaded c.args.speeds.now c.args.levels) c.args.p c.args.highest = planned (loaded c.args.speeds.now c.args.levels) c.args.p c.args.highest ((let size : length c.args.p.tasks ≡ 16 = search (length_mapped, rules) in size)) c.requires.p_value c.requires.highest_value in accepted)), levels_are c.requires.table.0) in
+    let size : length c.args.p.tasks ≡ 16 = search (length_mapped, rules) in
+    let accepted : Planned (loaded c.args.speeds.now c.args.levels) c.args.p c.args.highest =
+    planned (loaded c.args.speeds.now c.args.levels) c.args.p c.args.highest size c.requires.p_value c.requires.highest_value in
     newly c.requires.table.0.rising (table_stored c.requires.table.0) accepted
-    (speed_is c.requires.table.0 c.args.highest below)
+    (speed_is c.requires.table.0 c.args.highest (omega (arith, level_below accepted, levels_are c.requires.table.0)))
     c.fresh-image.ensures
 
 pub returns-then-state-lt-STATE_LENGTH : goal.returns-then-state-lt-STATE_LENGTH
@@ -74,11 +75,11 @@ keys_of-keys-requires c =
 
 pub choose-r-requires : goal.choose-r-requires
 choose-r-requires c =
-    let r = new_ready (new (goal.at.choose-r-requires c).After-fresh-image) (sym (count_is (accepted (goal.at.choose-r-requires c).Start).plan.held)) c.keys_of-keys.ensures c.args.highest c.requires.highest_value in
-    let all = ((c.requires.table.0, r.0.0, r.0.1, r.0.2), r.1) in record {
-      table = all.0;
-      enough = all.1;
-      keyed = all.2;
+    let k = new (goal.at.choose-r-requires c).After-fresh-image in
+    let r = new_ready k (sym (count_is (accepted (goal.at.choose-r-requires c).Start).plan.held)) c.keys_of-keys.ensures c.args.highest c.requires.highest_value in record {
+      table = (c.requires.table.0, r.0.0, r.0.1, r.0.2);
+      enough = r.1.0;
+      keyed = r.1.1;
     }
 
 pub returns : goal.returns

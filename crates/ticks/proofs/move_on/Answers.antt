@@ -1,61 +1,37 @@
-use mathlib.Core.Path.{ap, ◌∙◌}
 use Prim.Native.Nat.{ℕ, ◌+◌, ◌-◌}
-use mathlib.Core.List.{List}
+use mathlib.Core.Path.{ap, ◌∙◌}
 use native.Mathlib.Omega.{arith}
 use borrow.Author.Rules.{rules}
 use Rattle.ticks.proofs.TickSteps.{Moving, Prepared, Clocked, Stepped, highest_small, moving_short, moving_few, moving_keys, moving_none, order_form, speed_range}
 use Rattle.ticks.proofs.TickSteps.{clocked_allots, clocked_total, clocked_small, moved_on}
-use Rattle.ticks.proofs.move_on.Goals.{After-count_at-count, After-put_number, After-put_total, After-speed-1, Start}
+use Rattle.ticks.proofs.move_on.Goals.{After-count_at-count, After-put_number, After-put_total}
 use Rattle.ticks.proofs.move_on.Goals as goal
 
--- what the block holds at the start, and the places that others are reached from
-abbrev block : Start → List ℕ
-block c = c.args.block.now
-
-abbrev keys : Start → List ℕ
-keys c = c.args.keys.now
-
-moving : (c : After-count_at-count) →
-    Moving c.args.speeds.now c.args.levels (c.args.block.now) (c.args.keys.now) c.args.highest c.args.d c.args.c c.count_at-count.result
+moving : (c : After-count_at-count) → Moving c.args.speeds.now c.args.levels c.args.block.now c.args.keys.now c.args.highest c.args.d c.args.c c.count_at-count.result
 moving c = record { table = c.requires.table.0; step = c.requires.table.1; order = c.requires.c_value; same = c.count_at-count.ensures }
 
-prepared : (c : After-speed-1) →
-    Prepared c.args.speeds.now c.args.levels (c.args.block.now) (c.args.keys.now) c.args.highest c.args.d c.args.c
+prepared :
+    (c : After-put_number) →
+    Prepared c.args.speeds.now c.args.levels c.args.block.now c.args.keys.now c.args.highest c.args.d c.args.c
     c.count_at-count.result c.after-clock.result.ticks
-prepared c =
-    let moving : Moving c.args.speeds.now c.args.levels (c.args.block.now) (c.args.keys.now) c.args.highest c.args.d c.args.c c.count_at-count.result = record { table = c.requires.table.0; step = c.requires.table.1; order = c.requires.c_value; same = c.count_at-count.ensures } in
-    record {
-      moving = moving;
-      clock_is = c.after-clock.ensures ∙ ap (λ (x : ℕ). x + c.args.d) (c.new.ensures ∙ c.clock_at.ensures);
-    }
+prepared c = record {
+  moving = record { table = c.requires.table.0; step = c.requires.table.1; order = c.requires.c_value; same = c.count_at-count.ensures };
+  clock_is = c.after-clock.ensures ∙ ap (λ (x : ℕ). x + c.args.d) (c.new.ensures ∙ c.clock_at.ensures);
+}
 
 -- the block before the arrivals, and what is left of the total
-clocked : (c : After-put_number) →
-    Clocked c.args.speeds.now c.args.levels (c.args.block.now) (c.args.keys.now) c.args.highest c.args.d c.args.c
+clocked :
+    (c : After-put_number) →
+    Clocked c.args.speeds.now c.args.levels c.args.block.now c.args.keys.now c.args.highest c.args.d c.args.c
     c.count_at-count.result c.after-clock.result.ticks c.args.finished
-    c.drain.last.0 c.work_off.last.1.1.0 c.put_number.new.0 c.left_of-left.result
-clocked c =
-    let prepared : Prepared c.args.speeds.now c.args.levels (c.args.block.now) (c.args.keys.now) c.args.highest c.args.d c.args.c
-    c.count_at-count.result c.after-clock.result.ticks = record {
-      moving = (let moving : Moving c.args.speeds.now c.args.levels (c.args.block.now) (c.args.keys.now) c.args.highest c.args.d c.args.c c.count_at-count.result = record { table = c.requires.table.0; step = c.requires.table.1; order = c.requires.c_value; same = c.count_at-count.ensures } in moving);
-      clock_is = c.after-clock.ensures ∙ ap (λ (x : ℕ). x + c.args.d) (c.new.ensures ∙ c.clock_at.ensures);
-    } in
-    record {
-      prepared = prepared;
-      drains = c.drain.ensures;
-      works = c.work_off.ensures;
-      clocks = c.put_number.ensures;
-      lowered = c.left_of-left.ensures ∙ ap (λ (x : ℕ). x - c.args.d) c.total_at.ensures;
-    }
-
-pub count_at-count-requires : goal.count_at-count-requires
-count_at-count-requires c = c.requires.table.1.good.holds
-
-pub clock_at-requires : goal.clock_at-requires
-clock_at-requires c = (moving c).step.good.holds.size
-
-pub after-clock-requires : goal.after-clock-requires
-after-clock-requires c = omega (arith, (moving (goal.at.after-clock-requires c).After-count_at-count).step.clock, c.new.ensures, c.clock_at.ensures)
+    c.drain.new.block c.work_off.new.block c.put_number.new.s c.left_of-left.result
+clocked c = record {
+  prepared = prepared c;
+  drains = c.drain.ensures;
+  works = c.work_off.ensures;
+  clocks = c.put_number.ensures;
+  lowered = c.left_of-left.ensures ∙ ap (λ (x : ℕ). x - c.args.d) c.total_at.ensures;
+}
 
 pub offset_bounds-speeds-highest : goal.offset_bounds-speeds-highest
 offset_bounds-speeds-highest c =
@@ -67,54 +43,44 @@ bounds-speeds-highest c =
     let k = moving (goal.at.bounds-speeds-highest c).After-count_at-count in
     omega (arith, highest_small k, k.table.few)
 
-pub drain-requires : goal.drain-requires
-drain-requires c =
-    let k = moving (goal.at.drain-requires c).After-count_at-count in record {
-      count_le_places = (moving_few k, k.step.good.holds.size);
-      by_index = moving_keys k;
-    }
+pub drain-requires-clause-by_index : goal.drain-requires-clause-by_index
+drain-requires-clause-by_index c = moving_keys (moving (goal.at.drain-requires-clause-by_index c).After-count_at-count)
 
-pub work_off-requires : goal.work_off-requires
-work_off-requires c =
-    let k = moving (goal.at.work_off-requires c).After-count_at-count in record {
-      table = (k.table, search rules, moving_short k);
-      task_lt_places = order_form k;
-    }
+pub work_off-requires-clause-table : goal.work_off-requires-clause-table
+work_off-requires-clause-table c =
+    let k = moving (goal.at.work_off-requires-clause-table c).After-count_at-count in (k.table, search rules, moving_short k)
 
-pub arrive_if-total-requires : goal.arrive_if-total-requires
-arrive_if-total-requires c =
-    let k = moving (goal.at.arrive_if-total-requires c).After-count_at-count in record {
-      count_le_places = (moving_few k, search rules, (speed_range k).0, (speed_range k).1);
-      by_index = (λ i h. (moving_keys k i h).1, moving_none (prepared (goal.at.arrive_if-total-requires c).After-speed-1) _ c.requires.next_value);
-      allots = (clocked_allots (clocked (goal.at.arrive_if-total-requires c).After-put_number), clocked_total (clocked (goal.at.arrive_if-total-requires c).After-put_number), clocked_small (clocked (goal.at.arrive_if-total-requires c).After-put_number));
-    }
+pub work_off-requires-clause-task_lt_places : goal.work_off-requires-clause-task_lt_places
+work_off-requires-clause-task_lt_places c = order_form (moving (goal.at.work_off-requires-clause-task_lt_places c).After-count_at-count)
 
-pub put_total-requires : goal.put_total-requires
-put_total-requires c =
-    let k = moving (goal.at.put_total-requires c).After-count_at-count in
-    search rules
+pub arrive_if-total-requires-clause-count_le_places : goal.arrive_if-total-requires-clause-count_le_places
+arrive_if-total-requires-clause-count_le_places c =
+    let k = moving (goal.at.arrive_if-total-requires-clause-count_le_places c).After-count_at-count in
+    (moving_few k, search rules, (speed_range k).0, (speed_range k).1)
+
+pub arrive_if-total-requires-clause-by_index : goal.arrive_if-total-requires-clause-by_index
+arrive_if-total-requires-clause-by_index c =
+    let k = moving (goal.at.arrive_if-total-requires-clause-by_index c).After-count_at-count in (
+      λ i h. (moving_keys k i h).1,
+      moving_none (prepared (goal.at.arrive_if-total-requires-clause-by_index c).After-put_number) _ c.requires.next_value,
+    )
+
+pub arrive_if-total-requires-clause-allots : goal.arrive_if-total-requires-clause-allots
+arrive_if-total-requires-clause-allots c =
+    let k = clocked (goal.at.arrive_if-total-requires-clause-allots c).After-put_number in
+    (clocked_allots k, clocked_total k, clocked_small k)
 
 -- and after them
-stepped : (c : After-put_total) →
-    Stepped c.args.speeds.now c.args.levels (c.args.block.now) (c.args.keys.now) c.args.highest c.args.d c.args.c
+stepped :
+    (c : After-put_total) →
+    Clocked c.args.speeds.now c.args.levels c.args.block.now c.args.keys.now c.args.highest c.args.d c.args.c
     c.count_at-count.result c.after-clock.result.ticks c.args.finished
-    c.drain.new.0 c.work_off.last.1.1.0 c.put_number.last.0 c.arrive_if-total.new.0 c.put_total.new.0
+    c.drain.new.block c.work_off.new.block c.put_number.new.s c.left_of-left.result →
+    Stepped c.args.speeds.now c.args.levels c.args.block.now c.args.keys.now c.args.highest c.args.d c.args.c
+    c.count_at-count.result c.after-clock.result.ticks c.args.finished
+    c.drain.new.block c.work_off.new.block c.put_number.new.s c.arrive_if-total.new.block c.put_total.new.block
     c.left_of-left.result c.arrive_if-total.result
-stepped c =
-    let clocked : Clocked c.args.speeds.now c.args.levels (c.args.block.now) (c.args.keys.now) c.args.highest c.args.d c.args.c
-    c.count_at-count.result c.after-clock.result.ticks c.args.finished
-    c.drain.last.0 c.work_off.last.1.1.0 c.put_number.new.0 c.left_of-left.result = record {
-      prepared = (let prepared : Prepared c.args.speeds.now c.args.levels (c.args.block.now) (c.args.keys.now) c.args.highest c.args.d c.args.c
-          c.count_at-count.result c.after-clock.result.ticks = record {
-            moving = (let moving : Moving c.args.speeds.now c.args.levels (c.args.block.now) (c.args.keys.now) c.args.highest c.args.d c.args.c c.count_at-count.result = record { table = c.requires.table.0; step = c.requires.table.1; order = c.requires.c_value; same = c.count_at-count.ensures } in moving);
-            clock_is = c.after-clock.ensures ∙ ap (λ (x : ℕ). x + c.args.d) (c.new.ensures ∙ c.clock_at.ensures);
-          } in prepared);
-      drains = c.drain.ensures;
-      works = c.work_off.ensures;
-      clocks = c.put_number.ensures;
-      lowered = c.left_of-left.ensures ∙ ap (λ (x : ℕ). x - c.args.d) c.total_at.ensures;
-    } in
-    record { clocked = clocked; arrives = c.arrive_if-total.ensures.block_after; totalled = c.arrive_if-total.ensures.value; stored = c.put_total.ensures }
+stepped c k = record { clocked = k; arrives = c.arrive_if-total.ensures.block_after; totalled = c.arrive_if-total.ensures.value; stored = c.put_total.ensures }
 
 pub returns : goal.returns
-returns c = moved_on (stepped (goal.at.returns c).After-put_total)
+returns c = moved_on (stepped (goal.at.returns c).After-put_total (clocked (goal.at.returns c).After-put_number))

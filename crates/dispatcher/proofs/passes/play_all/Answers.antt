@@ -23,7 +23,7 @@ bounds-replies-i c = c.if-replies-i.false
 
 pub loop-i-preserved : goal.loop-i-preserved
 loop-i-preserved c =
-    played_next c.loop-i.invariant c.loop-i-test.true c.if-replies-i.false c.play_one.auto.0 c.play_one.ensures.state_after
+    played_next c.loop-i.invariant c.loop-i-test.true c.if-replies-i.false c.play_one.auto.state c.play_one.ensures.state_after
     c.play_one.ensures.value
 
 pub shape_of-state : goal.shape_of-state

@@ -33,7 +33,7 @@ overflow_cast-speed c = omega (arith, slow (goal.at.overflow_cast-speed c).In-lo
 
 pub overflow_mul-span : goal.overflow_mul-span
 overflow_mul-span c =
-    let span : c.args.span ≤ 4294967295 = omega (arith, c.fits.span) in
+    let span : c.args.span ≤ 4294967295 = omega (arith, c.ranges.span) in
     omega (arith, mul-le-mul span (slow (goal.at.overflow_mul-span c).In-loop-lowest))
 
 pub returns-then-work-span : goal.returns-then-work-span

@@ -1,6 +1,5 @@
 use mathlib.Core.Path.{◌≡◌, ◌∙◌}
 use native.Mathlib.Omega.{arith}
-use borrow.Author.Tests.{not-true, not-false}
 use lib.ListN.{length}
 use Rattle.plan.specs.LevelBlocks.{level_length}
 use Rattle.levels.proofs.LevelLaws.{level_length_covers, level_length_tight}
@@ -48,8 +47,8 @@ speeds_in-speeds-requires c =
 
 pub returns-then-not-rises : goal.returns-then-not-rises
 returns-then-not-rises c =
-    load_falls (closing (goal.at.returns-then-not-rises c).After-bits_at-closing) c.if-closing-ne0.false c.speeds_in-speeds.ensures c.unloaded-then-not-rises.ensures c.rises.ensures (not-true c.rises.result c.if-not-rises.true)
+    load_falls (closing (goal.at.returns-then-not-rises c).After-bits_at-closing) c.if-closing-ne0.false c.speeds_in-speeds.ensures c.unloaded-then-not-rises.ensures c.rises.ensures c.if-not-rises.true
 
 pub returns : goal.returns
 returns c =
-    load_rises (closing (goal.at.returns c).After-bits_at-closing) c.if-closing-ne0.false c.speeds_in-speeds.ensures c.rises.ensures (not-false c.rises.result c.if-not-rises.false)
+    load_rises (closing (goal.at.returns c).After-bits_at-closing) c.if-closing-ne0.false c.speeds_in-speeds.ensures c.rises.ensures c.if-not-rises.false

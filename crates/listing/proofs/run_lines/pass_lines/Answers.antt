@@ -3,7 +3,7 @@ use mathlib.Core.Path.{refl}
 use native.Mathlib.Omega.{arith}
 use Rattle.transcript.specs.Listing.{pass_of}
 use Rattle.listing.proofs.run_lines.Going.{no_speeds, no_tasks, book_at, going_first, going_again, going_even, going_odd}
-use Rattle.listing.proofs.run_lines.pass_lines.Goals.{After-clock_after-after, After-wide}
+use Rattle.listing.proofs.run_lines.pass_lines.Goals.{After-wide}
 use Rattle.listing.proofs.run_lines.pass_lines.Goals as goal
 
 pub loop-i-init : goal.loop-i-init
@@ -31,11 +31,11 @@ loop-i-preserved c =
       small = low_byte (goal.at.loop-i-preserved c).After-wide;
       replied = c.pass-reply.ensures.value;
       stored = c.pass-reply.ensures.state_after;
-      kept = c.pass-reply.kept.0;
-      (goal.at.loop-i-preserved c).After-clock_after-after =
+      kept = c.pass-reply.auto.state;
+      moved =
           c.clock_after-after.ensures.by_index no_speeds no_tasks (book_at c.loop-i.clock) (pass_of c.wide-high.result c.wide.result) refl refl;
       later = c.clock_after-after.ensures.upper_bound;
-    } c.reply_line-at.ensures c.reply_line-at.kept.0
+    } c.reply_line-at.ensures c.reply_line-at.auto.out
 
 pub returns-then-i-passes : goal.returns-then-i-passes
 returns-then-i-passes c =

@@ -17,5 +17,5 @@ returns c =
     let ts : List Task = tasks_in block in
     let r : Reply = c.start-reply.result in
     as_text (c.reply_line-at.ensures then c.pass_lines.ensures.by_index (speeds_in levels) ts (opened_book ts r) (opened_clock ts r))
-    (started_is levels block c.args.passes.now c.start-reply.ensures.value c.start-reply.ensures.state_after c.start-reply.kept.1.1.1.0)
+    (started_is levels block c.args.passes.now c.start-reply.ensures.value c.start-reply.ensures.state_after c.start-reply.auto.state)
     (omega arith)

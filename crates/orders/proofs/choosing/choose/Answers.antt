@@ -12,17 +12,9 @@ timed c = record {
   clock_is = c.clock_at.ensures;
 }
 
-pub next_arrival-next-requires : goal.next_arrival-next-requires
-next_arrival-next-requires c =
-    let all = choose_next (timed c) in record {
-      count_le_places = all.0;
-      by_index = all.1;
-    }
+pub next_arrival-next-requires-clause-by_index : goal.next_arrival-next-requires-clause-by_index
+next_arrival-next-requires-clause-by_index c = (choose_next (timed c)).1
 
-pub choose_until-requires : goal.choose_until-requires
-choose_until-requires c = record {
-  table = (c.requires.table.0, (timed (goal.at.choose_until-requires c).After-clock_at).holds, c.requires.table.3);
-  enough = c.requires.enough;
-  keyed = (timed (goal.at.choose_until-requires c).After-clock_at).keyed;
-  next_value = choose_when (timed (goal.at.choose_until-requires c).After-clock_at) c.next_arrival-next.result c.next_arrival-next.ensures;
-}
+pub choose_until-requires-clause-next_value : goal.choose_until-requires-clause-next_value
+choose_until-requires-clause-next_value c =
+    choose_when (timed (goal.at.choose_until-requires-clause-next_value c).After-clock_at) c.next_arrival-next.result c.next_arrival-next.ensures

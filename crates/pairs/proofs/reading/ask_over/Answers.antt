@@ -10,8 +10,8 @@ table c = loaded c.args.speeds.now c.args.levels
 
 pub returns-in-Refused : goal.returns-in-Refused
 returns-in-Refused c =
-    asked_refused (table (goal.at.returns-in-Refused c).After-read_paired-j) c.args.block.now c.args.pairs.now c.read_paired-j.ensures c.v-1.given.1
+    asked_refused (table (goal.at.returns-in-Refused c).After-read_paired-j) c.args.block.now c.args.pairs.now c.read_paired-j.ensures c.in-Refused.is
 
 pub returns-in-Admitted : goal.returns-in-Admitted
 returns-in-Admitted c =
-    asked_good (table (goal.at.returns-in-Admitted c).After-read_paired-j) c.args.block.now c.args.pairs.now c.read_paired-j.ensures c.enum_told-1.given.1
+    asked_good (table (goal.at.returns-in-Admitted c).After-read_paired-j) c.args.block.now c.args.pairs.now c.read_paired-j.ensures c.in-Admitted.is

@@ -21,8 +21,8 @@ pairs c = c.args.pairs.now
 
 -- the block was accepted
 admitted : (c : In-Admitted) →
-    Admitted (loaded c.args.speeds.now c.args.levels) (first_no (reading (loaded c.args.speeds.now c.args.levels) (c.args.block.now))) (tasks_in (c.args.block.now)) c.read_over-j.result c.enum_told-1.given.0.0 c.enum_told-1.given.0.1.0
-admitted c = record { judged = c.read_over-j.ensures; told = c.enum_told-1.given.1 }
+    Admitted (loaded c.args.speeds.now c.args.levels) (first_no (reading (loaded c.args.speeds.now c.args.levels) (c.args.block.now))) (tasks_in (c.args.block.now)) c.read_over-j.result c.in-Admitted.nominal c.in-Admitted.hyperperiod
+admitted c = record { judged = c.read_over-j.ensures; told = c.in-Admitted.is }
 
 pub pairs_good-requires : goal.pairs_good-requires
 pairs_good-requires c = plan_ranged (table (goal.at.pairs_good-requires c).After-read_over-j) (block (goal.at.pairs_good-requires c).After-read_over-j) (pairs (goal.at.pairs_good-requires c).After-read_over-j) (admitted c)
@@ -33,7 +33,7 @@ returns-then-not-pairs_good c =
 
 pub returns-in-Refused : goal.returns-in-Refused
 returns-in-Refused c =
-    unread (table (goal.at.returns-in-Refused c).After-read_over-j) (block (goal.at.returns-in-Refused c).After-read_over-j) (pairs (goal.at.returns-in-Refused c).After-read_over-j) c.read_over-j.ensures c.v-1.given.1 c.refused.ensures
+    unread (table (goal.at.returns-in-Refused c).After-read_over-j) (block (goal.at.returns-in-Refused c).After-read_over-j) (pairs (goal.at.returns-in-Refused c).After-read_over-j) c.read_over-j.ensures c.in-Refused.is c.refused.ensures
 
 pub returns-else-not-pairs_good : goal.returns-else-not-pairs_good
 returns-else-not-pairs_good c =

@@ -29,11 +29,11 @@ wide : (c : After-bit_count-at) → 36 ≤ task_width c.args.edition
 wide c = width_least c.args.edition
 
 -- in edition 2 its additions are too
-added : (c : tie.After-bit-count) (past n : ℕ) →
+added : (c : After-bit_count-at) (past n : ℕ) →
     past + n ≤ 47 →
-    (start c).args.edition ≡ 2 →
-    c.bit-count.result + past + n ≤ 8 * length (start c).args.block.now
-added c past n h two = omega (arith, (room c).1, width_added (start c).args.edition two)
+    c.args.edition ≡ 2 →
+    c.bit_count-at.result + past + n ≤ 8 * length c.args.block.now
+added c past n h two = omega (arith, (room c).1, width_added c.args.edition two)
 
 pub bits_at-period-requires : goal.bits_at-period-requires
 bits_at-period-requires c = omega (arith, (room c).0, (room c).1, wide c)

@@ -5,18 +5,18 @@ use Rattle.plan_writing.proofs.round_trips.copy.Goals.{After-read-j}
 use Rattle.plan_writing.proofs.round_trips.copy.Goals as goal
 
 bytes : (c : After-read-j) → Bytes c.args.block.now
-bytes c k h = omega (arith, c.shared_slice_known-2-1.given k)
+bytes c k h = omega (arith, c.type_inv.block k)
 
 pub returns-in-Refused : goal.returns-in-Refused
 returns-in-Refused c =
-    let all = leaves_unread c.args.levels.now c.args.block.now c.args.buffer.now c.read-j.ensures c.v-1.given.1 in record {
+    let all = leaves_unread c.args.levels.now c.args.block.now c.args.buffer.now c.read-j.ensures c.in-Refused.is in record {
       value = all.0;
       buffer_after = all.1;
     }
 
 pub returns : goal.returns
 returns c =
-    let all = leaves_read c.args.levels.now c.args.block.now c.args.buffer.now (bytes (goal.at.returns c).After-read-j) c.read-j.ensures c.enum_told-1.given.1 c.write.ensures in record {
+    let all = leaves_read c.args.levels.now c.args.block.now c.args.buffer.now (bytes (goal.at.returns c).After-read-j) c.read-j.ensures c.in_default.is (c.write.ensures.value, c.write.ensures.buffer_after) in record {
       value = all.0;
       buffer_after = all.1;
     }

@@ -19,21 +19,12 @@ size c = search (length_mapped, rules)
 abbrev table : After-write-w → List ℕ
 table c = c.args.levels.now
 
-abbrev buffer : After-write-w → List ℕ
-buffer c = c.args.buffer.now
-
-abbrev left : After-write-w → List ℕ
-left c = c.write-w.new.1.1.0
-
-abbrev number : After-write-w → ℕ
-number c = write_number (table c) c.args.p (length (buffer c))
-
-refusal : (c : In-Refused) → Refusal (write_number (c.args.levels.now) c.args.p (length (c.args.buffer.now))) c.w-1.given.0.0
+refusal : (c : In-Refused) → Refusal (write_number (c.args.levels.now) c.args.p (length (c.args.buffer.now))) c.in-Refused.n
 refusal c =
-    told_unwritten (plan_block (tasks_of c.args.p)) (write_number (c.args.levels.now) c.args.p (length (c.args.buffer.now))) c.write-w.ensures.value c.w-1.given.1
+    told_unwritten (plan_block (tasks_of c.args.p)) (write_number (c.args.levels.now) c.args.p (length (c.args.buffer.now))) c.write-w.ensures.value c.in-Refused.is
 
-block : (c : In-Bytes) → Rewritten (c.args.levels.now) c.args.p (c.args.buffer.now) (c.write-w.new.1.1.0) c.w-in-Bytes-1.given.0.0
-block c = rewritten c.write-w.ensures.value c.w-in-Bytes-1.given.1 c.write-w.ensures.buffer_after
+block : (c : In-Bytes) → Rewritten (c.args.levels.now) c.args.p (c.args.buffer.now) (c.write-w.new.buffer) c.in-Bytes.n
+block c = rewritten c.write-w.ensures.value c.in-Bytes.is c.write-w.ensures.buffer_after
 
 pub slice_bounds-read-end : goal.slice_bounds-read-end
 slice_bounds-read-end c = front_fits (block c)
