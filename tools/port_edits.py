@@ -1,12 +1,13 @@
 #!/usr/bin/env python3
-"""Brings the must-fail edits to today's spelling; run once, at the top, after port.py and tools/port_names.py.
+"""Brings the must-fail edits to today's spelling; run at the top, after port.py and tools/port_names.py.
 
 usage: python3 tools/port_edits.py BEFORE LANDED [--write] [CRATE..]
 
-BEFORE is a checkout as port.py left it, in which tools/port_names.py has not run: the table of names is made there. LANDED is the commit whose
-edits are brought over. Each pair of an edit is read in its file as it stood at LANDED: the line that the pair changes is turned, before and after,
-and the turned line before must be the one that stands today; then the pair's own text is turned. What does not come out so is listed, and left
-as it is for a mend by hand. An edit whose text stands once in today's file already is not touched.
+LANDED is the commit whose edits are brought over. BEFORE is a checkout of it as port.py left it, in which tools/port_names.py has not run: the table
+of names is made there. Each pair of an edit is read in its file as it stood at LANDED: the lines that it changes are turned, before and after, and
+the turned lines before must stand in today's file; then the pair's own text is turned alike, and must stand there once. A pair that adds a name to
+an import adds it to today's import of that module, or is left out where the name is there. What does not come out so is listed as 'left', and its
+edit stays as it is, to be mended by hand. Without --write nothing is written.
 """
 
 import glob
@@ -155,10 +156,6 @@ def turner(turned, kinds, path, own):
         return text
 
     return turn
-
-
-def squeezed(text):
-    return re.sub(r"\s+", " ", text).strip()
 
 
 def main():
