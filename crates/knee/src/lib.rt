@@ -52,8 +52,7 @@ fn damping_number(d: Damped) -> u64
 }
 
 // Looks the damping up at an angle in tenths of a degree: 23 is a refusal's number; else the damping stands from bit 8 on.
-#[unsafe(no_mangle)]
-pub extern "C" fn kilmstra_damping(angle: i32) -> u64
+pub fn kilmstra_damping(angle: i32) -> u64
     ensures { result ≡ damping_number (damping_reply angle) }
 {
     let d = damping(angle);

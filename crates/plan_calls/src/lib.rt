@@ -21,8 +21,7 @@ use plan_writing::round_trips::copy;
 use plan_writing::write;
 
 // Reads a level block: 18 to 20 is a refusal's number; else the count of levels stands from bit 8 on.
-#[unsafe(no_mangle)]
-pub extern "C" fn kilmstra_levels_read(levels: &[u8]) -> u64
+pub fn kilmstra_levels_read(levels: &[u8]) -> u64
     ensures { result ≡ load_number (read_levels levels.now).answer }
 {
     let board = read_levels(levels);
@@ -32,8 +31,7 @@ pub extern "C" fn kilmstra_levels_read(levels: &[u8]) -> u64
 
 // Judges a plan over a level block: a number below 256 is a refusal's; else the level stands from bit 8 on and the hyperperiod from
 // bit 16 on.
-#[unsafe(no_mangle)]
-pub extern "C" fn kilmstra_plan_judge(levels: &[u8], count: usize, numbers: &[u32]) -> u64
+pub fn kilmstra_plan_judge(levels: &[u8], count: usize, numbers: &[u32]) -> u64
     ensures { result ≡ verdict_number
         (judged_plan levels.now (plan_from count numbers.now)).verdict }
 {
@@ -42,8 +40,7 @@ pub extern "C" fn kilmstra_plan_judge(levels: &[u8], count: usize, numbers: &[u3
 }
 
 // Reads a block over a level block, with an answer as judging has.
-#[unsafe(no_mangle)]
-pub extern "C" fn kilmstra_plan_read(levels: &[u8], block: &[u8]) -> u64
+pub fn kilmstra_plan_read(levels: &[u8], block: &[u8]) -> u64
     ensures { result ≡ verdict_number (read_block levels.now block.now).verdict }
 {
     let j = read(levels, block);
@@ -53,8 +50,7 @@ pub extern "C" fn kilmstra_plan_read(levels: &[u8], block: &[u8]) -> u64
 
 // Asks whether a list of pairs is good for a plan's block over a level block: 18 to 20, 1 to 8, 21, 22 or 24 is a refusal's number; else the
 // count of pairs stands from bit 8 on.
-#[unsafe(no_mangle)]
-pub extern "C" fn kilmstra_pairs(levels: &[u8], block: &[u8], pairs: &[u8]) -> u64
+pub fn kilmstra_pairs(levels: &[u8], block: &[u8], pairs: &[u8]) -> u64
     ensures { result ≡ paired_number (ask_pairs levels.now block.now pairs.now) }
 {
     let p = ask_pairs(levels, block, pairs);
@@ -62,13 +58,7 @@ pub extern "C" fn kilmstra_pairs(levels: &[u8], block: &[u8], pairs: &[u8]) -> u
 }
 
 // Writes a plan's block, judged over a level block: a number below 256 is a refusal's; else the count of bytes stands from bit 8 on.
-#[unsafe(no_mangle)]
-pub extern "C" fn kilmstra_plan_write(
-    levels: &[u8],
-    count: usize,
-    numbers: &[u32],
-    buffer: &mut [u8],
-) -> u64
+pub fn kilmstra_plan_write(levels: &[u8], count: usize, numbers: &[u32], buffer: &mut [u8]) -> u64
     ensures value { result ≡ written_number
         (write_plan levels.now (plan_from count numbers.now) (length buffer.old)) }
     ensures buffer_after { buffer.new ≡
@@ -80,8 +70,7 @@ pub extern "C" fn kilmstra_plan_write(
 }
 
 // Reads a block over a level block and writes it again, with an answer as writing has.
-#[unsafe(no_mangle)]
-pub extern "C" fn kilmstra_plan_copy(levels: &[u8], block: &[u8], buffer: &mut [u8]) -> u64
+pub fn kilmstra_plan_copy(levels: &[u8], block: &[u8], buffer: &mut [u8]) -> u64
     ensures value { result ≡ written_number (written_by
         (copy_number levels.now block.now (length buffer.old))
         block.now) }

@@ -8,8 +8,7 @@ use plan::Task;
 use task_list::gathered;
 
 // Judges a list that C lends over a level block, with an answer as `kilmstra_plan_judge` has.
-#[unsafe(no_mangle)]
-pub extern "C" fn kilmstra_judge_list(levels: &[u8], tasks: &[Task]) -> u64
+pub fn kilmstra_judge_list(levels: &[u8], tasks: &[Task]) -> u64
     ensures { result ≡ verdict_number
         (judged_list levels.now (length tasks.now) tasks.now).verdict }
 {
