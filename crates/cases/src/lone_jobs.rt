@@ -2,22 +2,26 @@
 use crate::telling::tell_order;
 use dispatcher_calls::{kilmstra_pass, kilmstra_show, kilmstra_start};
 use state::STATE_LENGTH;
+use std::io;
 
 // Speeds 1 and 2, plan (3, 2), (3, 2): at tick 1 task 1 is alone and takes the gap of 2 ticks; at 2 its plain job is closed, the queue
 // is empty, and a tick that does not finish would reach the arrival.
-fn past_the_plain_finish() {
+fn past_the_plain_finish(rt: &impl Print) -> io::Result<()> {
     let levels = [32u8, 4, 2];
     let block = [17u8, 0, 1, 128, 0, 16, 0, 24, 0, 1, 0];
     let mut state = [0u8; STATE_LENGTH];
-    tell_order(b"start", kilmstra_start(&levels, &block, &[], &mut state));
-    tell_order(b"tick 1", kilmstra_pass(&mut state, 1, 1));
-    tell_order(b"tick 2", kilmstra_pass(&mut state, 1, 0));
+    tell_order(
+        rt,
+        "start",
+        kilmstra_start(&levels, &block, &[], &mut state),
+    )?;
+    tell_order(rt, "tick 1", kilmstra_pass(&mut state, 1, 1))?;
+    tell_order(rt, "tick 2", kilmstra_pass(&mut state, 1, 0))?;
     let mut none = [0u8; 0];
-    io::write_all(1, b"tick 2, bytes of the queue: ");
-    io::print_decimal(1, kilmstra_show(&state, &mut none) / 256);
-    io::write_all(1, b"\n");
-    tell_order(b"tick 2, 1 unfinished", kilmstra_pass(&mut state, 1, 0));
-    tell_order(b"tick 3", kilmstra_pass(&mut state, 1, 1));
+    let length = kilmstra_show(&state, &mut none) / 256;
+    println!(rt; "tick 2, bytes of the queue: {length}")?;
+    tell_order(rt, "tick 2, 1 unfinished", kilmstra_pass(&mut state, 1, 0))?;
+    tell_order(rt, "tick 3", kilmstra_pass(&mut state, 1, 1))
 }
 
 // A state of one level of speed 1 and tasks (4, 3) and (8, 2), of which task 0 has finished with 3 plain ticks left: task 1 needs 2 ticks, has
@@ -40,15 +44,15 @@ fn behind(clock: u8) -> [u8; STATE_LENGTH] {
 }
 
 // In a gap of 2 ticks it is sound, in one of 1 it is not.
-fn behind_in_a_gap() {
+fn behind_in_a_gap(rt: &impl Print) -> io::Result<()> {
     let mut fits = behind(2);
-    tell_order(b"gap 2, 1 unfinished", kilmstra_pass(&mut fits, 1, 0));
-    tell_order(b"gap 1, 1 finished", kilmstra_pass(&mut fits, 1, 1));
+    tell_order(rt, "gap 2, 1 unfinished", kilmstra_pass(&mut fits, 1, 0))?;
+    tell_order(rt, "gap 1, 1 finished", kilmstra_pass(&mut fits, 1, 1))?;
     let mut short = behind(3);
-    tell_order(b"gap 1 for 2 ticks", kilmstra_pass(&mut short, 1, 0));
+    tell_order(rt, "gap 1 for 2 ticks", kilmstra_pass(&mut short, 1, 0))
 }
 
-pub fn run() {
-    past_the_plain_finish();
-    behind_in_a_gap();
+pub fn run(rt: &impl Print) -> io::Result<()> {
+    past_the_plain_finish(rt)?;
+    behind_in_a_gap(rt)
 }

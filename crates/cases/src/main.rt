@@ -10,12 +10,14 @@ mod paired_tasks;
 mod telling;
 mod totals;
 
-fn main() {
-    base::run();
-    level_blocks::run();
-    fixed_ticks::run();
-    lone_jobs::run();
-    paired_tasks::run();
-    totals::run();
-    floors::run();
+use std::io;
+
+fn main(rt: HostRuntime) -> io::Result<()> {
+    base::run(&rt)?;
+    level_blocks::run(&rt)?;
+    fixed_ticks::run(&rt)?;
+    lone_jobs::run(&rt)?;
+    paired_tasks::run(&rt)?;
+    totals::run(&rt)?;
+    floors::run(&rt)
 }
