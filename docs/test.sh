@@ -9,10 +9,15 @@ work=$(mktemp -d) || exit 2
 trap 'rm -rf "$work"' EXIT
 . tools/trying
 
+# The rooms of crates.txt in its order, a static library as any other.
+rooms() {
+    sed -n 's/[ :].*//p' crates.txt
+}
+
 has_each_room_below_those_that_it_uses() {
-    awk -F '[: ]+' '
-        { for (i = 2; i <= NF; i++) if ($i != "" && !($i in seen) && $i !~ /^(io|libc)$/) { print $1 " stands above " $i; bad = 1 } seen[$1] }
-        END { exit bad }' crates.txt
+    sed 's/ staticlib:/:/' crates.txt | awk -F '[: ]+' '
+        { for (i = 2; i <= NF; i++) if ($i != "" && !($i in seen)) { print $1 " stands above " $i; bad = 1 } seen[$1] }
+        END { exit bad }'
 }
 
 shows_these_rooms() {
@@ -21,14 +26,14 @@ shows_these_rooms() {
 
 # In the order of crates.txt, each once.
 has_a_line_for_each_room() {
-    sed -n 's/:.*//p' crates.txt >"$work/rooms"
+    rooms >"$work/rooms"
     awk -F '|' '/^\| layer \|/ { inside = 1 } /^$/ { inside = 0 } inside && $3 ~ /`/ { gsub(/[` ]/, "", $3); print $3 }' README.md |
         diff "$work/rooms" -
 }
 
-# The part of PROMISES that goes through the rooms.
+# The part of PROMISES that goes through the rooms, without the definitions that the wrong programs are of: a colon stands behind those.
 by_room() {
-    sed -n '/^## Wrong programs/,$p' docs/PROMISES.md
+    sed -n '/^## Wrong programs/,$p' docs/PROMISES.md | sed -E 's/`[A-Za-z0-9_-]+`://g'
 }
 
 # What stands in backquotes and has an underscore in it, as every wrong program's name has.
@@ -39,25 +44,25 @@ names() {
 lists_the_wrong_programs_of_each_room() {
     local room
     find crates -path '*/must-fail/*.edit' | sed -E 's|crates/(.*)/must-fail/(.*)[.]edit|\1 \2|' | sort >"$work/there"
-    while IFS=: read -r room _; do
+    for room in $(rooms); do
         by_room | sed -n "s/^| \`$room\` |//p" | names | sed "s/^/$room /"
-    done <crates.txt | sort | diff "$work/there" -
+    done | sort | diff "$work/there" -
 }
 
-# A guard may be a wrong program, a function, a test or a file.
+# A guard may be a wrong program, a function, a test or a file. README and GLOSSARY may name these too, beside the definitions.
 names_nothing_that_is_not_there() {
     {
-        find crates host -path '*/target' -prune -o -type f -print | tr '/.' '\n\n'
-        grep -rhoE --exclude-dir=target '[a-z0-9]+(_[a-z0-9]+)+' crates host
+        find crates host \( -name target -o -name out \) -prune -o -type f -print | tr '/.' '\n\n'
+        grep -rhoE --exclude-dir=target --exclude-dir=out '[a-z0-9]+(_[a-z0-9]+)+' crates host
     } | sort -u >"$work/there"
-    names <docs/PROMISES.md | sort -u | comm -23 - "$work/there" | awk '{ print; bad = 1 } END { exit bad }'
+    cat README.md docs/PROMISES.md docs/GLOSSARY.md | names | sort -u | comm -23 - "$work/there" | awk '{ print; bad = 1 } END { exit bad }'
 }
 
-# The definitions and theorems that they name: words in backquotes with a capital letter or a hyphen in them.
+# The definitions and theorems that they name: words in backquotes with a capital letter in them, or names joined by a dash.
 name_no_definition_that_is_not_there() {
-    find crates -name '*.antt' -not -path '*/target/*' -exec cat {} + | grep -oE '[A-Za-z][A-Za-z0-9-]*' | sort -u >"$work/words"
-    grep -ohE '`[A-Za-z][A-Za-z0-9-]*([.][a-z-]+)?`' README.md docs/PROMISES.md docs/GLOSSARY.md | tr -d '`' | sed 's/[.].*//' |
-        grep '[A-Z-]' | sort -u | comm -23 - "$work/words" | awk '{ print; bad = 1 } END { exit bad }'
+    find crates -name '*.antt' -not -path '*/out/*' -exec cat {} + | grep -oE '[A-Za-z][A-Za-z0-9_-]*' | sort -u >"$work/words"
+    grep -ohE '`[A-Za-z][A-Za-z0-9_-]*([.][a-z_-]+)?`' README.md docs/PROMISES.md docs/GLOSSARY.md | tr -d '`' | sed 's/[.].*//' |
+        grep '[A-Z-]' | grep -v '^KILMSTRA_' | sort -u | comm -23 - "$work/words" | awk '{ print; bad = 1 } END { exit bad }'
 }
 
 # The files of definitions that one rests on, itself among them, within a room.
@@ -69,7 +74,7 @@ rests_on() {
             print name
             path = "crates/" room "/specs/" name ".antt"
             while ((getline line <path) > 0)
-                if (match(line, "^use Rattle·" room "·specs[.]specs[.][A-Z][A-Za-z]*")) {
+                if (match(line, "^use Rattle[.]" room "[.]specs[.][A-Z][A-Za-z]*")) {
                     used = substr(line, 1, RLENGTH)
                     sub(/.*[.]/, "", used)
                     list = list " " used
@@ -98,14 +103,15 @@ knows_only_the_contracts() {
 }
 
 proofs_used_by() { # ROOM
-    grep -rhoE --include='*.antt' '^use Rattle·[a-z_]+[.]proofs[.].*' "crates/$1" | grep -v '^use Rattle·arith[.]'
+    grep -rhoE --include='*.antt' --exclude-dir=out '^use Rattle[.][a-z_]+[.]proofs[.].*' "crates/$1" |
+        grep -vE "^use Rattle[.]($1|arith|core|std)[.]"
 }
 
 try 'crates.txt has each room below those that it uses' has_each_room_below_those_that_it_uses
 try 'the picture shows these rooms' shows_these_rooms
 try 'the README has a line for each room' has_a_line_for_each_room
 try 'PROMISES lists the wrong programs of each room' lists_the_wrong_programs_of_each_room
-try 'PROMISES names nothing that is not there' names_nothing_that_is_not_there
+try 'README, PROMISES and GLOSSARY name nothing that is not there' names_nothing_that_is_not_there
 try 'README, PROMISES and GLOSSARY name no definition that is not there' name_no_definition_that_is_not_there
 try 'the ideal dispatcher reads no byte' reads_no_byte
 try 'the knee knows of the dispatcher only its contracts' knows_only_the_contracts
