@@ -1,7 +1,5 @@
-use Prim.Native.Nat.{ℕ}
 use mathlib.Core.Path.{◌≡◌, sym, ◌∙◌}
 use mathlib.Core.Bool.{true, false}
-use mathlib.Core.List.{List}
 use native.Mathlib.Omega.{arith}
 use Rattle.levels.specs.Code.{loaded}
 use Rattle.plan.proofs.LevelBlockLaws.{few_levels}
@@ -12,19 +10,10 @@ use Rattle.reclaiming.specs.States.{view_of}
 use Rattle.state.specs.Code.{timing_in}
 use Rattle.passing.proofs.accepted.StepLaws.{Passing, After, reaching, stepping, hold_enough, after_holds, after_some, after_clock, after_below, after_again, after_enough}
 use Rattle.passing.proofs.accepted.StepLaws.{after_keyed, after_kept, after_next, kept_bytes, kept_reply, chosen_bytes, chosen_reply_lem}
-use Rattle.passing.proofs.accepted.passed.Goals.{After-slice_known-2-1, Else-not-anew, Start, Then-not-anew}
+use Rattle.passing.proofs.accepted.passed.Goals.{After-move_on, Else-not-anew, Start, Then-not-anew}
 use Rattle.passing.proofs.accepted.passed.Goals as goal
 
-abbrev block : Start → List ℕ
-block c = c.args.block.now
-
-abbrev keys : Start → List ℕ
-keys c = c.args.keys.now
-
-abbrev table : Start → List ℕ
-table c = loaded c.args.speeds.now c.args.levels
-
-passing : (c : Start) → Passing (table c) (block c) (keys c) c.args.highest c.args.next c.args.d c.args.finished c.args.c
+passing : (c : Start) → Passing (loaded c.args.speeds.now c.args.levels) c.args.block.now c.args.keys.now c.args.highest c.args.next c.args.d c.args.finished c.args.c
 passing c = record {
   rising = c.requires.owns.0.table.rising;
   few = few_levels (owned_fine c.requires.owns.0);
@@ -35,27 +24,18 @@ passing c = record {
   clear = c.requires.finished_value;
 }
 
-moved : (c : After-slice_known-2-1) →
-    After (loaded c.args.speeds.now c.args.levels) (c.args.block.now) (c.args.keys.now) c.args.highest c.args.next c.args.d c.args.finished c.args.c
-    c.move_on.new.1.1.0
-moved c =
-    let passing : Passing (loaded c.args.speeds.now c.args.levels) (c.args.block.now) (c.args.keys.now) c.args.highest c.args.next c.args.d c.args.finished c.args.c = record {
-      rising = c.requires.owns.0.table.rising;
-      few = few_levels (owned_fine c.requires.owns.0);
-      stored = owned_stored c.requires.owns.0;
-      good = c.requires.owns.1;
-      order = c.requires.c_value;
-      arrival = c.requires.next_value;
-      clear = c.requires.finished_value;
-    } in
-    record { passing = passing; moved = c.move_on.ensures }
+moved : (c : After-move_on) →
+    Passing (loaded c.args.speeds.now c.args.levels) c.args.block.now c.args.keys.now c.args.highest c.args.next c.args.d c.args.finished c.args.c →
+    After (loaded c.args.speeds.now c.args.levels) c.args.block.now c.args.keys.now c.args.highest c.args.next c.args.d c.args.finished c.args.c
+    c.move_on.new.block
+moved c passing = record { passing = passing; moved = c.move_on.ensures }
 
 stays : (c : Then-not-anew) →
-    chooses_anew (timing_in (loaded c.args.speeds.now c.args.levels) (c.args.block.now)) (view_of (decode (c.args.block.now))) c.args.d c.args.finished ≡ false
+    chooses_anew (timing_in (loaded c.args.speeds.now c.args.levels) c.args.block.now) (view_of (decode c.args.block.now)) c.args.d c.args.finished ≡ false
 stays c = sym c.chooses_anew-anew.ensures ∙ c.if-not-anew.true
 
 anew : (c : Else-not-anew) →
-    chooses_anew (timing_in (loaded c.args.speeds.now c.args.levels) (c.args.block.now)) (view_of (decode (c.args.block.now))) c.args.d c.args.finished ≡ true
+    chooses_anew (timing_in (loaded c.args.speeds.now c.args.levels) c.args.block.now) (view_of (decode c.args.block.now)) c.args.d c.args.finished ≡ true
 anew c = sym c.chooses_anew-anew.ensures ∙ c.if-not-anew.false
 
 pub chooses_anew-anew-requires : goal.chooses_anew-anew-requires
@@ -78,7 +58,7 @@ overflow_sub-hold_of c = omega (arith, hold_enough (passing (goal.at.overflow_su
 
 pub returns-then-not-anew : goal.returns-then-not-anew
 returns-then-not-anew c =
-    let k = moved (goal.at.returns-then-not-anew c).After-slice_known-2-1 in record {
+    let k = moved (goal.at.returns-then-not-anew c).After-move_on (passing (goal.at.returns-then-not-anew c).Start) in record {
       value = kept_reply k (stays (goal.at.returns-then-not-anew c).Then-not-anew) c.hold_of.result c.hold_of.ensures c.order_of.result c.order_of.ensures;
       block_after = kept_bytes k (stays (goal.at.returns-then-not-anew c).Then-not-anew);
     }
@@ -88,7 +68,7 @@ overflow_sub-next c = omega (arith, (reaching (passing (goal.at.overflow_sub-nex
 
 pub choose_until-requires : goal.choose_until-requires
 choose_until-requires c =
-    let k = moved (goal.at.choose_until-requires c).After-slice_known-2-1 in record {
+    let k = moved (goal.at.choose_until-requires c).After-move_on (passing (goal.at.choose_until-requires c).Start) in record {
       table = (c.requires.owns.0.table, after_holds k, after_again k);
       enough = after_enough k (anew (goal.at.choose_until-requires c).Else-not-anew);
       keyed = after_kept k c.if-d-next.true;
@@ -97,27 +77,27 @@ choose_until-requires c =
 
 pub returns-then-d-next : goal.returns-then-d-next
 returns-then-d-next c =
-    let k = moved (goal.at.returns-then-d-next c).After-slice_known-2-1 in record {
+    let k = moved (goal.at.returns-then-d-next c).After-move_on (passing (goal.at.returns-then-d-next c).Start) in record {
       value = chosen_reply_lem k (anew (goal.at.returns-then-d-next c).Else-not-anew) c.choose_until.result c.choose_until.ensures.value;
-      block_after = chosen_bytes k (anew (goal.at.returns-then-d-next c).Else-not-anew) c.choose_until.new.1.1.0 c.choose_until.ensures.block_after;
+      block_after = chosen_bytes k (anew (goal.at.returns-then-d-next c).Else-not-anew) c.choose_until.new.block c.choose_until.ensures.block_after;
     }
 
 pub count_at-requires : goal.count_at-requires
-count_at-requires c = after_holds (moved (goal.at.count_at-requires c).After-slice_known-2-1)
+count_at-requires c = after_holds (moved (goal.at.count_at-requires c).After-move_on (passing (goal.at.count_at-requires c).Start))
 
 pub clock_at-requires : goal.clock_at-requires
-clock_at-requires c = (after_holds (moved (goal.at.clock_at-requires c).After-slice_known-2-1)).size
+clock_at-requires c = (after_holds (moved (goal.at.clock_at-requires c).After-move_on (passing (goal.at.clock_at-requires c).Start))).size
 
 pub renewed-u-requires : goal.renewed-u-requires
 renewed-u-requires c =
-    let k = moved (goal.at.renewed-u-requires c).After-slice_known-2-1 in record {
+    let k = moved (goal.at.renewed-u-requires c).After-move_on (passing (goal.at.renewed-u-requires c).Start) in record {
       count_le_places = (omega (arith, c.count_at.ensures, (after_holds k).few), (after_holds k).size, after_clock k c.clock_at.result c.clock_at.ensures);
       by_index = after_below k c.count_at.result c.count_at.ensures;
     }
 
 pub choose-requires : goal.choose-requires
 choose-requires c =
-    let k = moved (goal.at.choose-requires c).After-slice_known-2-1 in record {
+    let k = moved (goal.at.choose-requires c).After-move_on (passing (goal.at.choose-requires c).Start) in record {
       table = (c.requires.owns.0.table, after_holds k, after_some k, after_again k);
       enough = after_enough k (anew (goal.at.choose-requires c).Else-not-anew);
       keyed = after_keyed k c.count_at.result c.clock_at.result c.count_at.ensures c.clock_at.ensures
@@ -126,7 +106,7 @@ choose-requires c =
 
 pub returns : goal.returns
 returns c =
-    let k = moved (goal.at.returns c).After-slice_known-2-1 in record {
+    let k = moved (goal.at.returns c).After-move_on (passing (goal.at.returns c).Start) in record {
       value = chosen_reply_lem k (anew (goal.at.returns c).Else-not-anew) c.choose.result c.choose.ensures.value;
-      block_after = chosen_bytes k (anew (goal.at.returns c).Else-not-anew) c.choose.new.1.1.0 c.choose.ensures.block_after;
+      block_after = chosen_bytes k (anew (goal.at.returns c).Else-not-anew) c.choose.new.block c.choose.ensures.block_after;
     }

@@ -1,5 +1,4 @@
 use native.Mathlib.Omega.{arith}
-use borrow.Author.Tests.{not-true, not-false}
 use Rattle.passing.proofs.questions.QuestionSteps.{Timely, no_11, no_12, no_finish, no_15, no_none}
 use Rattle.passing.proofs.questions.pass_number.Goals.{After-finish_number-n}
 use Rattle.passing.proofs.questions.pass_number.Goals as goal
@@ -21,9 +20,9 @@ returns-then-n-ne0 c = no_finish c.args.clock.ticks (timely (goal.at.returns-the
 pub returns-then-not-has_room : goal.returns-then-not-has_room
 returns-then-not-has_room c =
     no_15 c.args.clock.ticks (timely (goal.at.returns-then-not-has_room c).After-finish_number-n) c.if-n-ne0.false
-    c.has_room.result c.has_room.ensures (not-true c.has_room.result c.if-not-has_room.true)
+    c.has_room.result c.has_room.ensures c.if-not-has_room.true
 
 pub returns : goal.returns
 returns c =
     no_none c.args.clock.ticks (timely (goal.at.returns c).After-finish_number-n) c.if-n-ne0.false
-    c.has_room.result c.has_room.ensures (not-false c.has_room.result c.if-not-has_room.false)
+    c.has_room.result c.has_room.ensures c.if-not-has_room.false
