@@ -4,8 +4,8 @@
 use std::env;
 use std::path::PathBuf;
 
-/// The crates whose C entries are called. An archive has its own crate's entries alone for all to
-/// see, so the three go into one program.
+/// The libraries whose calls are exported, each in an archive of its name. An archive has its own
+/// library's calls alone for all to see, so the three go into one program.
 const CRATES: [&str; 3] = ["plan_calls", "dispatcher_calls", "knee"];
 
 /// One function of the code made visible, which the test that calls it links itself.
