@@ -1,12 +1,12 @@
 use mathlib.Core.Path.{◌≡◌, refl}
-use borrow.Author.Tests.{not-false}
+use borrow.Author.Tests.{not-false, not-true}
 use lib.ListN.{get_or}
 use Rattle.levels.specs.Code.{loaded}
 use Rattle.reclaiming.specs.StateBlock.{decode}
 use Rattle.reclaiming.specs.Orders.{next_arrival}
 use Rattle.state.specs.Code.{timing_in}
-use Rattle.soundness.proofs.SoundLaws.{Admitted, Entered, admitted_floors, admitted_periods, admitted_keyed, admitted_next, admitted_arrival}
-use Rattle.soundness.proofs.SoundLaws.{admitted_runnable, behind_runs, admitted_pace, admitted_sound}
+use Rattle.soundness.proofs.SoundLaws.{Admitted, Entered, admitted_speed, admitted_floors, admitted_periods, admitted_keyed, admitted_next, admitted_arrival}
+use Rattle.soundness.proofs.SoundLaws.{admitted_entries, admitted_runnable, behind_runs, admitted_pace, admitted_sound}
 use Rattle.soundness.proofs.test_admitted.Goals.{After-next_arrival-next, Else-not-entries, Start}
 use Rattle.soundness.proofs.test_admitted.Goals as goal
 
@@ -36,6 +36,15 @@ arrival : (c : After-next_arrival-next) →
     Admitted c.args.speeds.now c.args.levels c.args.block.now c.args.count c.args.clock c.args.level (get_or c.args.speeds.now c.args.level 0) →
     c.next_arrival-next.result ≡ next_arrival (timing_in (loaded c.args.speeds.now c.args.levels) c.args.block.now) (decode c.args.block.now).clock
 arrival c k = admitted_arrival k c.keys_of-keys.ensures c.next_arrival-next.result c.next_arrival-next.ensures
+
+pub entries_sound-entries-requires : goal.entries_sound-entries-requires
+entries_sound-entries-requires c =
+    let k = known (goal.at.entries_sound-entries-requires c).Start in
+    (k.holds, k.same, (admitted_speed k).0, (admitted_speed k).1)
+
+pub returns-then-not-entries : goal.returns-then-not-entries
+returns-then-not-entries c =
+    admitted_entries (known (goal.at.returns-then-not-entries c).Start) c.entries_sound-entries.ensures (not-true _ c.if-not-entries.true) c.not_sound.ensures
 
 pub keys_of-keys-requires-clause-by_index : goal.keys_of-keys-requires-clause-by_index
 keys_of-keys-requires-clause-by_index c = admitted_periods (known (goal.at.keys_of-keys-requires-clause-by_index c).Start)
