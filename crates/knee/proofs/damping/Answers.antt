@@ -9,20 +9,20 @@ use Rattle.knee.proofs.damping.Goals as goal
 
 pub returns-then-angle-lt-LOWEST_ANGLE : goal.returns-then-angle-lt-LOWEST_ANGLE
 returns-then-angle-lt-LOWEST_ANGLE c =
-    below_range c.args.angle c.ranges.angle c.if-angle-lt-LOWEST_ANGLE.true
+    below_range c.args.angle c.ranges.angle (omega arith)
 
 pub returns-then-angle-gt-HIGHEST_ANGLE : goal.returns-then-angle-gt-HIGHEST_ANGLE
 returns-then-angle-gt-HIGHEST_ANGLE c =
-    above_range c.args.angle c.ranges.angle c.if-angle-gt-HIGHEST_ANGLE.true
+    above_range c.args.angle c.ranges.angle (omega arith)
 
 pub returns-then-angle-lt0 : goal.returns-then-angle-lt0
 returns-then-angle-lt0 c =
-    below_zero c.args.angle c.ranges.angle c.if-angle-lt-LOWEST_ANGLE.false c.if-angle-lt0.true
+    below_zero c.args.angle c.ranges.angle (omega arith) (omega arith)
 
 -- after the tests
 tenths : (c : Else-angle-lt0) → FromZero c.args.angle (to_z w32 (of_z w32 c.args.angle))
 tenths c =
-    from_zero c.args.angle c.ranges.angle c.if-angle-gt-HIGHEST_ANGLE.false c.if-angle-lt0.false
+    from_zero c.args.angle c.ranges.angle (omega arith) (omega arith)
 
 pub overflow_cast-angle : goal.overflow_cast-angle
 overflow_cast-angle c = ((tenths c).not_below, record { fits = omega (arith, (tenths c).in_table) })

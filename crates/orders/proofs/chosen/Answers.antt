@@ -22,7 +22,7 @@ looked c = record {
 told : (c : After-task_in-i) →
     Looked (loaded c.args.speeds.now c.args.levels) c.args.block.now c.args.keys.now c.args.count c.most_urgent-best.result →
     Told (loaded c.args.speeds.now c.args.levels) c.args.block.now c.args.keys.now c.args.count c.most_urgent-best.result c.task_in-i.result
-told c k = record { looked = k; some = c.if-best-eq-NO_KEY.false; task = c.task_in-i.ensures.0 }
+told c k = record { looked = k; some = λ e. omega (arith, e); task = c.task_in-i.ensures.0 }
 
 read : (c : After-allowance_until-allowed) →
     Told (loaded c.args.speeds.now c.args.levels) c.args.block.now c.args.keys.now c.args.count c.most_urgent-best.result c.task_in-i.result →
@@ -65,7 +65,7 @@ picked c k h = record {
 
 pub returns-then-best-eq-NO_KEY-clause-value : goal.returns-then-best-eq-NO_KEY-clause-value
 returns-then-best-eq-NO_KEY-clause-value c =
-    chosen_none (looked (goal.at.returns-then-best-eq-NO_KEY-clause-value c).After-most_urgent-best) (omega (arith, c.if-best-eq-NO_KEY.true))
+    chosen_none (looked (goal.at.returns-then-best-eq-NO_KEY-clause-value c).After-most_urgent-best) (omega arith)
 
 pub allowance_until-allowed-requires : goal.allowance_until-allowed-requires
 allowance_until-allowed-requires c =

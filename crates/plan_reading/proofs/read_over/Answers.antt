@@ -17,43 +17,43 @@ block c = c.args.block.now
 opened : (c : After-bits_at-count) → Opened (c.args.block.now) c.bits_at-edition.result c.bits_at-count.result
 opened c =
     record {
-      long = c.if-block-lt2.false;
+      long = omega arith;
       named = c.bits_at-edition.ensures;
-      edition_low = omega (arith, c.if-edition-lt1.false);
-      edition_high = omega (arith, c.if-edition-gt2.false);
+      edition_low = omega arith;
+      edition_high = omega arith;
       counted = c.bits_at-count.ensures;
     }
 
 counted : (c : Else-count-gt16) → Counted (c.args.block.now) c.bits_at-edition.result c.bits_at-count.result
 counted c =
     let opened : Opened (c.args.block.now) c.bits_at-edition.result c.bits_at-count.result = record {
-      long = c.if-block-lt2.false;
+      long = omega arith;
       named = c.bits_at-edition.ensures;
-      edition_low = omega (arith, c.if-edition-lt1.false);
-      edition_high = omega (arith, c.if-edition-gt2.false);
+      edition_low = omega arith;
+      edition_high = omega arith;
       counted = c.bits_at-count.ensures;
     } in
-    record { opens = opened; low = c.if-count-lt1.false; high = c.if-count-gt16.false }
+    record { opens = opened; low = omega arith; high = (omega arith) }
 
 pub returns-then-block-lt2 : goal.returns-then-block-lt2
 returns-then-block-lt2 c =
-    read_short (speeds (goal.at.returns-then-block-lt2 c).Start) c.args.block.now c.refused.ensures c.if-block-lt2.true
+    read_short (speeds (goal.at.returns-then-block-lt2 c).Start) c.args.block.now c.refused.ensures (omega arith)
 
 pub returns-then-edition-lt1 : goal.returns-then-edition-lt1
 returns-then-edition-lt1 c =
-    read_edition_low (speeds (goal.at.returns-then-edition-lt1 c).Start) (block (goal.at.returns-then-edition-lt1 c).After-bits_at-edition) c.refused-then-edition-lt1.ensures c.if-block-lt2.false c.bits_at-edition.ensures c.if-edition-lt1.true
+    read_edition_low (speeds (goal.at.returns-then-edition-lt1 c).Start) (block (goal.at.returns-then-edition-lt1 c).After-bits_at-edition) c.refused-then-edition-lt1.ensures (omega arith) c.bits_at-edition.ensures (omega arith)
 
 pub returns-then-edition-gt2 : goal.returns-then-edition-gt2
 returns-then-edition-gt2 c =
-    read_edition_high (speeds (goal.at.returns-then-edition-gt2 c).Start) (block (goal.at.returns-then-edition-gt2 c).After-bits_at-edition) c.refused-then-edition-gt2.ensures c.if-block-lt2.false c.bits_at-edition.ensures (omega (arith, c.if-edition-gt2.true))
+    read_edition_high (speeds (goal.at.returns-then-edition-gt2 c).Start) (block (goal.at.returns-then-edition-gt2 c).After-bits_at-edition) c.refused-then-edition-gt2.ensures (omega arith) c.bits_at-edition.ensures (omega arith)
 
 pub returns-then-count-lt1 : goal.returns-then-count-lt1
 returns-then-count-lt1 c =
-    read_low (speeds (goal.at.returns-then-count-lt1 c).Start) (opened (goal.at.returns-then-count-lt1 c).After-bits_at-count) c.refused-then-count-lt1.ensures c.if-count-lt1.true
+    read_low (speeds (goal.at.returns-then-count-lt1 c).Start) (opened (goal.at.returns-then-count-lt1 c).After-bits_at-count) c.refused-then-count-lt1.ensures (omega arith)
 
 pub returns-then-count-gt16 : goal.returns-then-count-gt16
 returns-then-count-gt16 c =
-    read_high (speeds (goal.at.returns-then-count-gt16 c).Start) (opened (goal.at.returns-then-count-gt16 c).After-bits_at-count) c.refused-then-count-gt16.ensures c.if-count-gt16.true
+    read_high (speeds (goal.at.returns-then-count-gt16 c).Start) (opened (goal.at.returns-then-count-gt16 c).After-bits_at-count) c.refused-then-count-gt16.ensures (omega arith)
 
 pub returns-then-block-block_length : goal.returns-then-block-block_length
 returns-then-block-block_length c =

@@ -7,10 +7,10 @@ use Rattle.soundness.proofs.test_block.Goals as goal
 pub returns-then-count-lt1 : goal.returns-then-count-lt1
 returns-then-count-lt1 c =
     let b = c.args.block.now in
-    count_none (loaded c.args.speeds.now c.args.levels) b (omega (arith, c.if-count-lt1.true, count_byte b)) c.not_sound.ensures
+    count_none (loaded c.args.speeds.now c.args.levels) b (omega (arith, count_byte b)) c.not_sound.ensures
 
 pub returns-then-count-gt-PLACES : goal.returns-then-count-gt-PLACES
 returns-then-count-gt-PLACES c =
     let b = c.args.block.now in
-    count_above (loaded c.args.speeds.now c.args.levels) b (omega (arith, c.if-count-gt-PLACES.true, count_byte b))
+    count_above (loaded c.args.speeds.now c.args.levels) b (omega (arith, count_byte b))
     c.not_sound-then-count-gt-PLACES.ensures

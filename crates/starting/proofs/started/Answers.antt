@@ -43,7 +43,7 @@ new c =
 
 pub returns-then-state-lt-STATE_LENGTH : goal.returns-then-state-lt-STATE_LENGTH
 returns-then-state-lt-STATE_LENGTH c =
-    let all = left_short (table (goal.at.returns-then-state-lt-STATE_LENGTH c).Start) (tasks_of c.args.p) c.args.state.now c.if-state-lt-STATE_LENGTH.true in record {
+    let all = left_short (table (goal.at.returns-then-state-lt-STATE_LENGTH c).Start) (tasks_of c.args.p) c.args.state.now (omega arith) in record {
       value = all.0;
       state_after = all.1;
     }
@@ -84,7 +84,7 @@ choose-r-requires c =
 
 pub returns : goal.returns
 returns c =
-    let all = new_left_lem (new (goal.at.returns c).After-fresh-image) c.args.state.now c.if-state-lt-STATE_LENGTH.false c.choose-r.ensures.value c.choose-r.ensures.block_after c.store.ensures in record {
+    let all = new_left_lem (new (goal.at.returns c).After-fresh-image) c.args.state.now (omega arith) c.choose-r.ensures.value c.choose-r.ensures.block_after c.store.ensures in record {
       value = all.0;
       state_after = all.1;
     }

@@ -39,7 +39,7 @@ bits_at-closing-requires c =
     omega (arith, size c, level_length_covers count, level_length_tight count)
 
 pub returns-then-closing-ne0 : goal.returns-then-closing-ne0
-returns-then-closing-ne0 c = load_closing (closing (goal.at.returns-then-closing-ne0 c).After-bits_at-closing) c.unloaded-then-closing-ne0.ensures (λ e. omega (arith, c.if-closing-ne0.true, e))
+returns-then-closing-ne0 c = load_closing (closing (goal.at.returns-then-closing-ne0 c).After-bits_at-closing) c.unloaded-then-closing-ne0.ensures (λ e. omega (arith, e))
 
 pub speeds_in-speeds-requires : goal.speeds_in-speeds-requires
 speeds_in-speeds-requires c =
@@ -47,8 +47,8 @@ speeds_in-speeds-requires c =
 
 pub returns-then-not-rises : goal.returns-then-not-rises
 returns-then-not-rises c =
-    load_falls (closing (goal.at.returns-then-not-rises c).After-bits_at-closing) c.if-closing-ne0.false c.speeds_in-speeds.ensures c.unloaded-then-not-rises.ensures c.rises.ensures c.if-not-rises.true
+    load_falls (closing (goal.at.returns-then-not-rises c).After-bits_at-closing) (omega arith) c.speeds_in-speeds.ensures c.unloaded-then-not-rises.ensures c.rises.ensures c.if-not-rises.true
 
 pub returns : goal.returns
 returns c =
-    load_rises (closing (goal.at.returns c).After-bits_at-closing) c.if-closing-ne0.false c.speeds_in-speeds.ensures c.rises.ensures c.if-not-rises.false
+    load_rises (closing (goal.at.returns c).After-bits_at-closing) (omega arith) c.speeds_in-speeds.ensures c.rises.ensures c.if-not-rises.false

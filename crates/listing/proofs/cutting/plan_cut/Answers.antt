@@ -16,25 +16,25 @@ known : (c : After-block_length-wanted) →
     Wanted (c.args.input.now) c.cut_edition-edition.result c.bits_at-count.result c.block_length-wanted.result
 known c =
     let read : Header (c.args.input.now) c.cut_edition-edition.result c.bits_at-count.result = header (c.args.input.now) c.bits_at.ensures c.cut_edition-edition.ensures c.bits_at-count.ensures in
-    record { names = read; low = c.if-count-lt1.false; high = c.if-count-gt16.false; size = c.block_length-wanted.ensures }
+    record { names = read; low = omega arith; high = omega arith; size = c.block_length-wanted.ensures }
 
 pub returns-then-n-lt2 : goal.returns-then-n-lt2
 returns-then-n-lt2 c =
-    let all = cut_short c.args.input.now c.if-n-lt2.true in record {
+    let all = cut_short c.args.input.now (omega arith) in record {
       value = all.0;
       upper_bound = all.1;
     }
 
 pub returns-then-count-lt1 : goal.returns-then-count-lt1
 returns-then-count-lt1 c =
-    let all = cut_low (read (goal.at.returns-then-count-lt1 c).After-bits_at-count) c.if-count-lt1.true in record {
+    let all = cut_low (read (goal.at.returns-then-count-lt1 c).After-bits_at-count) (omega arith) in record {
       value = all.0;
       upper_bound = all.1;
     }
 
 pub returns-then-count-gt16 : goal.returns-then-count-gt16
 returns-then-count-gt16 c =
-    let all = cut_high (read (goal.at.returns-then-count-gt16 c).After-bits_at-count) (omega (arith, c.if-count-gt16.true)) in record {
+    let all = cut_high (read (goal.at.returns-then-count-gt16 c).After-bits_at-count) (omega arith) in record {
       value = all.0;
       upper_bound = all.1;
     }

@@ -33,7 +33,7 @@ looked c = record {
 told : (c : After-task_in) →
     Looked (loaded c.args.speeds.now c.args.levels) c.args.block.now c.args.keys.now c.args.count c.most_urgent-best.result →
     Told (loaded c.args.speeds.now c.args.levels) c.args.block.now c.args.keys.now c.args.count c.most_urgent-best.result c.task_in.result
-told c k = record { looked = k; some = λ e. omega (arith, c.if-best-eq-NO_KEY.false, e); task = c.task_in.ensures.0 }
+told c k = record { looked = k; some = λ e. omega (arith, e); task = c.task_in.ensures.0 }
 
 runs : (c : Else-task-task_in) →
     Told (loaded c.args.speeds.now c.args.levels) c.args.block.now c.args.keys.now c.args.count c.most_urgent-best.result c.task_in.result →
@@ -66,14 +66,14 @@ level_low c k well =
 
 pub returns-then-task-ne255 : goal.returns-then-task-ne255
 returns-then-task-ne255 c =
-    not_idle (looked (goal.at.returns-then-task-ne255 c).After-most_urgent-best) c.args.highest (omega (arith, c.if-best-eq-NO_KEY.true))
-    (λ e. omega (arith, c.if-task-ne255.true, e, task_byte c.args.block.now))
+    not_idle (looked (goal.at.returns-then-task-ne255 c).After-most_urgent-best) c.args.highest (omega arith)
+    (λ e. omega (arith, e, task_byte c.args.block.now))
 
 pub returns-then-best-eq-NO_KEY : goal.returns-then-best-eq-NO_KEY
 returns-then-best-eq-NO_KEY c =
     ap (λ (n : ℕ). eqb n 0) (level_byte c.args.block.now)
-    ∙ idle_level (looked (goal.at.returns-then-best-eq-NO_KEY c).After-most_urgent-best) c.args.highest (omega (arith, c.if-best-eq-NO_KEY.true))
-    (omega (arith, c.if-task-ne255.false, task_byte c.args.block.now))
+    ∙ idle_level (looked (goal.at.returns-then-best-eq-NO_KEY c).After-most_urgent-best) c.args.highest (omega arith)
+    (omega (arith, task_byte c.args.block.now))
 
 pub returns-then-task-task_in : goal.returns-then-task-task_in
 returns-then-task-task_in c =

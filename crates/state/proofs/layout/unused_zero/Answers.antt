@@ -9,11 +9,11 @@ loop-k-init c = clear_none c.args.block.now c.levels_at-k.ensures
 
 pub returns-then-speed_at-ne0 : goal.returns-then-speed_at-ne0
 returns-then-speed_at-ne0 c =
-    clear_not c.loop-k.invariant c.loop-k-test.true c.speed_at.ensures.0 c.if-speed_at-ne0.true
+    clear_not c.loop-k.invariant c.loop-k-test.true c.speed_at.ensures.0 (omega arith)
 
 pub loop-k-preserved : goal.loop-k-preserved
 loop-k-preserved c =
-    clear_more c.loop-k.invariant c.loop-k-test.true c.speed_at.ensures.0 c.if-speed_at-ne0.false
+    clear_more c.loop-k.invariant c.loop-k-test.true c.speed_at.ensures.0 (omega arith)
 
 pub returns : goal.returns
 returns c = clear_all c.loop-k.invariant c.loop-k-test.false

@@ -10,30 +10,30 @@ abbrev bytes : After-shared_slice_known-1 → List ℕ
 bytes c = c.args.block.now
 
 pub returns-then-block-ne-STATE_LENGTH : goal.returns-then-block-ne-STATE_LENGTH
-returns-then-block-ne-STATE_LENGTH c = found_none (bytes (goal.at.returns-then-block-ne-STATE_LENGTH c).After-shared_slice_known-1) (none_long (bytes (goal.at.returns-then-block-ne-STATE_LENGTH c).After-shared_slice_known-1) c.if-block-ne-STATE_LENGTH.true) c.no_table.ensures
+returns-then-block-ne-STATE_LENGTH c = found_none (bytes (goal.at.returns-then-block-ne-STATE_LENGTH c).After-shared_slice_known-1) (none_long (bytes (goal.at.returns-then-block-ne-STATE_LENGTH c).After-shared_slice_known-1) (omega arith)) c.no_table.ensures
 
 pub returns-then-count-lt1 : goal.returns-then-count-lt1
 returns-then-count-lt1 c =
-    found_none (bytes (goal.at.returns-then-count-lt1 c).After-shared_slice_known-1) (none_few (bytes (goal.at.returns-then-count-lt1 c).After-shared_slice_known-1) c.if-block-ne-STATE_LENGTH.false (omega (arith, c.levels_at-count.ensures, c.if-count-lt1.true))) c.no_table-then-count-lt1.ensures
+    found_none (bytes (goal.at.returns-then-count-lt1 c).After-shared_slice_known-1) (none_few (bytes (goal.at.returns-then-count-lt1 c).After-shared_slice_known-1) (omega arith) (omega (arith, c.levels_at-count.ensures))) c.no_table-then-count-lt1.ensures
 
 pub returns-then-count-gt-LEVEL_PLACES : goal.returns-then-count-gt-LEVEL_PLACES
 returns-then-count-gt-LEVEL_PLACES c =
-    found_none (bytes (goal.at.returns-then-count-gt-LEVEL_PLACES c).After-shared_slice_known-1) (none_many (bytes (goal.at.returns-then-count-gt-LEVEL_PLACES c).After-shared_slice_known-1) c.if-block-ne-STATE_LENGTH.false (omega (arith, c.levels_at-count.ensures, c.if-count-gt-LEVEL_PLACES.true))) c.no_table-then-count-gt-LEVEL_PLACES.ensures
+    found_none (bytes (goal.at.returns-then-count-gt-LEVEL_PLACES c).After-shared_slice_known-1) (none_many (bytes (goal.at.returns-then-count-gt-LEVEL_PLACES c).After-shared_slice_known-1) (omega arith) (omega (arith, c.levels_at-count.ensures))) c.no_table-then-count-gt-LEVEL_PLACES.ensures
 
 -- the speeds that were gathered
 gathers : (c : After-speeds_of-speeds) →
     Gathers (c.args.block.now) c.speeds_of-speeds.result c.levels_at-count.result
 gathers c =
     record {
-      size = c.if-block-ne-STATE_LENGTH.false;
-      some = omega (arith, c.if-count-lt1.false);
-      few = omega (arith, c.if-count-gt-LEVEL_PLACES.false);
+      size = omega arith;
+      some = omega arith;
+      few = omega arith;
       counted = c.levels_at-count.ensures;
       gathered = c.speeds_of-speeds.ensures;
     }
 
 pub rises-requires : goal.rises-requires
-rises-requires c = (omega (arith, c.if-count-gt-LEVEL_PLACES.false), gathered_length (gathers (goal.at.rises-requires c).After-speeds_of-speeds))
+rises-requires c = (omega arith, gathered_length (gathers (goal.at.rises-requires c).After-speeds_of-speeds))
 
 pub returns-then-not-rises : goal.returns-then-not-rises
 returns-then-not-rises c =
