@@ -1,3 +1,4 @@
+use native.Mathlib.Omega.{arith}
 use Rattle.state.proofs.TailLaws.{clear_none, clear_not, clear_more, clear_all}
 use Rattle.state.proofs.layout.unused_zero.Goals as goal
 
