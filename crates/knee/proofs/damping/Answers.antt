@@ -1,3 +1,4 @@
+use borrow.Author.Rules.{rules}
 use mathlib.Core.Path.{ap, ◌∙◌}
 use native.Mathlib.Omega.{arith}
 use mir.Syntax.{w32}
@@ -9,20 +10,20 @@ use Rattle.knee.proofs.damping.Goals as goal
 
 pub returns-then-angle-lt-LOWEST_ANGLE : goal.returns-then-angle-lt-LOWEST_ANGLE
 returns-then-angle-lt-LOWEST_ANGLE c =
-    below_range c.args.angle c.ranges.angle (omega arith)
+    below_range c.args.angle c.ranges.angle (search rules)
 
 pub returns-then-angle-gt-HIGHEST_ANGLE : goal.returns-then-angle-gt-HIGHEST_ANGLE
 returns-then-angle-gt-HIGHEST_ANGLE c =
-    above_range c.args.angle c.ranges.angle (omega arith)
+    above_range c.args.angle c.ranges.angle (search rules)
 
 pub returns-then-angle-lt0 : goal.returns-then-angle-lt0
 returns-then-angle-lt0 c =
-    below_zero c.args.angle c.ranges.angle (omega arith) (omega arith)
+    below_zero c.args.angle c.ranges.angle (search rules) (search rules)
 
 -- after the tests
 tenths : (c : Else-angle-lt0) → FromZero c.args.angle (to_z w32 (of_z w32 c.args.angle))
 tenths c =
-    from_zero c.args.angle c.ranges.angle (omega arith) (omega arith)
+    from_zero c.args.angle c.ranges.angle (search rules) (search rules)
 
 pub overflow_cast-angle : goal.overflow_cast-angle
 overflow_cast-angle c = ((tenths c).not_below, record { fits = omega (arith, (tenths c).in_table) })
