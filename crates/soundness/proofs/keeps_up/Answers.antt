@@ -13,4 +13,4 @@ returns c =
       choice = c.standing-c.ensures;
       some = c.requires.runnable.1 c.if-ahead.false;
     } in
-    gap_alone runs c.if-ahead.false (omega (arith, c.if-c-next.false)) refl c.is_lone.ensures
+    gap_alone runs c.if-ahead.false (omega arith) refl c.is_lone.ensures
