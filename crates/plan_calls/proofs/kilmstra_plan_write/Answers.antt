@@ -1,22 +1,26 @@
-use mathlib.Core.Path.{ap, ◌∙◌}
+use Rattle.std.proofs.Common.{◌≡◌, ap, rules}
 use lib.ListN.{length}
 use Rattle.plan.specs.declared.Plan.{Plan}
 use Rattle.plan.specs.Answers.{write_plan, write_buffer}
-use Rattle.plan.specs.Numbers.{written_number}
+use Rattle.plan.specs.Numbers.{plan_from}
 use Rattle.plan_calls.proofs.Packing.{wrote_most}
 use Rattle.plan_calls.proofs.kilmstra_plan_write.Goals as goal
 
+-- the call of `write` is not cited by its name, so that a wrong answer is refused where it returns
 pub written_number-requires : goal.written_number-requires
 written_number-requires c =
-    wrote_most c.args.levels.now c.plan_from-p.result (length c.args.buffer.now) c.write-w.ensures.value
+    search (rules, wrote_most c.args.levels.now c.plan_from-p.result (length c.args.buffer.now))
 
 pub returns-clause-value : goal.returns-clause-value
 returns-clause-value c =
-    c.written_number.ensures
-    ∙ ap written_number c.write-w.ensures.value
-    ∙ ap (λ (p : Plan). written_number (write_plan c.args.levels.now p (length c.args.buffer.now))) c.plan_from-p.ensures
+    let moved : write_plan c.args.levels.now c.plan_from-p.result (length c.args.buffer.now)
+    ≡ write_plan c.args.levels.now (plan_from c.args.count c.args.numbers.now) (length c.args.buffer.now) =
+    ap (λ (p : Plan). write_plan c.args.levels.now p (length c.args.buffer.now)) c.plan_from-p.ensures in
+    cc
 
 pub returns-clause-buffer_after : goal.returns-clause-buffer_after
 returns-clause-buffer_after c =
-    c.write-w.ensures.buffer_after
-    ∙ ap (λ (p : Plan). write_buffer c.args.levels.now p c.args.buffer.now) c.plan_from-p.ensures
+    let moved : write_buffer c.args.levels.now c.plan_from-p.result c.args.buffer.now
+    ≡ write_buffer c.args.levels.now (plan_from c.args.count c.args.numbers.now) c.args.buffer.now =
+    ap (λ (p : Plan). write_buffer c.args.levels.now p c.args.buffer.now) c.plan_from-p.ensures in
+    cc
