@@ -2,66 +2,44 @@
 #![tactic(auto)]
 
 ghost use Rattle.std.specs.Prelude.{◌≡◌, ◌<◌, ◌^◌};
-ghost use Rattle.plan.specs.Numbers.{load_number, verdict_number, written_number, paired_number};
-ghost use Rattle.reclaiming.specs.Numbers.{reply_number, queued_number};
+ghost use Rattle.plan.specs.Counted.{counted_number};
+ghost use Rattle.plan.specs.Numbers.{verdict_number};
+ghost use Rattle.reclaiming.specs.Numbers.{reply_number};
 
-use plan::{Load, Paired, Verdict, Written};
-use reclaiming::{Queued, Reply};
+use plan::{Admission, Refused};
+use reclaiming::Reply;
 
-// What reading a level block answers as one number.
-pub fn load_number(l: Load) -> u64
-    requires { load_number l < 2 ^ 36 }
-    ensures { result ≡ load_number l }
+// A count as one number.
+pub fn counted_number(answer: Result<usize, Refused>) -> u64
+    requires { counted_number answer < 2 ^ 36 }
+    ensures { result ≡ counted_number answer }
 {
-    match l {
-        Load::Refused(n) => n as u64,
-        Load::Levels(n) => 256 * (n as u64),
+    match answer {
+        Err(refused) => refused.number as u64,
+        Ok(count) => 256 * (count as u64),
+    }
+}
+
+// A count of 32 bits as one number: it always fits.
+pub fn total_number(answer: Result<u32, Refused>) -> u64
+    ensures { result ≡ counted_number answer }
+{
+    match answer {
+        Err(refused) => refused.number as u64,
+        Ok(total) => 256 * (total as u64),
     }
 }
 
 // A verdict as one number.
-pub fn verdict_number(v: Verdict) -> u64
-    requires { verdict_number v < 2 ^ 36 }
-    ensures { result ≡ verdict_number v }
+pub fn verdict_number(verdict: Result<Admission, Refused>) -> u64
+    requires { verdict_number verdict < 2 ^ 36 }
+    ensures { result ≡ verdict_number verdict }
 {
-    match v {
-        Verdict::Refused(n) => n as u64,
-        Verdict::Admitted {
-            nominal,
-            hyperperiod,
-        } => 256 * (nominal as u64) + 65536 * (hyperperiod as u64),
-    }
-}
-
-// What writing answers as one number.
-pub fn written_number(w: Written) -> u64
-    requires { written_number w < 2 ^ 36 }
-    ensures { result ≡ written_number w }
-{
-    match w {
-        Written::Refused(n) => n as u64,
-        Written::Bytes(n) => 256 * (n as u64),
-    }
-}
-
-// What asking about a list of pairs answers as one number.
-pub fn paired_number(p: Paired) -> u64
-    requires { paired_number p < 2 ^ 36 }
-    ensures { result ≡ paired_number p }
-{
-    match p {
-        Paired::Refused(n) => n as u64,
-        Paired::Pairs(n) => 256 * (n as u64),
-    }
-}
-
-// What asking for the total answers as one number.
-pub fn queued_number(q: Queued) -> u64
-    ensures { result ≡ queued_number q }
-{
-    match q {
-        Queued::Refused(n) => n as u64,
-        Queued::Ticks(n) => 256 * (n as u64),
+    match verdict {
+        Err(refused) => refused.number as u64,
+        Ok(admission) => {
+            256 * (admission.nominal as u64) + 65536 * (admission.hyperperiod as u64)
+        }
     }
 }
 

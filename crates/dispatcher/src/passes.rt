@@ -24,12 +24,7 @@ pub fn play_all(state: &mut [u8], passes: &[u64], replies: &mut [u64])
     ensures state_after { state.new ≡ bytes_after state.old (played_passes passes.now (length replies.old)) }
     ensures replies_after { replies.new ≡ reply_numbers (trace state.old (played_passes passes.now (length replies.old))) ++ drop (length (played_passes passes.now (length replies.old))) replies.old }
 {
-    let mut i: usize = 0;
-    while i < passes.len() {
-        if replies.len() <= i {
-            return;
-        }
+    for i in 0..passes.len().min(replies.len()) {
         replies[i] = play_one(state, passes[i]);
-        i += 1;
     }
 }

@@ -9,7 +9,7 @@ ghost use Rattle.reclaiming.specs.Play.{played_shown, played_queue, PlayedQueueS
 
 use crate::passes::play_all;
 use answers::reply_number;
-use plan::Written;
+use plan::Refused;
 use reclaiming::Reply;
 use showing::show;
 use starting::start;
@@ -19,15 +19,7 @@ use state::STATE_LENGTH;
 fn is_order(r: Reply) -> bool
     ensures { result ≡ is_order r }
 {
-    match r {
-        Reply::Refused(_) => false,
-        Reply::Run {
-            task: _,
-            level: _,
-            hold: _,
-        } => true,
-        Reply::Idle { hold: _ } => true,
-    }
+    !matches!(r, Reply::Refused(_))
 }
 
 // Starts a plan with its pairs over a level block and plays a list of passes on it. The start's reply is returned; those of the passes stand in the lent block.
@@ -66,7 +58,7 @@ pub fn play(
 #[derive(Clone, Copy)]
 pub struct Played {
     pub first: u64,
-    pub shown: Written,
+    pub shown: Result<usize, Refused>,
 }
 
 // Plays a list of passes as `play` does and, where the start was accepted, shows the queue of the state that they leave.
@@ -92,7 +84,7 @@ pub fn play_and_show(
     if first < 256 {
         return Played {
             first,
-            shown: Written::Bytes(0),
+            shown: Ok(0),
         };
     }
     let shown = show(&state[..STATE_LENGTH], buffer);

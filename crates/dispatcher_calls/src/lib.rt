@@ -2,11 +2,11 @@
 #![tactic(auto)]
 
 ghost use Rattle.std.specs.Prelude.{◌≡◌, length};
-ghost use Rattle.plan.specs.Numbers.{written_number};
+ghost use Rattle.plan.specs.Counted.{counted_number};
 ghost use Rattle.reclaiming.specs.Calls.{start_reply, start_buffer, pass_reply, pass_bytes, show_reply, show_buffer, queued_reply};
-ghost use Rattle.reclaiming.specs.Numbers.{reply_number, queued_number, is_yes};
+ghost use Rattle.reclaiming.specs.Numbers.{reply_number, is_yes};
 
-use answers::{queued_number, reply_number, written_number};
+use answers::{counted_number, reply_number, total_number};
 use passing::pass;
 use showing::show;
 use starting::start;
@@ -33,18 +33,18 @@ pub fn kilmstra_pass(state: &mut [u8], d: u32, finished: u8) -> u64
 
 // Shows the queue of a state: 9 or 10 is a refusal's number; else the count of bytes stands from bit 8 on.
 pub fn kilmstra_show(state: &[u8], buffer: &mut [u8]) -> u64
-    ensures value { result ≡ written_number (show_reply state.now (length buffer.old)) }
+    ensures value { result ≡ counted_number (show_reply state.now (length buffer.old)) }
     ensures buffer_after { buffer.new ≡ show_buffer state.now buffer.old }
 {
     let w = show(state, buffer);
-    written_number(w)
+    counted_number(w)
 }
 
 // Tells how many plain ticks are queued in all, without going through the entries of the state: 10 is a refusal's number; else the total
 // stands from bit 8 on.
 pub fn kilmstra_queued(state: &[u8]) -> u64
-    ensures { result ≡ queued_number (queued_reply state.now) }
+    ensures { result ≡ counted_number (queued_reply state.now) }
 {
     let q = queued(state);
-    queued_number(q)
+    total_number(q)
 }

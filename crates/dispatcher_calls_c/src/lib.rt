@@ -2,9 +2,9 @@
 #![tactic(auto)]
 
 ghost use Rattle.std.specs.Prelude.{◌≡◌, length};
-ghost use Rattle.plan.specs.Numbers.{written_number};
+ghost use Rattle.plan.specs.Counted.{counted_number};
 ghost use Rattle.reclaiming.specs.Calls.{start_reply, start_buffer, pass_reply, pass_bytes, show_reply, show_buffer, queued_reply};
-ghost use Rattle.reclaiming.specs.Numbers.{reply_number, queued_number, is_yes};
+ghost use Rattle.reclaiming.specs.Numbers.{reply_number, is_yes};
 
 // Starts a plan's block with its list of pairs over a level block into a state of 221 bytes: 18 to 20, 1 to 9, 21, 22 or 24 is a refusal's
 // number; else the order.
@@ -28,7 +28,7 @@ pub extern "C" fn kilmstra_pass(state: &mut [u8], d: u32, finished: u8) -> u64
 // Shows the queue of a state: 9 or 10 is a refusal's number; else the count of bytes stands from bit 8 on.
 #[unsafe(no_mangle)]
 pub extern "C" fn kilmstra_show(state: &[u8], buffer: &mut [u8]) -> u64
-    ensures value { result ≡ written_number (show_reply state.now (length buffer.old)) }
+    ensures value { result ≡ counted_number (show_reply state.now (length buffer.old)) }
     ensures buffer_after { buffer.new ≡ show_buffer state.now buffer.old }
 {
     dispatcher_calls::kilmstra_show(state, buffer)
@@ -38,7 +38,7 @@ pub extern "C" fn kilmstra_show(state: &[u8], buffer: &mut [u8]) -> u64
 // stands from bit 8 on.
 #[unsafe(no_mangle)]
 pub extern "C" fn kilmstra_queued(state: &[u8]) -> u64
-    ensures { result ≡ queued_number (queued_reply state.now) }
+    ensures { result ≡ counted_number (queued_reply state.now) }
 {
     dispatcher_calls::kilmstra_queued(state)
 }

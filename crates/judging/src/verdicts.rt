@@ -4,10 +4,11 @@ ghost use Rattle.plan.specs.Questions.{task_questions};
 ghost use Rattle.arith.specs.Asking.{first_no};
 ghost use Rattle.plan.specs.Blocks.{tasks_of, plan_of};
 ghost use Rattle.plan.specs.Answers.{judged_by, refused_with};
-ghost use Rattle.levels.specs.Code.{loaded, Table};
+ghost use Rattle.levels.specs.Held.{speeds_of};
 
 use crate::admission::verdict_of;
-use plan::{Judged, Plan, Task, Verdict};
+use levels::table::SpeedTable;
+use plan::{Judged, Plan, Refused, Task};
 
 pub fn empty_plan() -> Plan
     ensures { result ≡ plan_of [] }
@@ -28,16 +29,12 @@ fn cleared(p: Plan) -> Plan
     requires { p.count ≤ 16 }
     ensures { result ≡ plan_of (tasks_of p) }
 {
-    let count = p.count;
-    let mut q = empty_plan();
-    q.count = count;
-    let mut i: usize = 0;
-    while i < count {
-        let t = p.tasks[i];
-        q.tasks[i] = t;
-        i += 1;
+    let mut tasks = empty_plan().tasks;
+    tasks[..p.count].copy_from_slice(&p.tasks[..p.count]);
+    Plan {
+        count: p.count,
+        tasks,
     }
-    q
 }
 
 // A refusal, with a plan that is zero throughout.
@@ -45,28 +42,25 @@ pub fn refused(n: u32) -> Judged
     ensures { result ≡ refused_with n }
 {
     Judged {
-        verdict: Verdict::Refused(n),
+        verdict: Err(Refused { number: n }),
         plan: empty_plan(),
     }
 }
 
 // A verdict with the plan that stands beside it.
-pub fn judged_with(speeds: &[u32; 8], levels: usize, p: Plan) -> Judged
-    requires { (p.count ≤ 16) × Table speeds.now levels }
+pub fn judged_with(table: &SpeedTable, p: Plan) -> Judged
+    requires { p.count ≤ 16 }
     ensures { result ≡ judged_by
-        (first_no (task_questions (loaded speeds.now levels) (tasks_of p)))
-        (loaded speeds.now levels) (tasks_of p) }
+        (first_no (task_questions (speeds_of table.now) (tasks_of p)))
+        (speeds_of table.now) (tasks_of p) }
 {
-    let v = verdict_of(speeds, levels, p);
+    let v = verdict_of(table, p);
     match v {
-        Verdict::Refused(_) => Judged {
+        Err(_) => Judged {
             verdict: v,
             plan: empty_plan(),
         },
-        Verdict::Admitted {
-            nominal: _,
-            hyperperiod: _,
-        } => Judged {
+        Ok(_) => Judged {
             verdict: v,
             plan: cleared(p),
         },

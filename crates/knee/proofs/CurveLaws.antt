@@ -16,8 +16,9 @@ use Rattle.arith.specs.Choice.{pick, both}
 use Rattle.arith.specs.Ranges.{some_to}
 use Rattle.arith.proofs.Tests.{passed, failed, tested, le_yes, le_not, test_le, both_left, both_right}
 use Rattle.arith.proofs.RangeLaws.{no_none}
-use Rattle.knee.specs.declared.Damped.TheVariants as damped
-use Rattle.knee.specs.Curve.{Point, points, curve_at, damping_at, lowest_angle, highest_angle, damping_by, damping_reply, apart, MovesLittle}
+use Rattle.knee.specs.Curve.{Point, points, curve_at, damping_at, lowest_angle, highest_angle, damping_reply, apart, MovesLittle}
+use Rattle.std.specs.declared.result.Result.TheVariants.{Ok}
+use Rattle.plan.specs.Counted.{counted_by}
 
 -- 1,200 times the curve, before rounding: a whole number at every tenth of a degree
 abbrev fine_line : Point → Point → ℕ → ℕ
@@ -157,10 +158,10 @@ pub record Told (a : ℤ) (m : ℕ) : Type 0 where
   pub is : curve_at points (from0 a) ≡ m
   pub below : from0 a < 1301
 
-told : (a : ℤ) (m : ℕ) → damping_reply a ≡ damped.Value m → Told a m
+told : (a : ℤ) (m : ℕ) → damping_reply a ≡ Ok m → Told a m
 told a m =
     elim (tested (both (le_z lowest_angle a) (le_z a highest_angle)))
-    as (λ t _. both (le_z lowest_angle a) (le_z a highest_angle) ≡ t → damping_by (pick t 0 23) (damping_at a) ≡ damped.Value m → Told a m) [
+    as (λ t _. both (le_z lowest_angle a) (le_z a highest_angle) ≡ t → counted_by (pick t 0 23) (damping_at a) ≡ Ok m → Told a m) [
       | passed ↦ λ e h. record { is = sym (damping_from_0 a) ∙ cc; below = in_range_lem a (both_right (le_z lowest_angle a) (le_z a highest_angle) e) }
       | failed ↦ λ e h. absurd (true≢false cc)
     ]

@@ -17,12 +17,13 @@ use Rattle.reclaiming.specs.Run.{trace, started_bytes}
 use Rattle.reclaiming.specs.Numbers.{reply_number}
 use Rattle.reclaiming.specs.Play.{reply_numbers, played_actual}
 use Rattle.worked_cases.specs.Cases.{Case, told, task, pass, case}
-use Rattle.knee.specs.Curve.{damping_reply, damping_answer}
+use Rattle.knee.specs.Curve.{damping_reply}
 use Rattle.knee.specs.Refresh.{Finishes, finish, valve_job}
+use Rattle.plan.specs.Counted.{counted_answer}
 
 -- what the lookup gives at an angle
 abbrev at : ℤ → List ℕ
-at angle = told (damping_answer (damping_reply angle))
+at angle = told (counted_answer (damping_reply angle))
 
 -- an angle below 0
 abbrev minus : ℕ → ℤ

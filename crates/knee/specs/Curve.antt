@@ -1,11 +1,11 @@
 -- 02, No. 7, "Damping for the knee itself": the damping at an angle, the question that is put before it is told, and how far it moves.
 -- Assumes nothing.
-use Rattle.std.specs.Prelude.{ℕ, zero, suc, ◌+◌, ◌-◌, ◌*◌, ◌/◌, ◌≤◌, ◌≡◌, List, [], ◌∷◌, leb, ℤ, pos, negsuc, neg_ℤ, nat_abs, ◌-ℤ◌}
+use Rattle.std.specs.Prelude.{ℕ, ◌+◌, ◌-◌, ◌*◌, ◌/◌, ◌≤◌, ◌≡◌, List, [], ◌∷◌, leb, ℤ, pos, negsuc, neg_ℤ, nat_abs, ◌-ℤ◌}
 use Rattle.std.specs.Int.Signed.{le_z}
 use Rattle.arith.specs.Choice.{pick, both}
-use Rattle.arith.specs.Asking.{Question, ask, first_no, Answer, values, refusal}
-use Rattle.knee.specs.declared.Damped.{Damped}
-use Rattle.knee.specs.declared.Damped.TheVariants as damped
+use Rattle.arith.specs.Asking.{Question, ask, first_no}
+use Rattle.std.specs.declared.result.Result.TheVariants.{Ok}
+use Rattle.plan.specs.Counted.{Counted, counted_by}
 
 -- a point of the curve: "(degrees, damping)"
 pub record Point : Type 0 where
@@ -46,22 +46,8 @@ abbrev pub looking_up : ℤ → List Question
 looking_up angle = ask 23 (both (le_z lowest_angle angle) (le_z angle highest_angle)) ∷ []
 
 -- the lookup's answer
-abbrev pub damping_by : ℕ → ℕ → Damped
-damping_by zero found = damped.Value found
-damping_by (suc n) found = damped.Refused (suc n)
-
-abbrev pub damping_reply : ℤ → Damped
-damping_reply angle = damping_by (first_no (looking_up angle)) (damping_at angle)
-
--- its number and values: the damping
-abbrev pub damping_answer : Damped → Answer
-damping_answer (damped.Value found) = values (found ∷ [])
-damping_answer (damped.Refused n) = refusal n
-
--- as C sees it: a refusal is its number, below 256; else the damping stands from bit 8 on
-abbrev pub damping_number : Damped → ℕ
-damping_number (damped.Value found) = 256 * found
-damping_number (damped.Refused n) = n
+abbrev pub damping_reply : ℤ → Counted
+damping_reply angle = counted_by (first_no (looking_up angle)) (damping_at angle)
 
 -- how far two numbers are apart
 abbrev pub apart : ℤ → ℤ → ℕ
@@ -72,6 +58,6 @@ apart a b = nat_abs (a -ℤ b)
 abbrev pub MovesLittle : Type 0
 MovesLittle =
     (a b : ℤ) (m n : ℕ) →
-    damping_reply a ≡ damped.Value m →
-    damping_reply b ≡ damped.Value n →
+    damping_reply a ≡ Ok m →
+    damping_reply b ≡ Ok n →
     apart (pos m) (pos n) ≤ 1 + 12 * apart a b / 100

@@ -2,12 +2,13 @@
 #![tactic(auto)]
 
 ghost use Rattle.std.specs.Prelude.{◌≡◌};
-ghost use Rattle.knee.specs.Curve.{damping_reply, damping_number};
+ghost use Rattle.plan.specs.Counted.{counted_number};
+ghost use Rattle.knee.specs.Curve.{damping_reply};
 
 // Looks the damping up at an angle in tenths of a degree: 23 is a refusal's number; else the damping stands from bit 8 on.
 #[unsafe(no_mangle)]
 pub extern "C" fn kilmstra_damping(angle: i32) -> u64
-    ensures { result ≡ damping_number (damping_reply angle) }
+    ensures { result ≡ counted_number (damping_reply angle) }
 {
     knee::kilmstra_damping(angle)
 }

@@ -11,14 +11,18 @@ use Rattle.arith.specs.Arrays.{padded}
 use Rattle.arith.specs.Asking.{first_no, within}
 use Rattle.arith.proofs.Tests.{both_right}
 use Rattle.arith.proofs.ArrayLaws.{length-padded}
-use Rattle.plan.specs.declared.Load.TheVariants as load
 use Rattle.plan.specs.declared.Board.{Board}
 use Rattle.plan.specs.Levels.{speed_of}
 use Rattle.plan.specs.LevelBlocks.{speeds_in, rises_from, loading, board_by, read_levels}
 use Rattle.plan.proofs.AnswerLaws.{Refusal}
 use Rattle.plan.proofs.LevelBlockLaws.{FineTable, rising, speeds_most, loaded_table}
+use Rattle.plan.specs.declared.Refused.{Refused}
+use Rattle.levels.specs.declared.table.SpeedTable.{SpeedTable}
 use Rattle.levels.specs.Code.{loaded, Table}
+use Rattle.levels.specs.Reading.{LoadedFrom, RefusedFor}
 use Rattle.levels.proofs.LevelLaws.{loaded_padded}
+use Rattle.std.specs.declared.result.Result.TheVariants.{Ok}
+use Rattle.plan.specs.Counted.{refused, counted_number}
 
 module _ {held : List ℕ} {levels : ℕ} (t : Table held levels) where
   pub levels_are : length (loaded held levels) ≡ levels
@@ -60,33 +64,33 @@ pub record Loads (block held : List ℕ) (levels : ℕ) : Type 0 where
 board_loaded :
     (speeds : List ℕ) (number : ℕ) {b : Board} {levels : ℕ} →
     b ≡ board_by number speeds →
-    b.answer ≡ load.Levels levels →
+    b.answer ≡ Ok levels →
     (number ≡ 0) × (levels ≡ length speeds) × (b.speeds ≡ padded 8 0 speeds)
 board_loaded speeds zero {b} {levels} e a =
-    let told : b.answer ≡ load.Levels (length speeds) = ap (λ (x : Board). x.answer) e in
+    let told : b.answer ≡ Ok (length speeds) = ap (λ (x : Board). x.answer) e in
     let n : levels ≡ length speeds = cc in
     (refl, n, ap (λ (x : Board). x.speeds) e)
 board_loaded speeds (suc m) {b} e a =
-    let told : b.answer ≡ load.Refused (suc m) = ap (λ (x : Board). x.answer) e in
+    let told : b.answer ≡ refused (suc m) = ap (λ (x : Board). x.answer) e in
     let z : ◌≡◌ {A = ℕ} 0 1 = cc in
     absurd (omega arith)
 
 board_refused :
     (speeds : List ℕ) (number : ℕ) {b : Board} {n : ℕ} →
     b ≡ board_by number speeds →
-    b.answer ≡ load.Refused n →
+    b.answer ≡ refused n →
     Refusal number n
 board_refused speeds zero {b} e a =
-    let told : b.answer ≡ load.Levels (length speeds) = ap (λ (x : Board). x.answer) e in
+    let told : b.answer ≡ Ok (length speeds) = ap (λ (x : Board). x.answer) e in
     let z : ◌≡◌ {A = ℕ} 0 1 = cc in
     absurd (omega arith)
 board_refused speeds (suc m) {b} {n} e a =
-    let told : b.answer ≡ load.Refused (suc m) = ap (λ (x : Board). x.answer) e in
-    let same : suc m ≡ n = cc in
+    let told : b.answer ≡ refused (suc m) = ap (λ (x : Board). x.answer) e in
+    let same : suc m ≡ n = ap counted_number (sym told ∙ a) in
     record { positive = omega arith; is = same }
 
 module _ (block : List ℕ) {b : Board} where
-  pub told_loaded : {levels : ℕ} → b ≡ read_levels block → b.answer ≡ load.Levels levels → Loads block b.speeds levels
+  pub told_loaded : {levels : ℕ} → b ≡ read_levels block → b.answer ≡ Ok levels → Loads block b.speeds levels
   told_loaded {levels} e a =
       let speeds : List ℕ = speeds_in block in
       let told : (first_no (loading block) ≡ 0) × (levels ≡ length speeds) × (b.speeds ≡ padded 8 0 speeds) =
@@ -105,5 +109,20 @@ module _ (block : List ℕ) {b : Board} where
             (ap (λ (l : List ℕ). rises_from 0 l) is ∙ both_right (within 1 8 (length speeds)) (rises_from 0 speeds) fine.good);
       }
 
-  pub told_unloaded : {n : ℕ} → b ≡ read_levels block → b.answer ≡ load.Refused n → Refusal (first_no (loading block)) n
+  pub told_unloaded : {n : ℕ} → b ≡ read_levels block → b.answer ≡ refused n → Refusal (first_no (loading block)) n
   told_unloaded e a = board_refused (speeds_in block) (first_no (loading block)) e a
+
+-- a table that was loaded, and a refusal, as the reading of a block tells them
+module _ (block : List ℕ) where
+  pub loads_from : {t : SpeedTable} → LoadedFrom block t → Loads block t.speeds t.levels
+  loads_from {t} k =
+      record {
+        number = k.number;
+        is = k.is;
+        padded_is = k.padded_is;
+        some = omega (arith, levels_are t.known, ap length k.is, (loaded_table block k.number).some);
+        table = t.known;
+      }
+
+  pub refusal_for : {e : Refused} → RefusedFor block e → Refusal (first_no (loading block)) e.number
+  refusal_for k = record { positive = k.positive; is = k.is }

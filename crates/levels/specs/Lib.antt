@@ -1,2 +1,3 @@
 pub mod Code
+pub mod Held
 pub mod Reading

@@ -3,6 +3,7 @@
 #![tactic(auto)]
 
 pub mod reading;
+pub mod table;
 
 ghost use Rattle.std.specs.Prelude.{◌≡◌, ◌*◌, ◌≤◌, length};
 ghost use Rattle.arith.specs.Arrays.{padded};
@@ -17,14 +18,12 @@ pub fn rises(speeds: &[u32; 8], levels: usize) -> bool
     ensures { result ≡ rises_from 0 (loaded speeds.now levels) }
 {
     let mut last: u32 = 0;
-    let mut i: usize = 0;
-    while i < levels {
+    for i in 0..levels {
         let s = speeds[i];
         if s <= last {
             return false;
         }
         last = s;
-        i += 1;
     }
     last <= 1000
 }
@@ -43,11 +42,8 @@ pub(crate) fn speeds_in(block: &[u8], count: usize) -> [u32; 8]
     ensures { result ≡ padded 8 0 (list_to count (speed_at block.now)) }
 {
     let mut speeds = [0u32; 8];
-    let mut i: usize = 0;
-    while i < count {
-        let s = numeric::bits_at(block, 4 + 10 * i, 10);
-        speeds[i] = s;
-        i += 1;
+    for i in 0..count {
+        speeds[i] = numeric::bits_at(block, 4 + 10 * i, 10);
     }
     speeds
 }

@@ -1,17 +1,18 @@
 // Reading a level block: the questions 18, 19 and 20, and the table of speeds beside the answer.
-ghost use Rattle.std.specs.Prelude.{◌≡◌, ◌≤◌, length};
+ghost use Rattle.std.specs.Prelude.{◌≡◌, ◌≤◌, length, MatchResult};
 ghost use Rattle.plan.specs.LevelBlocks.{level_count_in, read_levels};
-ghost use Rattle.levels.specs.Reading.{unloaded_with};
+ghost use Rattle.levels.specs.Reading.{unloaded_with, LoadedFrom, RefusedFor};
 
+use crate::table::SpeedTable;
 use crate::{level_length, rises, speeds_in};
-use plan::{Board, Load};
+use plan::{Board, Refused};
 
 // A refusal, with a table that is zero throughout.
 fn unloaded(n: u32) -> Board
     ensures { result ≡ unloaded_with n }
 {
     Board {
-        answer: Load::Refused(n),
+        answer: Err(Refused { number: n }),
         speeds: [0u32; 8],
     }
 }
@@ -35,7 +36,7 @@ fn read_counted(block: &[u8], count: usize) -> Board
         return unloaded(20);
     }
     Board {
-        answer: Load::Levels(count),
+        answer: Ok(count),
         speeds,
     }
 }
@@ -55,4 +56,14 @@ pub fn read_levels(block: &[u8]) -> Board
         return unloaded(18);
     }
     read_counted(block, count)
+}
+
+// The table of a level block, or its refusal.
+pub fn table_of(block: &[u8]) -> Result<SpeedTable, Refused>
+    ensures { MatchResult result (λ t. LoadedFrom block.now t) (λ e. RefusedFor block.now e) }
+{
+    let board = read_levels(block);
+    let speeds = board.speeds;
+    let levels = board.answer?;
+    Ok(SpeedTable { speeds, levels })
 }

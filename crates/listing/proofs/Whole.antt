@@ -13,9 +13,8 @@ use lib.Seq.{sets-eq, length-sets, length-take-le}
 use Rattle.arith.specs.Choice.{pick}
 use Rattle.arith.specs.Asking.{number_of}
 use Rattle.plan.specs.declared.Judged.{Judged}
-use Rattle.plan.specs.declared.Verdict.{Verdict}
-use Rattle.plan.specs.declared.Verdict.TheVariants as verdict
-use Rattle.plan.specs.Answers.{verdict_answer, read_block}
+use Rattle.plan.specs.Answers.{Verdict, accepted_with, verdict_answer, read_block}
+use Rattle.plan.specs.Counted.{refused}
 use Rattle.transcript.specs.Listing.{plan_line, refused_line, level_cut, plan_cut, started_lines, judged_lines, read_lines, plan_listing, listing}
 use Rattle.text.specs.Stores.{Put}
 
@@ -76,16 +75,16 @@ module _ {levels input : List ℕ} {cut : ℕ} {j : Judged} (h : Read levels inp
       sym (ap (λ (x : Verdict). judged_lines levels (take cut input) x j.plan.count (drop cut input)) e) ∙ read_is
 
   pub refused_is :
-      {k n : ℕ} → k ≡ number_of (verdict_answer j.verdict) → j.verdict ≡ verdict.Refused n → refused_line k ≡ plan_listing levels input
+      {k n : ℕ} → k ≡ number_of (verdict_answer j.verdict) → j.verdict ≡ refused n → refused_line k ≡ plan_listing levels input
   refused_is {k} {n} a e =
-      ap (λ (x : ℕ). refused_line x) (a ∙ ap (λ (v : Verdict). number_of (verdict_answer v)) e) ∙ by_verdict (verdict.Refused n) e
+      ap (λ (x : ℕ). refused_line x) (a ∙ ap (λ (v : Verdict). number_of (verdict_answer v)) e) ∙ by_verdict (refused n) e
 
   pub admitted_is :
       {level span : ℕ} →
-      j.verdict ≡ verdict.Admitted level span →
+      j.verdict ≡ accepted_with level span →
       plan_line j.plan.count level span
       ++ started_lines levels (take cut input) (take (length input - cut) (drop cut input))
       ≡ plan_listing levels input
   admitted_is {level} {span} e =
       ap (λ (l : List ℕ). plan_line j.plan.count level span ++ started_lines levels (take cut input) l) (part_to_end input cut)
-      ∙ by_verdict (verdict.Admitted level span) e
+      ∙ by_verdict (accepted_with level span) e

@@ -12,16 +12,16 @@ ghost use Rattle.text.specs.Stores.{Put};
 
 use crate::cutting::{level_cut, plan_cut};
 use crate::run_lines::started_lines;
-use plan::Verdict;
+use plan::{Admission, Refused};
 use text::lines::{plan_line, refused_line};
 
 // The number of a refusal, 0 where there is none.
-fn refusal_of(v: Verdict) -> u32
+fn refusal_of(v: Result<Admission, Refused>) -> u32
     ensures { result ≡ number_of (verdict_answer v) }
 {
     match v {
-        Verdict::Refused(n) => n,
-        Verdict::Admitted { .. } => 0,
+        Err(e) => e.number,
+        Ok(_) => 0,
     }
 }
 
@@ -33,15 +33,11 @@ fn plan_listing(levels: &[u8], input: &[u8], out: &mut [u8]) -> usize
     let cut = plan_cut(input);
     let judged = plan_reading::read(levels, &input[..cut]);
     let verdict = judged.verdict;
-    let Verdict::Admitted {
-        nominal,
-        hyperperiod,
-    } = verdict
-    else {
+    let Ok(admission) = verdict else {
         return refused_line(out, 0, refusal_of(verdict));
     };
     let p = judged.plan;
-    let at = plan_line(out, 0, p.count, nominal, hyperperiod);
+    let at = plan_line(out, 0, p.count, admission.nominal, admission.hyperperiod);
     started_lines(levels, &input[..cut], &input[cut..], out, at)
 }
 

@@ -21,8 +21,7 @@ fn clock_after(clock: u32, d: u32, r: Reply) -> u32
     ensures upper_bound { result ≤ clock + d }
 {
     match r {
-        Reply::Run { .. } => clock + d,
-        Reply::Idle { .. } => clock + d,
+        Reply::Run { .. } | Reply::Idle { .. } => clock + d,
         Reply::Refused(_) => clock,
     }
 }
@@ -36,17 +35,15 @@ fn pass_lines(passes: &[u8], state: &mut [u8], out: &mut [u8], from: usize) -> u
 {
     let mut at = from;
     let mut clock: u32 = 0;
-    let mut i: usize = 0;
-    while i + 1 < passes.len() {
-        let high = numeric::wide(passes[i]);
-        let d = high % 128 * 256 + numeric::wide(passes[i + 1]);
+    let (pairs, odd) = passes.as_chunks::<2>();
+    for &[first, second] in pairs {
+        let high = u32::from(first);
+        let d = high % 128 * 256 + u32::from(second);
         let reply = pass(state, d, 128 <= high);
-        let after = clock_after(clock, d, reply);
-        at = reply_line(out, at, after, reply);
-        clock = after;
-        i += 2;
+        clock = clock_after(clock, d, reply);
+        at = reply_line(out, at, clock, reply);
     }
-    if i < passes.len() {
+    if !odd.is_empty() {
         return refused_line(out, at, 16);
     }
     at

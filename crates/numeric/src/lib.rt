@@ -41,23 +41,14 @@ pub fn lcm_of(a: u32, b: u32) -> u64
     (part as u64) * (b as u64)
 }
 
-// A byte as a wider number.
-pub fn wide(x: u8) -> u32
-    ensures { result ≡ x }
-{
-    x as u32
-}
-
 // The number that n bytes of a slice are, most significant first.
 pub fn get_number(s: &[u8], at: usize, n: usize) -> u32
     requires { (n ≤ 4) × (at + n ≤ length s.now) }
     ensures { result ≡ number 256 n (drop at s.now) }
 {
     let mut acc: u64 = 0;
-    let mut i: usize = 0;
-    while i < n {
-        acc = acc * 256 + (s[at + i] as u64);
-        i += 1;
+    for byte in &s[at..at + n] {
+        acc = acc * 256 + (*byte as u64);
     }
     acc as u32
 }
@@ -67,10 +58,8 @@ pub fn put_number(s: &mut [u8], at: usize, n: usize, x: u32)
     requires { (n ≤ 4) × (at + n ≤ length s.old) }
     ensures { s.new ≡ sets s.old at (digits 256 n x) }
 {
-    let mut i: usize = n;
     let mut rest: u32 = x;
-    while 0 < i {
-        i -= 1;
+    for i in (0..n).rev() {
         s[at + i] = (rest % 256) as u8;
         rest /= 256;
     }

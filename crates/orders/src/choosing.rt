@@ -1,6 +1,6 @@
 // Chooses an order, stores it and answers it.
 ghost use Rattle.std.specs.Prelude.{◌≡◌, ◌≤◌, length};
-ghost use Rattle.levels.specs.Code.{loaded, Table};
+ghost use Rattle.levels.specs.Held.{speeds_of};
 ghost use Rattle.reclaiming.specs.StateBlock.{task_field, level_field, state_length, state_count, encode, decode};
 ghost use Rattle.reclaiming.specs.Orders.{next_arrival};
 ghost use Rattle.state.specs.Code.{Holds, head_stored, timing_in};
@@ -8,6 +8,7 @@ ghost use Rattle.urgency.specs.Code.{Keyed};
 ghost use Rattle.orders.specs.Code.{chosen_in, chosen_reply, Enough};
 
 use crate::{Choice, chosen, hold_of, order_of};
+use levels::table::SpeedTable;
 use reclaiming::Reply;
 use state::{LEVEL_AT, LEVEL_WIDTH, PLACES, TASK_AT, TASK_WIDTH, clock_at, count_at};
 use urgency::next_arrival;
@@ -23,39 +24,32 @@ fn put_order(block: &mut [u8], c: Choice)
 
 // Chooses an order where the next arrival is so many ticks away, stores it, and answers it with its hold.
 pub fn choose_until(
-    speeds: &[u32; 8],
-    levels: usize,
+    table: &SpeedTable,
     block: &mut [u8],
     keys: &[u64; PLACES],
     highest: usize,
     next: u32,
 ) -> Reply
-    requires table { Table speeds.now levels × Holds block.old × (encode (decode block.old) ≡ block.old) }
-    requires enough { Enough (loaded speeds.now levels) (decode block.old) highest }
-    requires keyed { Keyed (timing_in (loaded speeds.now levels) block.old) (decode block.old).clock keys.now }
-    requires next_value { next ≡ next_arrival (timing_in (loaded speeds.now levels) block.old) (decode block.old).clock }
-    ensures value { result ≡ chosen_reply (loaded speeds.now levels) block.old }
-    ensures block_after { block.new ≡ encode (chosen_in (loaded speeds.now levels) block.old) }
+    requires holds { Holds block.old × (encode (decode block.old) ≡ block.old) }
+    requires enough { Enough (speeds_of table.now) (decode block.old) highest }
+    requires keyed { Keyed (timing_in (speeds_of table.now) block.old) (decode block.old).clock keys.now }
+    requires next_value { next ≡ next_arrival (timing_in (speeds_of table.now) block.old) (decode block.old).clock }
+    ensures value { result ≡ chosen_reply (speeds_of table.now) block.old }
+    ensures block_after { block.new ≡ encode (chosen_in (speeds_of table.now) block.old) }
 {
-    let c = chosen(speeds, levels, block, keys, count_at(block), highest, next);
+    let c = chosen(table, block, keys, count_at(block), highest, next);
     put_order(block, c);
     order_of(c, hold_of(c, next))
 }
 
 // The same where the next arrival is still to be found.
-pub fn choose(
-    speeds: &[u32; 8],
-    levels: usize,
-    block: &mut [u8],
-    keys: &[u64; PLACES],
-    highest: usize,
-) -> Reply
-    requires table { Table speeds.now levels × Holds block.old × (1 ≤ state_count block.old) × (encode (decode block.old) ≡ block.old) }
-    requires enough { Enough (loaded speeds.now levels) (decode block.old) highest }
-    requires keyed { Keyed (timing_in (loaded speeds.now levels) block.old) (decode block.old).clock keys.now }
-    ensures value { result ≡ chosen_reply (loaded speeds.now levels) block.old }
-    ensures block_after { block.new ≡ encode (chosen_in (loaded speeds.now levels) block.old) }
+pub fn choose(table: &SpeedTable, block: &mut [u8], keys: &[u64; PLACES], highest: usize) -> Reply
+    requires holds { Holds block.old × (1 ≤ state_count block.old) × (encode (decode block.old) ≡ block.old) }
+    requires enough { Enough (speeds_of table.now) (decode block.old) highest }
+    requires keyed { Keyed (timing_in (speeds_of table.now) block.old) (decode block.old).clock keys.now }
+    ensures value { result ≡ chosen_reply (speeds_of table.now) block.old }
+    ensures block_after { block.new ≡ encode (chosen_in (speeds_of table.now) block.old) }
 {
     let next = next_arrival(keys, count_at(block), clock_at(block));
-    choose_until(speeds, levels, block, keys, highest, next)
+    choose_until(table, block, keys, highest, next)
 }

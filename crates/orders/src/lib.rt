@@ -7,7 +7,7 @@ pub mod lone;
 ghost use Rattle.std.specs.Prelude.{◌≡◌, ◌<◌, ◌≤◌, max};
 ghost use Rattle.plan.specs.Times.{time_of};
 ghost use Rattle.plan.specs.Levels.{speed_of};
-ghost use Rattle.levels.specs.Code.{loaded, Table};
+ghost use Rattle.levels.specs.Held.{speeds_of};
 ghost use Rattle.reclaiming.specs.StateBlock.{state_count, decode, places};
 ghost use Rattle.reclaiming.specs.Orders.{next_arrival, lowest_level};
 ghost use Rattle.state.specs.Code.{Holds, timing_in};
@@ -15,6 +15,7 @@ ghost use Rattle.urgency.specs.Code.{Keyed};
 ghost use Rattle.orders.specs.Code.{choice_of, run_of, chosen_in, hold_by, order_of, Runnable, Enough};
 
 use crate::lone::allowance_until;
+use levels::table::SpeedTable;
 use plan::Rest;
 use reclaiming::Reply;
 use state::{LEVEL_AT, PLACES, TASK_AT, WORK_AT, WORK_WIDTH, floor_at, rest_at};
@@ -40,23 +41,16 @@ pub fn higher_of(nominal: usize, floor: usize) -> usize
 
 // The lowest level from a floor on at which what is left needs no more than is allowed: at which the ticks that are allowed are enough. At
 // the highest they are, and a faster level needs no more, so the levels from the one to the other are halved.
-fn level_for(
-    speeds: &[u32; 8],
-    levels: usize,
-    rest: Rest,
-    allowed: u32,
-    floor: usize,
-    highest: usize,
-) -> usize
-    requires table { Table speeds.now levels × (allowed ≤ 1048560) × (floor ≤ highest) × (highest < levels) }
-    requires rest_bound { time_of (speed_of (loaded speeds.now levels) highest) rest ≤ allowed }
-    ensures { (result ≡ lowest_level (loaded speeds.now levels) floor rest allowed) × (result ≤ highest) }
+fn level_for(table: &SpeedTable, rest: Rest, allowed: u32, floor: usize, highest: usize) -> usize
+    requires bounds { (allowed ≤ 1048560) × (floor ≤ highest) × (highest < table.now.levels) }
+    requires rest_bound { time_of (speed_of (speeds_of table.now) highest) rest ≤ allowed }
+    ensures { (result ≡ lowest_level (speeds_of table.now) floor rest allowed) × (result ≤ highest) }
 {
     let mut low: usize = floor;
     let mut high: usize = highest;
     while low < high {
         let middle = (low + high) / 2;
-        if times::is_enough(speeds[middle], rest, allowed) {
+        if times::is_enough(table.speeds[middle], rest, allowed) {
             high = middle;
         } else {
             low = middle + 1;
@@ -66,11 +60,11 @@ fn level_for(
 }
 
 // A run order of task i, with the time that is left of its job.
-fn running_order(speeds: &[u32; 8], levels: usize, i: usize, level: usize, rest: Rest) -> Choice
-    requires { Table speeds.now levels × (i < places) × (level < levels) × (rest.fixed < 256) × (rest.work < 16777216) }
-    ensures { result ≡ run_of (loaded speeds.now levels) i level rest }
+fn running_order(table: &SpeedTable, i: usize, level: usize, rest: Rest) -> Choice
+    requires { (i < places) × (level < table.now.levels) × (rest.fixed < 256) × (rest.work < 16777216) }
+    ensures { result ≡ run_of (speeds_of table.now) i level rest }
 {
-    let time = times::time_of(speeds[level], rest);
+    let time = times::time_of(table.speeds[level], rest);
     Choice {
         task: i as u32,
         level: level as u32,
@@ -80,19 +74,18 @@ fn running_order(speeds: &[u32; 8], levels: usize, i: usize, level: usize, rest:
 
 // The order that is chosen in a state, where a level is known at which every job can be done in time, and the ticks to the next arrival.
 pub(crate) fn chosen(
-    speeds: &[u32; 8],
-    levels: usize,
+    table: &SpeedTable,
     block: &[u8],
     keys: &[u64; PLACES],
     count: usize,
     highest: usize,
     next: u32,
 ) -> Choice
-    requires table { Table speeds.now levels × Holds block.now × (count ≡ state_count block.now) }
-    requires enough { Enough (loaded speeds.now levels) (decode block.now) highest }
-    requires keyed { Keyed (timing_in (loaded speeds.now levels) block.now) (decode block.now).clock keys.now }
-    requires next_value { next ≡ next_arrival (timing_in (loaded speeds.now levels) block.now) (decode block.now).clock }
-    ensures value { result ≡ choice_of (loaded speeds.now levels) (chosen_in (loaded speeds.now levels) block.now) }
+    requires holds { Holds block.now × (count ≡ state_count block.now) }
+    requires enough { Enough (speeds_of table.now) (decode block.now) highest }
+    requires keyed { Keyed (timing_in (speeds_of table.now) block.now) (decode block.now).clock keys.now }
+    requires next_value { next ≡ next_arrival (timing_in (speeds_of table.now) block.now) (decode block.now).clock }
+    ensures value { result ≡ choice_of (speeds_of table.now) (chosen_in (speeds_of table.now) block.now) }
     ensures task_bound { (result.task < 256) × (result.level < 256) }
 {
     let best = most_urgent(block, keys, count, WORK_AT, WORK_WIDTH);
@@ -108,14 +101,15 @@ pub(crate) fn chosen(
     let allowed = allowance_until(block, keys, count, best, next);
     let floor = floor_at(block, i);
     let top = higher_of(highest, floor);
-    let level = level_for(speeds, levels, rest, allowed, floor, top);
-    running_order(speeds, levels, i, level, rest)
+    let level = level_for(table, rest, allowed, floor, top);
+    running_order(table, i, level, rest)
 }
 
 // The order that stands in a state.
-pub fn standing(speeds: &[u32; 8], levels: usize, block: &[u8]) -> Choice
-    requires { Table speeds.now levels × Holds block.now × Runnable levels (decode block.now) }
-    ensures { result ≡ choice_of (loaded speeds.now levels) (decode block.now) }
+pub fn standing(table: &SpeedTable, block: &[u8]) -> Choice
+    requires holds { Holds block.now }
+    requires runnable { Runnable table.now.levels (decode block.now) }
+    ensures { result ≡ choice_of (speeds_of table.now) (decode block.now) }
 {
     let task = block[TASK_AT] as usize;
     let level = block[LEVEL_AT] as usize;
@@ -126,7 +120,7 @@ pub fn standing(speeds: &[u32; 8], levels: usize, block: &[u8]) -> Choice
             time: 0,
         };
     }
-    running_order(speeds, levels, task, level, rest_at(block, task))
+    running_order(table, task, level, rest_at(block, task))
 }
 
 // The hold of an order, where the next arrival is so many ticks away.

@@ -13,15 +13,13 @@ pub fn is_lone(block: &[u8], count: usize, i: usize) -> bool
     requires { (count ≤ places) × (length block.now ≡ state_length) }
     ensures { result ≡ not (other_in block.now count i) }
 {
-    let mut j: usize = 0;
-    while j < count {
+    for j in 0..count {
         let work = numeric::get_number(block, WORK_AT + ENTRY_LENGTH * j, WORK_WIDTH);
         if work != 0 {
             if j != i {
                 return false;
             }
         }
-        j += 1;
     }
     true
 }

@@ -30,10 +30,10 @@ fn each_good(p: Plan, pairs: &[u8]) -> bool
     requires { (p.count ≤ 16) × (every in_range (tasks_of p) ≡ true) × (length pairs.now % 2 ≡ 0) }
     ensures { result ≡ every (good_pair (tasks_of p)) (pairs_in pairs.now) }
 {
-    let mut k: usize = 0;
-    while k < pairs.len() {
-        let earlier = pairs[k] as usize;
-        let later = pairs[k + 1] as usize;
+    let (whole, _) = pairs.as_chunks::<2>();
+    for pair in whole {
+        let earlier = pair[0] as usize;
+        let later = pair[1] as usize;
         if p.count <= earlier {
             return false;
         }
@@ -45,7 +45,6 @@ fn each_good(p: Plan, pairs: &[u8]) -> bool
         if !periods_good(earlier, later, first.period, second.period) {
             return false;
         }
-        k += 2;
     }
     true
 }

@@ -2,7 +2,7 @@
 -- Assumes nothing.
 use Prim.Native.Nat.{ℕ, zero, suc}
 use mathlib.Core.Path.{◌≡◌, refl, sym, ap, subst, ◌∙◌}
-use mathlib.Core.Bool.{Bool, true, false}
+use mathlib.Core.Bool.{Bool, true}
 use mathlib.Core.List.{List, ◌++◌, append-nil}
 use lib.ListN.{length, drop}
 use lib.Seq.{drop-length}
@@ -10,7 +10,6 @@ use Rattle.arith.specs.Choice.{pick, both}
 use Rattle.arith.specs.Asking.{first_no}
 use Rattle.plan.specs.Answers.{stored_by}
 use Rattle.orders.specs.declared.Choice.{Choice}
-use Rattle.soundness.specs.declared.Tested.{Tested}
 use Rattle.reclaiming.specs.declared.Reply.{Reply}
 use Rattle.reclaiming.specs.declared.Reply.TheVariants as reply
 use Rattle.reclaiming.specs.Allotments.{timing}
@@ -22,12 +21,8 @@ use Rattle.reclaiming.specs.Questions.{sound_at}
 use Rattle.reclaiming.specs.Calls.{pass_number, pass_order, pass_reply, pass_bytes}
 use Rattle.state.specs.Code.{timing_in}
 use Rattle.levels.specs.Code.{loaded}
-use Rattle.state.specs.declared.tables.OwnTable.{OwnTable}
-use Rattle.state.specs.Tables.{own_table, table_by, Owns}
-use Rattle.state.proofs.tables.TableLaws.{unowned}
-use Rattle.soundness.specs.Code.{tested_by}
+use Rattle.state.specs.Tables.{Owns}
 use Rattle.reclaiming.proofs.StateCodec.{length-encode}
-use Rattle.soundness.proofs.SoundLaws.{tested_sound}
 use Rattle.soundness.proofs.SoundFacts.{sound_size}
 use Rattle.passing.proofs.accepted.StepLaws.{Passing, letting, passed_few}
 
@@ -49,9 +44,6 @@ stored_all bytes buffer e =
 module _ (speeds bytes : List ℕ) (d : ℕ) (finished : Bool) where
   abbrev numbered : Bool → ℕ
   numbered b = pick b (first_no (pass_questions speeds (timing speeds (plan_in (decode bytes))) (view_of (decode bytes)) d finished)) 10
-
-  pub number_10 : (r : Tested) → r ≡ tested_by speeds (sound_at speeds bytes) bytes → r.sound ≡ false → 10 ≡ numbered (sound_at speeds bytes)
-  number_10 r e u = ap numbered (sym u ∙ tested_sound speeds bytes r e)
 
   pub number_is :
       sound_at speeds bytes ≡ true →
@@ -116,17 +108,4 @@ over_own {bytes} {held} {levels} k d finished r m h =
     sym (ap (λ (t : Bool). numbered speeds bytes d finished (both t (sound_at speeds bytes))) k.good) in (
       own.0 ∙ ap (λ (n : ℕ). replied_by n (pass_order speeds (decode bytes) d finished)) same,
       own.1 ∙ ap (λ (n : ℕ). stored_by n (after speeds bytes d finished) bytes) same,
-    )
-
--- a block without a table is answered with 10
-pub no_table :
-    (bytes : List ℕ) (d : ℕ) (finished : Bool) {t : OwnTable} →
-    t ≡ table_by (own_table bytes) bytes →
-    t.levels ≡ 0 →
-    Answers bytes d finished (reply.Refused 10) bytes
-no_table bytes d finished e none =
-    let speeds : List ℕ = (decode bytes).speeds in
-    let ten : 10 ≡ pass_number bytes d finished = sym (ap (numbered speeds bytes d finished) (unowned bytes e none)) in (
-      ap (λ (n : ℕ). replied_by n (pass_order speeds (decode bytes) d finished)) ten,
-      ap (λ (n : ℕ). stored_by n (after speeds bytes d finished) bytes) ten,
     )

@@ -1,8 +1,12 @@
 -- What the code asks of a pass: of the clock, the order that stands and the ticks to the next arrival.
 -- Assumes nothing.
-use Rattle.std.specs.Prelude.{ℕ, ◌+◌, Bool, true, not, List, [], ◌∷◌, ◌++◌, leb, ltb, eqb}
+use Rattle.std.specs.Prelude.{ℕ, zero, suc, ◌+◌, Bool, true, not, List, [], ◌∷◌, ◌++◌, leb, ltb, eqb}
+use Rattle.std.specs.declared.result.Result.{Result}
+use Rattle.std.specs.declared.result.Result.TheVariants.{Ok}
 use Rattle.arith.specs.Choice.{pick}
 use Rattle.arith.specs.Asking.{Question, ask}
+use Rattle.plan.specs.declared.Refused.{Refused}
+use Rattle.plan.specs.Counted.{refused}
 use Rattle.reclaiming.specs.Passes.{largest_clock}
 use Rattle.orders.specs.declared.Choice.{Choice}
 
@@ -21,3 +25,8 @@ finish_questions c d finished =
 abbrev pub time_questions : ℕ → Choice → ℕ → ℕ → Bool → List Question
 time_questions clock c next d finished =
     ask 11 (leb 1 d) ∷ ask 12 (leb d next) ∷ (finish_questions c d finished ++ (ask 15 (leb (clock + d) largest_clock) ∷ []))
+
+-- what is answered by the number of the first no, 0 where there is none
+abbrev pub asked_by : ℕ → Result (Unit {0}) Refused
+asked_by zero = Ok tt
+asked_by (suc n) = refused (suc n)

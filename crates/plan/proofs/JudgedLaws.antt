@@ -5,25 +5,31 @@ use mathlib.Core.Path.{◌≡◌, sym, ap, ◌∙◌}
 use mathlib.Core.List.{List}
 use Rattle.plan.specs.declared.Task.{Task}
 use Rattle.plan.specs.declared.Judged.{Judged}
-use Rattle.plan.specs.declared.Verdict.TheVariants as verdict
+use Rattle.plan.specs.Answers.{Verdict, accepted_with, answered, beside, judged_by}
+use Rattle.std.specs.declared.result.Result.TheVariants.{Ok, Err}
+use Rattle.plan.specs.Counted.{refused}
 use Rattle.plan.specs.Levels.{nominal}
 use Rattle.plan.specs.Blocks.{tasks_of, plan_of}
-use Rattle.plan.specs.Answers.{answered, beside, judged_by}
 use Rattle.plan.proofs.RoundTrip.{tasks_of-plan_of}
 use Rattle.plan.proofs.AnswerLaws.{Refusal, told_refused, told_admitted}
 
 pub judged_refused :
     (speeds : List ℕ) (number : ℕ) (ts : List Task) {j : Judged} {n : ℕ} →
     j ≡ judged_by number speeds ts →
-    j.verdict ≡ verdict.Refused n →
+    j.verdict ≡ refused n →
     Refusal number n
 judged_refused speeds number ts {j} {n} is told =
     let t = told_refused speeds ts j.verdict number n (ap (λ (x : Judged). x.verdict) is) told in
     record { positive = t.0; is = t.1 }
 
+-- the level that a verdict tells, 0 beside a refusal
+abbrev pub level_told : Verdict → ℕ
+level_told (Ok a) = a.nominal
+level_told (Err e) = 0
+
 pub record Admitted (speeds : List ℕ) (number : ℕ) (ts : List Task) (j : Judged) (level span : ℕ) : Type 0 where
   pub judged : j ≡ judged_by number speeds ts
-  pub told : j.verdict ≡ verdict.Admitted level span
+  pub told : j.verdict ≡ accepted_with level span
 
 module _ {speeds : List ℕ} {number : ℕ} {ts : List Task} {j : Judged} {level span : ℕ} (k : Admitted speeds number ts j level span) where
   verdict_is : j.verdict ≡ answered number speeds ts
@@ -40,6 +46,6 @@ module _ {speeds : List ℕ} {number : ℕ} {ts : List Task} {j : Judged} {level
 
   pub level_is : level ≡ nominal speeds ts
   level_is =
-      let v : verdict.Admitted level span ≡ answered 0 speeds ts =
+      let v : accepted_with level span ≡ answered 0 speeds ts =
       sym k.told ∙ verdict_is ∙ ap (λ (n : ℕ). answered n speeds ts) none_answered_no in
-      cc
+      ap level_told v

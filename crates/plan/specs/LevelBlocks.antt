@@ -7,10 +7,10 @@ use Rattle.arith.specs.Digits.{number, digits}
 use Rattle.arith.specs.Bits.{fields_bits, unpacked, packed}
 use Rattle.arith.specs.Arrays.{padded}
 use Rattle.arith.specs.Ranges.{list_to}
-use Rattle.arith.specs.Asking.{Question, ask, first_no, within, Answer, values, refusal}
-use Rattle.plan.specs.declared.Load.{Load}
-use Rattle.plan.specs.declared.Load.TheVariants as load
+use Rattle.arith.specs.Asking.{Question, ask, first_no, within}
 use Rattle.plan.specs.declared.Board.{Board}
+use Rattle.std.specs.declared.result.Result.TheVariants.{Ok}
+use Rattle.plan.specs.Counted.{refused}
 
 -- the block of a table of speeds: 02: "4 bits of count (1 to 8), then 10 bits for each speed, [..] then zero bits to a whole byte"
 abbrev pub level_bits : List ℕ → List ℕ
@@ -56,15 +56,10 @@ loading block =
     ∷ ask 20 (rises_from 0 (speeds_in block))
     ∷ []
 
--- 02's number and values of each case of the answer: the count of levels
-abbrev pub load_answer : Load → Answer
-load_answer (load.Levels count) = values (count ∷ [])
-load_answer (load.Refused n) = refusal n
-
 -- a level block read: the count of its levels beside their speeds, "unused ones zero"; beside a refusal all are zero
 abbrev pub board_by : ℕ → List ℕ → Board
-board_by zero speeds = record { answer = load.Levels (length speeds); speeds = padded 8 0 speeds }
-board_by (suc n) speeds = record { answer = load.Refused (suc n); speeds = padded 8 0 [] }
+board_by zero speeds = record { answer = Ok (length speeds); speeds = padded 8 0 speeds }
+board_by (suc n) speeds = record { answer = refused (suc n); speeds = padded 8 0 [] }
 
 abbrev pub read_levels : List ℕ → Board
 read_levels block = board_by (first_no (loading block)) (speeds_in block)

@@ -1,3 +1,4 @@
+pub mod Counted
 pub mod Times
 pub mod Levels
 pub mod LevelBlocks

@@ -1,14 +1,13 @@
 -- 02, No. 5, "Angle before valve": the list of pairs that comes with a plan, byte by byte, its question, and what asking it answers.
 -- Assumes nothing.
-use Rattle.std.specs.Prelude.{ℕ, zero, suc, ◌%◌, Bool, true, List, [], ◌∷◌, ◌++◌, leb, ltb, eqb, length, get_or}
+use Rattle.std.specs.Prelude.{ℕ, ◌%◌, Bool, true, List, [], ◌∷◌, ◌++◌, leb, ltb, eqb, length, get_or}
 use Rattle.arith.specs.Choice.{pick, both, every}
-use Rattle.arith.specs.Asking.{Question, ask, first_no, Answer, values, refusal}
+use Rattle.arith.specs.Asking.{Question, ask, first_no}
 use Rattle.plan.specs.declared.Task.{Task}
-use Rattle.plan.specs.declared.Paired.{Paired}
-use Rattle.plan.specs.declared.Paired.TheVariants as paired
 use Rattle.plan.specs.LevelBlocks.{loading, speeds_in}
 use Rattle.plan.specs.Blocks.{no_task, tasks_in}
 use Rattle.plan.specs.Questions.{reading}
+use Rattle.plan.specs.Counted.{Counted, counted_by}
 
 -- 02: "one task reads what another wrote": two task numbers
 pub record Pair : Type 0 where
@@ -47,18 +46,12 @@ pairs_question ts pairs = ask 22 (pairs_good ts pairs)
 abbrev pub paired_reading : List ℕ → List ℕ → List ℕ → List Question
 paired_reading speeds block pairs = reading speeds block ++ (pairs_question (tasks_in block) pairs ∷ [])
 
--- 02's number and values of each case of the answer: the count of pairs
-abbrev pub paired_answer : Paired → Answer
-paired_answer (paired.Pairs count) = values (count ∷ [])
-paired_answer (paired.Refused n) = refusal n
-
 -- whether a list is good for a plan: the questions of starting up to 22, and the count of its pairs
-abbrev pub paired_by : ℕ → List Pair → Paired
-paired_by zero ps = paired.Pairs (length ps)
-paired_by (suc n) ps = paired.Refused (suc n)
+abbrev pub paired_by : ℕ → List Pair → Counted
+paired_by n ps = counted_by n (length ps)
 
 abbrev pub pair_number : List ℕ → List ℕ → List ℕ → ℕ
 pair_number levels block pairs = first_no (loading levels ++ paired_reading (speeds_in levels) block pairs)
 
-abbrev pub ask_pairs : List ℕ → List ℕ → List ℕ → Paired
+abbrev pub ask_pairs : List ℕ → List ℕ → List ℕ → Counted
 ask_pairs levels block pairs = paired_by (pair_number levels block pairs) (pairs_in pairs)

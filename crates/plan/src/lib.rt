@@ -26,43 +26,29 @@ pub struct Plan {
     pub tasks: [Task; 16],
 }
 
-// What reading a level block answers: the count of levels, or a refusal's number.
-#[derive(Clone, Copy)]
-pub enum Load {
-    Levels(usize),
-    Refused(u32),
+// A refusal: the number of the question that decided.
+#[derive(Clone, Copy, Debug, PartialEq, Eq)]
+pub struct Refused {
+    pub number: u32,
 }
 
-// The answer, beside the speeds of the levels; past their count, and beside a refusal, they are zero.
+// What reading a level block answers: the count of levels, beside their speeds; past their count, and beside a refusal, they are zero.
 #[derive(Clone, Copy)]
 pub struct Board {
-    pub answer: Load,
+    pub answer: Result<usize, Refused>,
     pub speeds: [u32; 8],
 }
 
-// What judging and reading answer: the nominal level and the hyperperiod, or a refusal's number.
-#[derive(Clone, Copy)]
-pub enum Verdict {
-    Admitted { nominal: usize, hyperperiod: u32 },
-    Refused(u32),
+// What is told of a plan that is admitted: its nominal level and its hyperperiod.
+#[derive(Clone, Copy, Debug, PartialEq, Eq)]
+pub struct Admission {
+    pub nominal: usize,
+    pub hyperperiod: u32,
 }
 
+// What judging and reading answer, with the plan beside it.
 #[derive(Clone, Copy)]
 pub struct Judged {
-    pub verdict: Verdict,
+    pub verdict: Result<Admission, Refused>,
     pub plan: Plan,
-}
-
-// What writing answers: the count of bytes written, or a refusal's number.
-#[derive(Clone, Copy)]
-pub enum Written {
-    Bytes(usize),
-    Refused(u32),
-}
-
-// What asking about a list of pairs answers: the count of pairs, or a refusal's number.
-#[derive(Clone, Copy)]
-pub enum Paired {
-    Pairs(usize),
-    Refused(u32),
 }

@@ -7,32 +7,31 @@ use native.Mathlib.Omega.{arith}
 use lib.ListN.{length, length-take}
 use Rattle.plan.specs.declared.Plan.{Plan}
 use Rattle.plan.specs.declared.Judged.{Judged}
-use Rattle.plan.specs.declared.Written.{Written}
 use Rattle.plan.specs.declared.Board.{Board}
-use Rattle.plan.specs.declared.Paired.{Paired}
 use Rattle.plan.specs.LevelBlocks.{speeds_in, loading, board_by, read_levels}
 use Rattle.plan.specs.Blocks.{tasks_of, tasks_in, edition_in, count_in, edition_of, plan_block}
 use Rattle.plan.specs.Questions.{judging, reading, writing, room_question}
 use Rattle.arith.specs.Asking.{Question, first_no}
 use Rattle.plan.specs.Answers.{read_block, write_number, written_by, write_plan, copy_number}
 use Rattle.plan.specs.Pairs.{pairs_in, pairs_question, pair_number, ask_pairs}
-use Rattle.plan.specs.Numbers.{load_number, verdict_number, written_number, paired_number}
+use Rattle.plan.specs.Numbers.{verdict_number}
 use Rattle.plan.proofs.LevelBlockLaws.{loaded_table}
-use Rattle.plan.proofs.NumberLaws.{written_most, paired_most}
+use Rattle.plan.proofs.NumberLaws.{counted_most}
 use Rattle.plan.proofs.Facts.{FineList, FineBlock, fine_list, fine_block}
 use Rattle.plan.proofs.PairLaws.{pairs_few}
 use Rattle.plan.proofs.BlockBits.{length-plan_block, block_length_most}
 use Rattle.plan_calls.proofs.judged.Verdicts.{entered_most}
 use Rattle.arith.proofs.QuestionLaws.{first_no_most, yes_of, yes_after, all_yes}
+use Rattle.plan.specs.Counted.{Counted, counted_number}
 
 -- what reading a level block answers fits: a refusal's number is small, and so is a count of levels
-board_most : (n : ℕ) (speeds : List ℕ) → n ≤ 255 → (n ≡ 0 → length speeds ≤ 8) → load_number (board_by n speeds).answer < 2 ^ 36
+board_most : (n : ℕ) (speeds : List ℕ) → n ≤ 255 → (n ≡ 0 → length speeds ≤ 8) → counted_number (board_by n speeds).answer < 2 ^ 36
 board_most zero speeds h f = omega (arith, f refl)
 board_most (suc n) speeds h f = omega arith
 
-pub load_most : (levels : List ℕ) {b : Board} → b ≡ read_levels levels → load_number b.answer < 2 ^ 36
+pub load_most : (levels : List ℕ) {b : Board} → b ≡ read_levels levels → counted_number b.answer < 2 ^ 36
 load_most levels e =
-    subst (λ (x : Board). load_number x.answer < 2 ^ 36) (sym e)
+    subst (λ (x : Board). counted_number x.answer < 2 ^ 36) (sym e)
     (board_most (first_no (loading levels)) (speeds_in levels) (first_no_most 255 (loading levels) refl) (λ z. (loaded_table levels z).few))
 
 -- and so does a verdict on a block that is read
@@ -44,10 +43,10 @@ module _ (levels : List ℕ) where
       (λ z. (fine_block (speeds_in levels) block z).tasks)
 
   -- and what is answered about pairs, of which a good list has at most 16
-  pub pairs_most : (block pairs : List ℕ) {p : Paired} → p ≡ ask_pairs levels block pairs → paired_number p < 2 ^ 36
+  pub pairs_most : (block pairs : List ℕ) {p : Counted} → p ≡ ask_pairs levels block pairs → counted_number p < 2 ^ 36
   pairs_most block pairs e =
-      subst (λ (x : Paired). paired_number x < 2 ^ 36) (sym e)
-      (paired_most (pair_number levels block pairs) (pairs_in pairs) (first_no_most 255 (loading levels ++ (asked ++ last)) refl) few)
+      subst (λ (x : Counted). counted_number x < 2 ^ 36) (sym e)
+      (counted_most (pair_number levels block pairs) (length (pairs_in pairs)) (first_no_most 255 (loading levels ++ (asked ++ last)) refl) few)
     where
       asked : List Question
       asked = reading (speeds_in levels) block
@@ -61,10 +60,10 @@ module _ (levels : List ℕ) where
           omega (arith, pairs_few (tasks_in block) pairs good)
 
   -- and what writing answers
-  pub wrote_most : (p : Plan) (room : ℕ) {w : Written} → w ≡ write_plan levels p room → written_number w < 2 ^ 36
+  pub wrote_most : (p : Plan) (room : ℕ) {w : Counted} → w ≡ write_plan levels p room → counted_number w < 2 ^ 36
   wrote_most p room e =
-      subst (λ (x : Written). written_number x < 2 ^ 36) (sym e)
-      (written_most (write_number levels p room) (plan_block (tasks_of p)) (first_no_most 255 (loading levels ++ writing (speeds_in levels) p room) refl) long)
+      subst (λ (x : Counted). counted_number x < 2 ^ 36) (sym e)
+      (counted_most (write_number levels p room) (length (plan_block (tasks_of p))) (first_no_most 255 (loading levels ++ writing (speeds_in levels) p room) refl) long)
     where
       asked : List Question
       asked = judging (speeds_in levels) p.count (tasks_of p)
@@ -80,12 +79,12 @@ module _ (levels : List ℕ) where
           omega (arith, length-plan_block (tasks_of p), block_length_most (edition_of (tasks_of p)) (length (tasks_of p)) n)
 
   pub copy_most :
-      (block : List ℕ) (room : ℕ) {w : Written} →
+      (block : List ℕ) (room : ℕ) {w : Counted} →
       w ≡ written_by (copy_number levels block room) block →
-      written_number w < 2 ^ 36
+      counted_number w < 2 ^ 36
   copy_most block room e =
-      subst (λ (x : Written). written_number x < 2 ^ 36) (sym e)
-      (written_most (copy_number levels block room) block (first_no_most 255 (loading levels ++ (asked ++ rest)) refl) long)
+      subst (λ (x : Counted). counted_number x < 2 ^ 36) (sym e)
+      (counted_most (copy_number levels block room) (length block) (first_no_most 255 (loading levels ++ (asked ++ rest)) refl) long)
     where
       asked : List Question
       asked = reading (speeds_in levels) block

@@ -9,11 +9,12 @@ ghost use Rattle.std.specs.Prelude.{◌≡◌, length};
 ghost use Rattle.plan.specs.LevelBlocks.{read_levels};
 ghost use Rattle.plan.specs.Pairs.{ask_pairs};
 ghost use Rattle.plan.specs.Answers.{judged_plan, read_block, write_plan, write_buffer, written_by, stored_by, copy_number};
-ghost use Rattle.plan.specs.Numbers.{plan_from, load_number, verdict_number, written_number, paired_number};
+ghost use Rattle.plan.specs.Counted.{counted_number};
+ghost use Rattle.plan.specs.Numbers.{plan_from, verdict_number};
 
 use crate::judged::judged_number;
 use crate::numbers::plan_from;
-use answers::{load_number, paired_number, verdict_number, written_number};
+use answers::{counted_number, verdict_number};
 use levels::reading::read_levels;
 use pairs::reading::ask_pairs;
 use plan_reading::read;
@@ -22,11 +23,10 @@ use plan_writing::write;
 
 // Reads a level block: 18 to 20 is a refusal's number; else the count of levels stands from bit 8 on.
 pub fn kilmstra_levels_read(levels: &[u8]) -> u64
-    ensures { result ≡ load_number (read_levels levels.now).answer }
+    ensures { result ≡ counted_number (read_levels levels.now).answer }
 {
     let board = read_levels(levels);
-    let answer = board.answer;
-    load_number(answer)
+    counted_number(board.answer)
 }
 
 // Judges a plan over a level block: a number below 256 is a refusal's; else the level stands from bit 8 on and the hyperperiod from
@@ -51,27 +51,27 @@ pub fn kilmstra_plan_read(levels: &[u8], block: &[u8]) -> u64
 // Asks whether a list of pairs is good for a plan's block over a level block: 18 to 20, 1 to 8, 21, 22 or 24 is a refusal's number; else the
 // count of pairs stands from bit 8 on.
 pub fn kilmstra_pairs(levels: &[u8], block: &[u8], pairs: &[u8]) -> u64
-    ensures { result ≡ paired_number (ask_pairs levels.now block.now pairs.now) }
+    ensures { result ≡ counted_number (ask_pairs levels.now block.now pairs.now) }
 {
     let p = ask_pairs(levels, block, pairs);
-    paired_number(p)
+    counted_number(p)
 }
 
 // Writes a plan's block, judged over a level block: a number below 256 is a refusal's; else the count of bytes stands from bit 8 on.
 pub fn kilmstra_plan_write(levels: &[u8], count: usize, numbers: &[u32], buffer: &mut [u8]) -> u64
-    ensures value { result ≡ written_number
+    ensures value { result ≡ counted_number
         (write_plan levels.now (plan_from count numbers.now) (length buffer.old)) }
     ensures buffer_after { buffer.new ≡
         write_buffer levels.now (plan_from count numbers.now) buffer.old }
 {
     let p = plan_from(count, numbers);
     let w = write(levels, p, buffer);
-    written_number(w)
+    counted_number(w)
 }
 
 // Reads a block over a level block and writes it again, with an answer as writing has.
 pub fn kilmstra_plan_copy(levels: &[u8], block: &[u8], buffer: &mut [u8]) -> u64
-    ensures value { result ≡ written_number (written_by
+    ensures value { result ≡ counted_number (written_by
         (copy_number levels.now block.now (length buffer.old))
         block.now) }
     ensures buffer_after { buffer.new ≡ stored_by
@@ -79,5 +79,5 @@ pub fn kilmstra_plan_copy(levels: &[u8], block: &[u8], buffer: &mut [u8]) -> u64
         block.now buffer.old }
 {
     let w = copy(levels, block, buffer);
-    written_number(w)
+    counted_number(w)
 }

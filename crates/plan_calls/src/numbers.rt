@@ -9,10 +9,7 @@ use plan::{Plan, Task};
 fn number_at(numbers: &[u32], k: usize) -> u32
     ensures { result ≡ get_or numbers.now k 0 }
 {
-    if k < numbers.len() {
-        return numbers[k];
-    }
-    0
+    numbers.get(k).copied().unwrap_or(0)
 }
 
 // A plan from plain numbers: for each task its period, then its worst case, then its fixed ticks, then its floor; numbers that are not
@@ -22,20 +19,17 @@ pub fn plan_from(count: usize, numbers: &[u32]) -> Plan
 {
     let mut p = empty_plan();
     p.count = count;
-    let mut i: usize = 0;
-    while i < 16 {
+    for i in 0..16 {
         let period = number_at(numbers, 4 * i);
         let worst = number_at(numbers, 4 * i + 1);
         let fixed = number_at(numbers, 4 * i + 2);
         let floor = number_at(numbers, 4 * i + 3);
-        let t = Task {
+        p.tasks[i] = Task {
             period,
             worst,
             fixed,
             floor,
         };
-        p.tasks[i] = t;
-        i += 1;
     }
     p
 }

@@ -5,14 +5,15 @@ ghost use Rattle.std.specs.Prelude.{◌≡◌, length};
 ghost use Rattle.plan.specs.LevelBlocks.{read_levels};
 ghost use Rattle.plan.specs.Pairs.{ask_pairs};
 ghost use Rattle.plan.specs.Answers.{judged_plan, judged_list, read_block, write_plan, write_buffer, written_by, stored_by, copy_number};
-ghost use Rattle.plan.specs.Numbers.{plan_from, load_number, verdict_number, written_number, paired_number};
+ghost use Rattle.plan.specs.Counted.{counted_number};
+ghost use Rattle.plan.specs.Numbers.{plan_from, verdict_number};
 
 use plan::Task;
 
 // Reads a level block: 18 to 20 is a refusal's number; else the count of levels stands from bit 8 on.
 #[unsafe(no_mangle)]
 pub extern "C" fn kilmstra_levels_read(levels: &[u8]) -> u64
-    ensures { result ≡ load_number (read_levels levels.now).answer }
+    ensures { result ≡ counted_number (read_levels levels.now).answer }
 {
     plan_calls::kilmstra_levels_read(levels)
 }
@@ -48,7 +49,7 @@ pub extern "C" fn kilmstra_plan_read(levels: &[u8], block: &[u8]) -> u64
 // count of pairs stands from bit 8 on.
 #[unsafe(no_mangle)]
 pub extern "C" fn kilmstra_pairs(levels: &[u8], block: &[u8], pairs: &[u8]) -> u64
-    ensures { result ≡ paired_number (ask_pairs levels.now block.now pairs.now) }
+    ensures { result ≡ counted_number (ask_pairs levels.now block.now pairs.now) }
 {
     plan_calls::kilmstra_pairs(levels, block, pairs)
 }
@@ -61,7 +62,7 @@ pub extern "C" fn kilmstra_plan_write(
     numbers: &[u32],
     buffer: &mut [u8],
 ) -> u64
-    ensures value { result ≡ written_number
+    ensures value { result ≡ counted_number
         (write_plan levels.now (plan_from count numbers.now) (length buffer.old)) }
     ensures buffer_after { buffer.new ≡
         write_buffer levels.now (plan_from count numbers.now) buffer.old }
@@ -72,7 +73,7 @@ pub extern "C" fn kilmstra_plan_write(
 // Reads a block over a level block and writes it again, with an answer as writing has.
 #[unsafe(no_mangle)]
 pub extern "C" fn kilmstra_plan_copy(levels: &[u8], block: &[u8], buffer: &mut [u8]) -> u64
-    ensures value { result ≡ written_number (written_by
+    ensures value { result ≡ counted_number (written_by
         (copy_number levels.now block.now (length buffer.old))
         block.now) }
     ensures buffer_after { buffer.new ≡ stored_by

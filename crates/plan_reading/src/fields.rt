@@ -62,11 +62,8 @@ pub(crate) fn plan_in(block: &[u8], edition: u32, count: usize) -> Plan
 {
     let mut q = empty_plan();
     q.count = count;
-    let mut i: usize = 0;
-    while i < count {
-        let t = task_in(block, edition, i);
-        q.tasks[i] = t;
-        i += 1;
+    for i in 0..count {
+        q.tasks[i] = task_in(block, edition, i);
     }
     q
 }
@@ -76,19 +73,13 @@ pub fn edition_of(p: Plan) -> u32
     requires { p.count ≤ 16 }
     ensures { result ≡ edition_of (tasks_of p) }
 {
-    let count = p.count;
-    let mut i: usize = 0;
-    while i < count {
-        let t = p.tasks[i];
-        if t.fixed != 0 {
-            return 2;
-        }
-        if t.floor != 0 {
-            return 2;
-        }
-        i += 1;
+    if p.tasks[..p.count]
+        .iter()
+        .all(|t| t.fixed == 0 && t.floor == 0)
+    {
+        return 1;
     }
-    1
+    2
 }
 
 // How many bytes the block of so many tasks has.

@@ -8,13 +8,14 @@ ghost use Rattle.arith.specs.Asking.{ask, first_no};
 ghost use Rattle.plan.specs.Blocks.{block_length, edition_in, count_in, tasks_in, tasks_of};
 ghost use Rattle.plan.specs.Questions.{range_question, reading};
 ghost use Rattle.plan.specs.Answers.{judged_by, read_block};
-ghost use Rattle.levels.specs.Code.{loaded, Table};
+ghost use Rattle.levels.specs.Held.{speeds_of};
 
 use crate::fields::{bit_count, block_length, edition_of, plan_in};
 use judging::ranges::in_range;
 use judging::verdicts::{judged_with, refused};
-use levels::reading::read_levels;
-use plan::{Judged, Load, Plan};
+use levels::reading::table_of;
+use levels::table::SpeedTable;
+use plan::{Judged, Plan};
 
 // The number that a block is refused with which names another edition than its plan is written in: 6 is asked before 21.
 fn misnamed(p: Plan) -> u32
@@ -28,19 +29,12 @@ fn misnamed(p: Plan) -> u32
 }
 
 // Questions 5, 6, 21, 24, 7 and 8, of a block of which 1 to 4 are answered yes.
-fn read_counted(
-    speeds: &[u32; 8],
-    levels: usize,
-    block: &[u8],
-    edition: u32,
-    count: usize,
-) -> Judged
-    requires table { Table speeds.now levels }
+fn read_counted(table: &SpeedTable, block: &[u8], edition: u32, count: usize) -> Judged
     requires edition_value { (edition ≡ edition_in block.now) × (1 ≤ edition) × (edition ≤ 2) × (count ≡ count_in block.now) }
     requires le_count { (1 ≤ count) × (count ≤ 16) × (length block.now ≡ block_length edition count) }
     ensures { result ≡ judged_by
-        (first_no (reading (loaded speeds.now levels) block.now))
-        (loaded speeds.now levels) (tasks_in block.now) }
+        (first_no (reading (speeds_of table.now) block.now))
+        (speeds_of table.now) (tasks_in block.now) }
 {
     let used = bit_count(edition, count);
     let closing = numeric::bits_at(block, used, 8 * block.len() - used);
@@ -51,15 +45,14 @@ fn read_counted(
     if edition_of(p) != edition {
         return refused(misnamed(p));
     }
-    judged_with(speeds, levels, p)
+    judged_with(table, p)
 }
 
 // A block read over a table of speeds: the questions 1 to 6, 21, 24, 7 and 8.
-pub fn read_over(speeds: &[u32; 8], levels: usize, block: &[u8]) -> Judged
-    requires { Table speeds.now levels }
+pub fn read_over(table: &SpeedTable, block: &[u8]) -> Judged
     ensures { result ≡ judged_by
-        (first_no (reading (loaded speeds.now levels) block.now))
-        (loaded speeds.now levels) (tasks_in block.now) }
+        (first_no (reading (speeds_of table.now) block.now))
+        (speeds_of table.now) (tasks_in block.now) }
 {
     if block.len() < 2 {
         return refused(1);
@@ -81,18 +74,15 @@ pub fn read_over(speeds: &[u32; 8], levels: usize, block: &[u8]) -> Judged
     if block.len() != block_length(edition, count) {
         return refused(4);
     }
-    read_counted(speeds, levels, block, edition, count)
+    read_counted(table, block, edition, count)
 }
 
 // A block read over a level block: the questions put to that, then those of `read_over`.
 pub fn read(levels: &[u8], block: &[u8]) -> Judged
     ensures { result ≡ read_block levels.now block.now }
 {
-    let board = read_levels(levels);
-    let answer = board.answer;
-    let speeds = board.speeds;
-    match answer {
-        Load::Refused(n) => refused(n),
-        Load::Levels(count) => read_over(&speeds, count, block),
+    match table_of(levels) {
+        Err(e) => refused(e.number),
+        Ok(table) => read_over(&table, block),
     }
 }

@@ -7,20 +7,18 @@ use native.Mathlib.Omega.{arith}
 use borrow.Author.Tests.{le-leb, lt-leb}
 use lib.ListN.{length}
 use Rattle.plan.specs.declared.Plan.{Plan}
-use Rattle.plan.specs.declared.Verdict.{Verdict}
-use Rattle.plan.specs.declared.Verdict.TheVariants as verdict
-use Rattle.plan.specs.declared.Written.{Written}
-use Rattle.plan.specs.declared.Written.TheVariants as written
+use Rattle.plan.specs.Answers.{Verdict, accepted_with, answered, write_number, stored_by}
 use Rattle.plan.specs.Blocks.{plan_block, tasks_of}
 use Rattle.plan.specs.LevelBlocks.{loading, speeds_in}
 use Rattle.plan.specs.Questions.{task_questions, judging, writing, room_question}
 use Rattle.arith.specs.Asking.{Question, first_no}
-use Rattle.plan.specs.Answers.{answered, write_number, stored_by}
 use Rattle.judging.proofs.verdicts.Judgements.{count_low, count_high, count_good}
 use Rattle.arith.proofs.QuestionLaws.{ask_no, ask_yes, no_before, yes_before}
 use Rattle.plan.proofs.AnswerLaws.{Refusal, told_refused, told_admitted, Leaves, leaves_refused, leaves_written}
 use Rattle.levels.specs.Code.{loaded}
 use Rattle.levels.proofs.Tables.{Loads}
+use Rattle.std.specs.declared.result.Result.TheVariants.{Ok}
+use Rattle.plan.specs.Counted.{Counted, refused}
 
 -- the questions of writing a plan into so much room: those of judging it, and the room
 module _ (speeds : List ℕ) (p : Plan) where
@@ -41,19 +39,19 @@ module _ (speeds : List ℕ) (p : Plan) where
     write_fits h = write_last ∙ ask_yes 9 (le-leb (length (plan_block (tasks_of p))) room h) refl
 
 -- each way out of writing a plan over a table of speeds
-abbrev Wrote : List ℕ → Plan → List ℕ → Written → List ℕ → Type 0
+abbrev Wrote : List ℕ → Plan → List ℕ → Counted → List ℕ → Type 0
 Wrote speeds p buffer r m = Leaves (first_no (writing speeds p (length buffer))) (plan_block (tasks_of p)) buffer r m
 
 module _ (speeds : List ℕ) (p : Plan) (buffer : List ℕ) where
-  wrote_no : (n : ℕ) → 0 < n → first_no (asked speeds p) ≡ n → Wrote speeds p buffer (written.Refused n) buffer
+  wrote_no : (n : ℕ) → 0 < n → first_no (asked speeds p) ≡ n → Wrote speeds p buffer (refused n) buffer
   wrote_no n h e =
       leaves_refused (first_no (writing speeds p (length buffer))) n (plan_block (tasks_of p)) buffer h
       (no_before (asked speeds p) (last speeds p (length buffer)) n h e)
 
-  pub wrote_low : p.count < 1 → Wrote speeds p buffer (written.Refused 3) buffer
+  pub wrote_low : p.count < 1 → Wrote speeds p buffer (refused 3) buffer
   wrote_low h = wrote_no 3 (omega arith) (count_low speeds (tasks_of p) p.count h)
 
-  pub wrote_high : 16 < p.count → Wrote speeds p buffer (written.Refused 3) buffer
+  pub wrote_high : 16 < p.count → Wrote speeds p buffer (refused 3) buffer
   wrote_high h = wrote_no 3 (omega arith) (count_high speeds (tasks_of p) p.count h)
 
 -- the count is in its range, and the tasks are judged
@@ -66,12 +64,12 @@ module _ {speeds : List ℕ} {p : Plan} {v : Verdict} (r : Rated speeds p v) whe
   asked_is : first_no (asked speeds p) ≡ first_no (task_questions speeds (tasks_of p))
   asked_is = count_good speeds (tasks_of p) p.count r.low r.high
 
-  pub wrote_refused : (buffer : List ℕ) {n : ℕ} → v ≡ verdict.Refused n → Wrote speeds p buffer (written.Refused n) buffer
+  pub wrote_refused : (buffer : List ℕ) {n : ℕ} → v ≡ refused n → Wrote speeds p buffer (refused n) buffer
   wrote_refused buffer {n} b =
       let t = told_refused speeds (tasks_of p) v (first_no (task_questions speeds (tasks_of p))) n r.verdict_is b in
       wrote_no speeds p buffer n t.0 (asked_is ∙ t.1)
 
-  pub rated_fine : {level span : ℕ} → v ≡ verdict.Admitted level span → first_no (asked speeds p) ≡ 0
+  pub rated_fine : {level span : ℕ} → v ≡ accepted_with level span → first_no (asked speeds p) ≡ 0
   rated_fine {level} {span} b =
       asked_is
       ∙ told_admitted speeds (tasks_of p) v (first_no (task_questions speeds (tasks_of p))) level span r.verdict_is b
@@ -82,12 +80,12 @@ pub record Wanted (speeds : List ℕ) (p : Plan) (n : ℕ) : Type 0 where
   pub wanted : n ≡ length (plan_block (tasks_of p))
 
 module _ {speeds : List ℕ} {p : Plan} {n : ℕ} (w : Wanted speeds p n) (buffer : List ℕ) where
-  pub wrote_short : length buffer < n → Wrote speeds p buffer (written.Refused 9) buffer
+  pub wrote_short : length buffer < n → Wrote speeds p buffer (refused 9) buffer
   wrote_short h =
       leaves_refused (first_no (writing speeds p (length buffer))) 9 (plan_block (tasks_of p)) buffer (omega arith)
       (write_short speeds p (length buffer) w.fine (subst (λ (k : ℕ). length buffer < k) w.wanted h))
 
-  pub wrote_block : {m : List ℕ} → n ≤ length buffer → m ≡ stored_by 0 (plan_block (tasks_of p)) buffer → Wrote speeds p buffer (written.Bytes n) m
+  pub wrote_block : {m : List ℕ} → n ≤ length buffer → m ≡ stored_by 0 (plan_block (tasks_of p)) buffer → Wrote speeds p buffer (Ok n) m
   wrote_block {m} h s =
       leaves_written (first_no (writing speeds p (length buffer))) n (plan_block (tasks_of p)) buffer m
       (write_fits speeds p (length buffer) w.fine (subst (λ (k : ℕ). k ≤ length buffer) w.wanted h))
@@ -95,17 +93,17 @@ module _ {speeds : List ℕ} {p : Plan} {n : ℕ} (w : Wanted speeds p n) (buffe
       s
 
 -- the same over a level block, whose questions come first
-abbrev pub Writes : List ℕ → Plan → List ℕ → Written → List ℕ → Type 0
+abbrev pub Writes : List ℕ → Plan → List ℕ → Counted → List ℕ → Type 0
 Writes levels p buffer r m = Leaves (write_number levels p (length buffer)) (plan_block (tasks_of p)) buffer r m
 
 module _ (levels : List ℕ) (p : Plan) (buffer : List ℕ) where
-  pub writes_refused : {n : ℕ} → Refusal (first_no (loading levels)) n → Writes levels p buffer (written.Refused n) buffer
+  pub writes_refused : {n : ℕ} → Refusal (first_no (loading levels)) n → Writes levels p buffer (refused n) buffer
   writes_refused {n} e =
       leaves_refused (write_number levels p (length buffer)) n (plan_block (tasks_of p)) buffer e.positive
       (no_before (loading levels) (writing (speeds_in levels) p (length buffer)) n e.positive e.is)
 
   pub writes_loaded :
-      {held : List ℕ} {count : ℕ} {r : Written} {m : List ℕ} →
+      {held : List ℕ} {count : ℕ} {r : Counted} {m : List ℕ} →
       Loads levels held count →
       Wrote (loaded held count) p buffer r m →
       Writes levels p buffer r m

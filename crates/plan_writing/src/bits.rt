@@ -60,10 +60,8 @@ fn plan_byte(p: Plan, edition: u32, j: usize) -> u8
     ensures { result ≡ number 2 8 (drop (8 * j) (plan_bits edition (tasks_of p))) }
 {
     let mut acc: u32 = 0;
-    let mut i: usize = 0;
-    while i < 8 {
+    for i in 0..8 {
         acc = acc * 2 + plan_bit(p, edition, 8 * j + i);
-        i += 1;
     }
     acc as u8
 }
@@ -74,9 +72,7 @@ pub fn put_block(p: Plan, edition: u32, buffer: &mut [u8])
     ensures { buffer.new ≡ stored_by 0 (plan_block (tasks_of p)) buffer.old }
 {
     let n = block_length(edition, p.count);
-    let mut j: usize = 0;
-    while j < n {
+    for j in 0..n {
         buffer[j] = plan_byte(p, edition, j);
-        j += 1;
     }
 }

@@ -6,11 +6,11 @@ ghost use Rattle.plan.specs.Answers.{write_buffer, written_by, stored_by, write_
 
 use crate::write;
 use judging::verdicts::refused;
-use plan::{Judged, Plan, Verdict, Written};
+use plan::{Judged, Plan, Refused};
 use plan_reading::read;
 
 // A block read and written again: the very same bytes, where the reading accepts it and there is room.
-pub fn copy(levels: &[u8], block: &[u8], buffer: &mut [u8]) -> Written
+pub fn copy(levels: &[u8], block: &[u8], buffer: &mut [u8]) -> Result<usize, Refused>
     ensures value { result ≡ written_by
         (copy_number levels.now block.now (length buffer.old))
         block.now }
@@ -19,10 +19,7 @@ pub fn copy(levels: &[u8], block: &[u8], buffer: &mut [u8]) -> Written
         block.now buffer.old }
 {
     let j = read(levels, block);
-    let v = j.verdict;
-    if let Verdict::Refused(n) = v {
-        return Written::Refused(n);
-    }
+    j.verdict?;
     let q = j.plan;
     write(levels, q, buffer)
 }
@@ -36,7 +33,7 @@ pub fn reread(levels: &[u8], p: Plan, buffer: &mut [u8]) -> Judged
 {
     let w = write(levels, p, buffer);
     match w {
-        Written::Refused(n) => refused(n),
-        Written::Bytes(n) => read(levels, &buffer[..n]),
+        Err(e) => refused(e.number),
+        Ok(n) => read(levels, &buffer[..n]),
     }
 }

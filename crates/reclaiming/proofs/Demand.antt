@@ -44,7 +44,6 @@ use Rattle.schedule.proofs.Closing.{entered_new, entered_before}
 use Rattle.schedule.proofs.Span.{canonical_start}
 use Rattle.reclaiming.specs.declared.Reply.{Reply}
 use Rattle.reclaiming.specs.declared.Reply.TheVariants as reply
-use Rattle.reclaiming.specs.declared.Queued.TheVariants as queued
 use Rattle.reclaiming.specs.declared.Entry.{Entry}
 use Rattle.reclaiming.specs.Allotments.{timing}
 use Rattle.reclaiming.specs.Orders.{next_arrival, running_time, hold_of, order_with, running}
@@ -53,7 +52,7 @@ use Rattle.reclaiming.specs.Passes.{largest_clock, pass_questions, Pass}
 use Rattle.reclaiming.specs.Books.{DispatcherBook, moved, booked, booked_all, ran_all, unopened_book, opened_book, ordered}
 use Rattle.reclaiming.specs.StateBlock.{State, encode, decode, plan_in, work_of, remaining_of, rest_in, rest_of, no_entry, total_in, state_length}
 use Rattle.reclaiming.specs.States.{new_entry, state_with, start_state, passed_state, passed_hold, view_of}
-use Rattle.reclaiming.specs.Calls.{start_reply, start_buffer, start_number, start_order, queue_bytes, ready_queue, shown_bytes, pass_reply, show_number, show_reply, show_buffer, queued_by, queued_reply}
+use Rattle.reclaiming.specs.Calls.{start_reply, start_buffer, start_number, start_order, queue_bytes, ready_queue, shown_bytes, pass_reply, show_number, show_reply, show_buffer, queued_reply}
 use Rattle.reclaiming.specs.Run.{bytes_after, trace, started_bytes}
 use Rattle.reclaiming.specs.Promises.{Started, OpenActual, InGap, OnTime, ClosesByArrival, ClosesInTime, MostUrgent, NamesMostUrgent, Shows, Demand3, QueueShown, ticks_in, TotalTold, PairsKept, AboveFloor, NeverCrawls, arrived_with, StaysSound, SameSpeeds, RunsMostUrgent, NoDeadEnd, Open, OneSchedule, EveryArrival, time_left, is_run, hold_in, last_order, state_after, actual_book, plain_book, replies}
 use Rattle.reclaiming.proofs.Fine.{Ahead, Gap, Fine, fine_floor, Accepted, nominal_speed}
@@ -68,6 +67,8 @@ use Rattle.reclaiming.proofs.Books.{OpenLatest, Held, held_start, Ended, ended_s
 use Rattle.reclaiming.proofs.OrderFacts.{Runs, Ordered, idles, runs, order_facts}
 use Rattle.reclaiming.proofs.Worked as worked
 use Rattle.reclaiming.proofs.Runs.{Tied, Kept, idle_level, kept_pass, stored_sound, stored_length, speeds_are, decoded, reply_is}
+use Rattle.std.specs.declared.result.Result.TheVariants.{Ok}
+use Rattle.plan.specs.Counted.{counted_by}
 
 -- an order leaves a book's clock
 pub ordered_clock : (b : DispatcherBook) (r : Reply) → (ordered b r).clock ≡ b.clock
@@ -464,7 +465,7 @@ module _ (speeds : List ℕ) (table : FineTable speeds) where
       is_state = decoded speeds table ts good k.stored k.in_time k.own t.fine
 
       -- what is told of the total is the sum over the plain schedule's ready queue
-      told : queued_reply bytes ≡ queued.Ticks (ticks_in b.pending)
+      told : queued_reply bytes ≡ Ok (ticks_in b.pending)
       told =
           let size : length bytes ≡ state_length = stored_length speeds table ts good k.stored k.in_time k.own t.fine in
           let n : length now.entries ≡ length ts = fine_length t.fine.entries in
@@ -473,8 +474,8 @@ module _ (speeds : List ℕ) (table : FineTable speeds) where
           ∙ queued_places now n
           ∙ sym (queue_total (timing speeds ts) now.clock (remaining_of now) (length ts))
           ∙ sym (ap (λ (x : Book). ticks_in x.pending) (plain_is t)) in
-          ap (λ (m : ℕ). queued_by m (total_in bytes)) (ask_yes 10 (eq-eqb (length bytes) state_length size) refl)
-          ∙ ap queued.Ticks (ap (λ (x : State). x.total) is_state ∙ all)
+          ap (λ (m : ℕ). counted_by m (total_in bytes)) (ask_yes 10 (eq-eqb (length bytes) state_length size) refl)
+          ∙ ap Ok (ap (λ (x : State). x.total) is_state ∙ all)
 
       -- what showing writes is the plain schedule's ready queue
       shown : shown_bytes bytes ≡ queue_bytes b.pending

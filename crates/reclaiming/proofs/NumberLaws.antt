@@ -7,11 +7,9 @@ use mathlib.Core.List.{List, [], ◌∷◌}
 use native.Mathlib.Omega.{arith}
 use lib.ListN.{length}
 use Rattle.plan.specs.declared.Task.{Task}
-use Rattle.plan.specs.declared.Written.{Written}
 use Rattle.plan.specs.LevelBlocks.{speeds_in}
 use Rattle.plan.specs.Blocks.{tasks_in}
-use Rattle.plan.specs.Numbers.{written_number}
-use Rattle.plan.proofs.NumberLaws.{written_most}
+use Rattle.plan.proofs.NumberLaws.{counted_most}
 use Rattle.plan.proofs.LevelBlockLaws.{FineTable, few_levels}
 use Rattle.plan.proofs.Facts.{FineList}
 use Rattle.arith.proofs.QuestionLaws.{Yes, all_yes, yes_all, first_no_most}
@@ -33,6 +31,7 @@ use Rattle.reclaiming.proofs.Plans.{task_range}
 use Rattle.reclaiming.proofs.Soundness.{fine_small, sound_state, sound_fine, sound_table, sound_own, pass_accepted, length-plan_in, Starts, start_facts}
 use Rattle.arith.proofs.RangeLaws.{least_le}
 use Rattle.reclaiming.proofs.PassSound.{start_fine, pass_fine, pass_hold, hold_next}
+use Rattle.plan.specs.Counted.{Counted, counted_number}
 
 -- refusals have small numbers, and so do replies: an order's task and level fit a byte each, and its hold is at most a period
 order_most : (s : State) (hold : ℕ) → s.task < 256 → s.level < 256 → hold ≤ 65535 → reply_number (order_with (view_of s) hold) < 2 ^ 64
@@ -102,10 +101,10 @@ pass_most bytes d finished r e =
         subst (λ (hold : ℕ). reply_number (order_with (view_of next) hold) < 2 ^ 64) (sym (pass_hold speeds table.rising ts f.0 s f.1 d finished ok))
         (fine_most speeds table ts next f.0 (pass_fine speeds table.rising ts f.0 s f.1 d finished ok))
 
-pub show_most : (bytes : List ℕ) (room : ℕ) (w : Written) → w ≡ show_reply bytes room → written_number w < 2 ^ 36
+pub show_most : (bytes : List ℕ) (room : ℕ) (w : Counted) → w ≡ show_reply bytes room → counted_number w < 2 ^ 36
 show_most bytes room w e =
-    subst (λ (x : Written). written_number x < 2 ^ 36) (sym e)
-    (written_most (show_number bytes room) (shown_bytes bytes) (first_no_most 255 (showing bytes (length (shown_bytes bytes)) room) refl) long)
+    subst (λ (x : Counted). counted_number x < 2 ^ 36) (sym e)
+    (counted_most (show_number bytes room) (length (shown_bytes bytes)) (first_no_most 255 (showing bytes (length (shown_bytes bytes)) room) refl) long)
   where
     long : show_number bytes room ≡ 0 → length (shown_bytes bytes) ≤ 255
     long z =

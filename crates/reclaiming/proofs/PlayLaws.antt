@@ -23,7 +23,6 @@ use Rattle.schedule.specs.PlainSchedule.{Timing, Book, canonical_at}
 use Rattle.schedule.specs.Served.{AllotmentsGiven}
 use Rattle.reclaiming.specs.declared.Reply.{Reply}
 use Rattle.reclaiming.specs.declared.Reply.TheVariants as reply
-use Rattle.reclaiming.specs.declared.Queued.TheVariants as queued
 use Rattle.reclaiming.specs.Allotments.{timing}
 use Rattle.reclaiming.specs.Orders.{order_with, hold_of}
 use Rattle.reclaiming.specs.Replies.{replied_by, is_order}
@@ -45,6 +44,7 @@ use Rattle.reclaiming.proofs.Ideal.{ideal_run, trace_take}
 use Rattle.reclaiming.proofs.Bounds.{passes_within}
 use Rattle.reclaiming.proofs.Earliness.{theorem_1, with_full_earliness}
 use Rattle.reclaiming.proofs.Demand.{demand_3, closes_in_time, runs_most_urgent, pairs_kept, never_crawls, total_told, room, after_length, untouched, one_schedule, every_arrival}
+use Rattle.std.specs.declared.result.Result.TheVariants.{Ok}
 
 -- a reply whose parts each fit their place in the number
 abbrev pub Small : Reply → Type 0
@@ -267,7 +267,7 @@ module _ (levels : List ℕ) where
     played_total_told accepted =
         let ok : Started levels block pairs state = number_accepted accepted in
         let all : List Pass = take (length passes) passes in
-        carried (λ (r : Reply) (l : List Answered). queued_reply (take state_length (played_state levels block pairs state passes)) ≡ queued.Ticks (ticks_in (plain l).pending))
+        carried (λ (r : Reply) (l : List Answered). queued_reply (take state_length (played_state levels block pairs state passes)) ≡ Ok (ticks_in (plain l).pending))
         ok (length passes)
         (ap queued_reply (left_front ok ∙ ap (λ (ps : List Pass). state_after levels block pairs state ps) (sym (take-length passes)))
         ∙ total_told levels block pairs state all ok)

@@ -8,8 +8,6 @@ use native.Mathlib.Omega.{arith}
 use lib.ListN.{length, take}
 use lib.Seq.{take-length}
 use Rattle.arith.proofs.QuestionLaws.{first_no_most}
-use Rattle.plan.specs.declared.Written.{Written}
-use Rattle.plan.specs.declared.Written.TheVariants as written
 use Rattle.plan.specs.LevelBlocks.{speeds_in}
 use Rattle.plan.specs.Blocks.{tasks_in}
 use Rattle.schedule.specs.PlainSchedule.{Timing, opened}
@@ -30,6 +28,8 @@ use Rattle.reclaiming.specs.Play.{reply_from, left_by, played_state, played_repl
 use Rattle.reclaiming.proofs.Replies.{is_idle, is_run_lem, view_order}
 use Rattle.reclaiming.proofs.Demand.{queue_shown, room}
 use Rattle.reclaiming.proofs.PlayLaws.{started_number, number_started, number_accepted, carried, left_front}
+use Rattle.std.specs.declared.result.Result.TheVariants.{Ok}
+use Rattle.plan.specs.Counted.{Counted}
 
 -- an order's number is above every refusal's
 order_above : (s : State) (hold : ℕ) → 256 ≤ reply_number (order_with (view_of s) hold)
@@ -71,7 +71,7 @@ module _ (levels : List ℕ) where
   module _ {block pairs state : List ℕ} {passes : List Pass} {found : List ℕ} {number : ℕ} {m replies : List ℕ}
       (r : Ran levels block pairs state passes found number m replies) (lent : List ℕ) where
     -- what playing and showing answer and leave
-    abbrev ShownLeaves : Written → List ℕ → Type 0
+    abbrev ShownLeaves : Counted → List ℕ → Type 0
     ShownLeaves answer left =
         (number ≡ reply_number (start_reply levels block pairs (length state)))
         × ((answer ≡ played_shown levels block pairs state passes (length lent))
@@ -83,14 +83,14 @@ module _ (levels : List ℕ) where
     abbrev bytes : List ℕ
     bytes = bytes_after (started_bytes levels block pairs state) passes
 
-    abbrev answer_by : ℕ → Written
-    answer_by n = left_by n (show_reply bytes (length lent)) (written.Bytes 0)
+    abbrev answer_by : ℕ → Counted
+    answer_by n = left_by n (show_reply bytes (length lent)) (Ok 0)
 
     abbrev left_of : ℕ → List ℕ
     left_of n = left_by n (show_buffer bytes lent) lent
 
     -- the start was refused, and nothing is shown
-    pub shown_not : number < 256 → ShownLeaves (written.Bytes 0) lent
+    pub shown_not : number < 256 → ShownLeaves (Ok 0) lent
     shown_not h =
         let low : first block pairs state < 256 = omega (arith, r.numbered) in
         let kept-as = unshown (start_number levels block pairs (length state)) refl (first_refused block pairs state low) in (
@@ -102,7 +102,7 @@ module _ (levels : List ℕ) where
             (n : ℕ) →
             start_number levels block pairs (length state) ≡ n →
             (start_number levels block pairs (length state) ≡ 0 → ⊥) →
-            (written.Bytes 0 ≡ played_shown levels block pairs state passes (length lent)) × (lent ≡ played_queue levels block pairs state passes lent)
+            (Ok 0 ≡ played_shown levels block pairs state passes (length lent)) × (lent ≡ played_queue levels block pairs state passes lent)
         unshown zero e no_start = absurd (no_start e)
         unshown (suc n) e no_start = (sym (ap answer_by e), sym (ap left_of e))
 
@@ -132,7 +132,7 @@ module _ (levels : List ℕ) where
 
       -- said of the numbers that stand in the lent blocks
       queue_said :
-          {answer : Written} {left : List ℕ} →
+          {answer : Counted} {left : List ℕ} →
           answer ≡ show_reply bytes (length lent) →
           left ≡ show_buffer bytes lent →
           PlayedQueueShown levels block number passes replies lent answer left
@@ -153,7 +153,7 @@ module _ (levels : List ℕ) where
           left_is = b ∙ ap (λ (ps : List Pass). show_buffer (state_after levels block pairs state ps) lent) (sym (take-length passes))
 
       pub shown_is :
-          {answer : Written} {left : List ℕ} →
+          {answer : Counted} {left : List ℕ} →
           answer ≡ show_reply (take state_length m) (length lent) →
           left ≡ show_buffer (take state_length m) lent →
           ShownLeaves answer left

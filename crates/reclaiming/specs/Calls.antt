@@ -1,23 +1,21 @@
 -- 01, "Blocks" and "Questions put to every call": what starting, passing and showing return, and every byte that they leave in a lent
 -- block, refused calls included; 02, No. 6: what asking for the total returns.
 -- Assumes nothing.
-use Rattle.std.specs.Prelude.{ℕ, zero, suc, Bool, List, [], ◌∷◌, ◌++◌, length}
+use Rattle.std.specs.Prelude.{ℕ, Bool, List, [], ◌∷◌, ◌++◌, length}
 use Rattle.arith.specs.Digits.{digits}
-use Rattle.arith.specs.Asking.{Answer, values, refusal, first_no}
-use Rattle.plan.specs.declared.Written.{Written}
+use Rattle.arith.specs.Asking.{first_no}
 use Rattle.plan.specs.LevelBlocks.{speeds_in}
 use Rattle.plan.specs.Blocks.{tasks_in}
 use Rattle.plan.specs.Answers.{written_by, stored_by}
 use Rattle.schedule.specs.PlainSchedule.{Pending, queue_of}
 use Rattle.reclaiming.specs.declared.Reply.{Reply}
-use Rattle.reclaiming.specs.declared.Queued.{Queued}
-use Rattle.reclaiming.specs.declared.Queued.TheVariants as queued
 use Rattle.reclaiming.specs.Allotments.{timing}
 use Rattle.reclaiming.specs.Orders.{hold_of, order_with}
 use Rattle.reclaiming.specs.Replies.{replied_by}
 use Rattle.reclaiming.specs.StateBlock.{State, remaining_of, plan_in, encode, total_in, decode}
 use Rattle.reclaiming.specs.States.{view_of, start_state, passed_state, passed_hold}
 use Rattle.reclaiming.specs.Questions.{starting, passing, showing, queueing}
+use Rattle.plan.specs.Counted.{Counted, counted_by}
 
 -- starting
 abbrev pub start_number : List ℕ → List ℕ → List ℕ → ℕ → ℕ
@@ -69,21 +67,12 @@ shown_bytes bytes = queue_bytes (ready_queue (decode bytes).speeds (decode bytes
 abbrev pub show_number : List ℕ → ℕ → ℕ
 show_number bytes room = first_no (showing bytes (length (shown_bytes bytes)) room)
 
-abbrev pub show_reply : List ℕ → ℕ → Written
+abbrev pub show_reply : List ℕ → ℕ → Counted
 show_reply bytes room = written_by (show_number bytes room) (shown_bytes bytes)
 
 abbrev pub show_buffer : List ℕ → List ℕ → List ℕ
 show_buffer bytes buffer = stored_by (show_number bytes (length buffer)) (shown_bytes bytes) buffer
 
 -- 02, No. 6: the total is told "without going through the entries", of a sound state or not
-abbrev pub queued_by : ℕ → ℕ → Queued
-queued_by zero total = queued.Ticks total
-queued_by (suc n) total = queued.Refused (suc n)
-
-abbrev pub queued_reply : List ℕ → Queued
-queued_reply bytes = queued_by (first_no (queueing bytes)) (total_in bytes)
-
--- its number and values: the total
-abbrev pub queued_answer : Queued → Answer
-queued_answer (queued.Ticks total) = values (total ∷ [])
-queued_answer (queued.Refused n) = refusal n
+abbrev pub queued_reply : List ℕ → Counted
+queued_reply bytes = counted_by (first_no (queueing bytes)) (total_in bytes)

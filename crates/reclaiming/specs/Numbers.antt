@@ -3,8 +3,6 @@
 use Rattle.std.specs.Prelude.{ℕ, ◌+◌, ◌*◌, Bool, not, eqb}
 use Rattle.reclaiming.specs.declared.Reply.{Reply}
 use Rattle.reclaiming.specs.declared.Reply.TheVariants as reply
-use Rattle.reclaiming.specs.declared.Queued.{Queued}
-use Rattle.reclaiming.specs.declared.Queued.TheVariants as queued
 
 -- a refusal is its number, below 256; else the kind (1 to run, 2 to stay idle) stands from bit 8 on, the task from bit 16 on, the level from
 -- bit 24 on and the hold from bit 32 on
@@ -12,11 +10,6 @@ abbrev pub reply_number : Reply → ℕ
 reply_number (reply.Run task level hold) = 256 + 65536 * task + 16777216 * level + 4294967296 * hold
 reply_number (reply.Idle hold) = 512 + 4294967296 * hold
 reply_number (reply.Refused n) = n
-
--- a refusal is its number; else the total stands from bit 8 on
-abbrev pub queued_number : Queued → ℕ
-queued_number (queued.Ticks total) = 256 * total
-queued_number (queued.Refused n) = n
 
 -- a yes or no as C hands it over: 0 is no, anything else is yes
 abbrev pub is_yes : ℕ → Bool

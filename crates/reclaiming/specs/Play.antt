@@ -3,8 +3,6 @@
 use Rattle.std.specs.Prelude.{ℕ, zero, suc, ◌/◌, ◌%◌, ◌≡◌, true, List, [], ◌∷◌, ◌++◌, map, eqb, length, take, drop}
 use Rattle.arith.specs.Choice.{pick}
 use Rattle.plan.specs.declared.Task.{Task}
-use Rattle.plan.specs.declared.Written.{Written}
-use Rattle.plan.specs.declared.Written.TheVariants as written
 use Rattle.plan.specs.LevelBlocks.{speeds_in}
 use Rattle.plan.specs.Blocks.{tasks_in}
 use Rattle.plan.specs.Pairs.{pairs_in}
@@ -12,7 +10,6 @@ use Rattle.schedule.specs.PlainSchedule.{Timing, Book, canonical_at}
 use Rattle.schedule.specs.Served.{AllotmentsGiven}
 use Rattle.reclaiming.specs.declared.Reply.{Reply}
 use Rattle.reclaiming.specs.declared.Reply.TheVariants as reply
-use Rattle.reclaiming.specs.declared.Queued.TheVariants as queued
 use Rattle.reclaiming.specs.Allotments.{timing}
 use Rattle.reclaiming.specs.Replies.{is_order}
 use Rattle.reclaiming.specs.Passes.{Pass}
@@ -22,6 +19,8 @@ use Rattle.reclaiming.specs.Calls.{start_number, show_reply, show_buffer, queued
 use Rattle.reclaiming.specs.Run.{trace, bytes_after, started_bytes}
 use Rattle.reclaiming.specs.Promises.{OnTime, ClosesByArrival, EarlierClosed, AboveFloor, NamesMostUrgent, Shows, ticks_in, last_order, FollowsBooks, TakesEarliness, OfNewOrders, AllAhead, PassWithin}
 use Rattle.reclaiming.specs.Numbers.{reply_number}
+use Rattle.std.specs.declared.result.Result.TheVariants.{Ok}
+use Rattle.plan.specs.Counted.{Counted}
 
 -- a pass as a number: d in its lower 32 bits, and the next bit says whether the job finished
 abbrev pub pass_from : ℕ → Pass
@@ -66,11 +65,11 @@ answers_from (p ∷ ps) [] = []
 answers_from (p ∷ ps) (x ∷ xs) = record { pass = p; reply = reply_from x } ∷ answers_from ps xs
 
 -- what showing the queue after the passes answers, no bytes where the start was refused and nothing is shown; and what it leaves
-abbrev pub played_shown : List ℕ → List ℕ → List ℕ → List ℕ → List Pass → ℕ → Written
+abbrev pub played_shown : List ℕ → List ℕ → List ℕ → List ℕ → List Pass → ℕ → Counted
 played_shown levels block pairs state passes room =
     left_by (start_number levels block pairs (length state))
     (show_reply (bytes_after (started_bytes levels block pairs state) passes) room)
-    (written.Bytes 0)
+    (Ok 0)
 
 abbrev pub played_queue : List ℕ → List ℕ → List ℕ → List ℕ → List Pass → List ℕ → List ℕ
 played_queue levels block pairs state passes lent =
@@ -126,10 +125,10 @@ module _ (levels block : List ℕ) (first : ℕ) (passes : List Pass) (replies :
   abbrev pub PlayedTotalTold : List ℕ → Type 0
   PlayedTotalTold left =
       is_order (reply_from first) ≡ true →
-      queued_reply (take state_length left) ≡ queued.Ticks (ticks_in (played_plain (length passes)).pending)
+      queued_reply (take state_length left) ≡ Ok (ticks_in (played_plain (length passes)).pending)
 
   -- demand 2: the queue shown after all passes is that of the plain schedule's book
-  abbrev pub PlayedQueueShown : List ℕ → Written → List ℕ → Type 0
+  abbrev pub PlayedQueueShown : List ℕ → Counted → List ℕ → Type 0
   PlayedQueueShown lent answer left = is_order (reply_from first) ≡ true → Shows (played_plain (length passes)).pending lent answer left
 
   -- demand 2: every reply is the ideal dispatcher's, and every byte that all passes leave in the state is told by the books

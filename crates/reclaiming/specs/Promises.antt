@@ -5,7 +5,6 @@ use Rattle.arith.specs.Choice.{pick, both}
 use Rattle.arith.specs.Sum.{sum_of}
 use Rattle.arith.specs.Ranges.{list_to}
 use Rattle.plan.specs.declared.Task.{Task}
-use Rattle.plan.specs.declared.Written.{Written}
 use Rattle.plan.specs.Times.{time_of}
 use Rattle.plan.specs.Levels.{speed_of}
 use Rattle.plan.specs.LevelBlocks.{speeds_in}
@@ -17,7 +16,6 @@ use Rattle.schedule.specs.Feasibility.{In}
 use Rattle.schedule.specs.Served.{Arrived, OpenPlain, AllotmentsGiven}
 use Rattle.reclaiming.specs.declared.Reply.{Reply}
 use Rattle.reclaiming.specs.declared.Reply.TheVariants as reply
-use Rattle.reclaiming.specs.declared.Queued.TheVariants as queued
 use Rattle.reclaiming.specs.Allotments.{timing}
 use Rattle.reclaiming.specs.Orders.{View, next_arrival, plain_allowance}
 use Rattle.reclaiming.specs.Replies.{is_order}
@@ -30,6 +28,8 @@ use Rattle.reclaiming.specs.States.{view_of, state_with}
 use Rattle.reclaiming.specs.Questions.{sound}
 use Rattle.reclaiming.specs.Calls.{start_number, start_reply, pass_reply, queue_bytes, show_reply, show_buffer, queued_reply}
 use Rattle.reclaiming.specs.Run.{trace, bytes_after, started_bytes}
+use Rattle.std.specs.declared.result.Result.TheVariants.{Ok}
+use Rattle.plan.specs.Counted.{Counted}
 
 -- a job is open in the dispatcher's book "from its arrival until the book closes it"
 pub record OpenActual (τ : Timing) (b : DispatcherBook) (j : Job) : Type 0 where
@@ -134,7 +134,7 @@ abbrev pub Started : List ℕ → List ℕ → List ℕ → List ℕ → Type 0
 Started levels block pairs buffer = is_order (start_reply levels block pairs (length buffer)) ≡ true
 
 -- a queue is shown in a lent buffer: 9 if it is not long enough, else the count of the queue's bytes, and these at its front
-pub record Shows (queue : List Pending) (lent : List ℕ) (answer : Written) (left : List ℕ) : Type 0 where
+pub record Shows (queue : List Pending) (lent : List ℕ) (answer : Counted) (left : List ℕ) : Type 0 where
   pub answers : answer ≡ written_by (room_number (length (queue_bytes queue)) (length lent)) (queue_bytes queue)
   pub leaves : left ≡ stored_by (room_number (length (queue_bytes queue)) (length lent)) (queue_bytes queue) lent
 
@@ -211,7 +211,7 @@ abbrev pub TotalTold : Type 0
 TotalTold =
     (levels block pairs buffer : List ℕ) (passes : List Pass) →
     Started levels block pairs buffer →
-    queued_reply (state_after levels block pairs buffer passes) ≡ queued.Ticks (ticks_in (plain_book levels block pairs buffer passes).pending)
+    queued_reply (state_after levels block pairs buffer passes) ≡ Ok (ticks_in (plain_book levels block pairs buffer passes).pending)
 
 -- A started state is sound, and so is every state that a pass leaves: in a run refusal 10 never comes.
 abbrev pub StaysSound : Type 0

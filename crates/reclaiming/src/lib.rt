@@ -21,10 +21,3 @@ pub enum Reply {
     Idle { hold: u32 },
     Refused(u32),
 }
-
-// What asking for the total of the plain ticks left answers: the total, or a refusal's number.
-#[derive(Clone, Copy)]
-pub enum Queued {
-    Ticks(u32),
-    Refused(u32),
-}

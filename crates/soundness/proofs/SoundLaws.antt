@@ -3,9 +3,9 @@
 use Prim.Native.Nat.{ℕ, zero, suc, ◌+◌, ◌-◌, ◌<◌, ◌≤◌}
 use mathlib.Core.Path.{◌≡◌, refl, sym, subst, ap, ap₂, ◌∙◌}
 use mathlib.Core.Bool.{Bool, true, false, true≢false, not}
-use mathlib.Core.List.{List, []}
+use mathlib.Core.List.{List}
 use native.Mathlib.Omega.{arith}
-use borrow.Author.Tests.{le-leb, lt-leb, eq-eqb, ne_eqb}
+use borrow.Author.Tests.{le-leb, eq-eqb, ne_eqb}
 use lib.Dec.{leb, eqb}
 use lib.ListN.{length, get_or, set}
 use lib.Seq.{take_all}
@@ -13,9 +13,9 @@ use Rattle.arith.specs.Choice.{pick, both, every}
 use Rattle.arith.specs.Ranges.{least_to}
 use Rattle.plan.specs.declared.Task.{Task}
 use Rattle.plan.specs.declared.Plan.{Plan}
-use Rattle.plan.specs.declared.Verdict.{Verdict}
-use Rattle.plan.specs.declared.Verdict.TheVariants as verdict
-use Rattle.plan.specs.Answers.{answered}
+use Rattle.plan.proofs.JudgedLaws.{level_told}
+use Rattle.plan.specs.Answers.{Verdict, accepted_with, answered}
+use Rattle.plan.specs.Counted.{refused}
 use Rattle.plan.specs.Blocks.{no_task, tasks_of, plan_of}
 use Rattle.plan.specs.Times.{time_of, no_rest}
 use Rattle.plan.specs.Levels.{Rising, speed_of, nominal}
@@ -44,9 +44,10 @@ use Rattle.orders.specs.Lone.{other_in}
 use Rattle.orders.proofs.lone.LoneLaws.{lone_is}
 use Rattle.orders.proofs.OrderLaws.{Timed, choose_next, choose_when}
 use Rattle.soundness.specs.declared.entries.Entries.{Entries}
-use Rattle.soundness.specs.SoundEntries.{entries_tested}
+use Rattle.soundness.specs.declared.entries.Entries.TheVariants.{NotSound, Behind, Ahead}
+use Rattle.soundness.specs.SoundEntries.{entries_by, entries_tested}
 use Rattle.soundness.specs.SoundOrder.{order_in}
-use Rattle.soundness.specs.Code.{Good, timed_sound, tested_by}
+use Rattle.soundness.specs.Code.{Good, timed_sound, TestedBlock}
 use Rattle.levels.specs.Code.{loaded, Table}
 use Rattle.levels.proofs.Tables.{levels_are, speed_is, speed_positive, speed_most}
 use Rattle.soundness.proofs.SoundFacts.{floor_most, ordered_runnable, sound_holds, sound_plan_yes}
@@ -55,6 +56,26 @@ use Rattle.reclaiming.proofs.Soundness.{FineEntry, fine_entry, length-plan_in, s
 use Rattle.urgency.proofs.HeadLaws.{task_is, period_is}
 use Rattle.urgency.proofs.OpenJobs.{timing_count}
 use Rattle.state.proofs.BlockLaws.{count_in_lem}
+
+-- what was found of the entries, as two tests
+abbrev is_sound : Entries → Bool
+is_sound NotSound = false
+is_sound Behind = true
+is_sound Ahead = true
+
+abbrev is_ahead : Entries → Bool
+is_ahead NotSound = false
+is_ahead Behind = false
+is_ahead Ahead = true
+
+sound_by : (sound ahead : Bool) → is_sound (entries_by sound ahead) ≡ sound
+sound_by true true = refl
+sound_by true false = refl
+sound_by false ahead = refl
+
+ahead_by : (ahead : Bool) → is_ahead (entries_by true ahead) ≡ ahead
+ahead_by true = refl
+ahead_by false = refl
 
 -- the plan in a block, of which the tasks below i are copied
 pub record Copying (b : List ℕ) (count : ℕ) (p : Plan) (i : ℕ) : Type 0 where
@@ -83,9 +104,6 @@ module _ {b : List ℕ} {count : ℕ} {p : Plan} {i : ℕ} (now : Copying b coun
   pub copy_all : count ≤ i → p ≡ plan_of (plan_in (decode b))
   copy_all h =
       filled_all now.filled (omega (arith, all)) h ∙ ap plan_of (take_all count (plan_in (decode b)) (omega (arith, all)))
-
-pub plan_few : {b : List ℕ} → Holds b → {p : Plan} → p ≡ plan_of (plan_in (decode b)) → p.count ≤ places
-plan_few {b} holds e = subst (λ (q : Plan). q.count ≤ places) (sym e) (omega (arith, holds.few, timing_count b))
 
 -- a state, by each of the four things that are asked of it
 both_not : (a b : Bool) → b ≡ false → both a b ≡ false
@@ -126,10 +144,6 @@ module _ (speeds : List ℕ) (s : State) where
 
     pace_decides : order_well ≡ true → state_sound speeds s ≡ pace_well
     pace_decides o = rest_decides ∙ ap (λ (b : Bool). both b pace_well) o
-
--- a block that is not sound, as it is answered
-tested_not : (speeds b : List ℕ) {r : Tested} {found : Bool} → r ≡ tested_by [] false [] → found ≡ false → r ≡ tested_by speeds found b
-tested_not speeds b e n = e ∙ ap (λ (t : Bool). tested_by speeds t b) (sym n)
 
 -- a block whose plan is admitted
 module _ (speeds b : List ℕ) (yes_all : first_no (task_questions speeds (plan_in (decode b))) ≡ 0) where
@@ -222,37 +236,36 @@ module _ {held : List ℕ} {levels : ℕ} {b : List ℕ} {count clock level spee
   speed_nominal : speed ≡ speed_of (loaded held levels) (nominal (loaded held levels) (plan_in (decode b)))
   speed_nominal = k.speed_read ∙ speed_is k.table level level_low ∙ ap (speed_of (loaded held levels)) k.level_is
 
-  pub admitted_entries :
-      {found : Entries} →
-      found ≡ entries_tested speed (decode b) →
-      found.sound ≡ false →
-      {r : Tested} →
-      r ≡ tested_by [] false [] →
-      r ≡ tested_by (loaded held levels) (state_sound (loaded held levels) (decode b)) b
-  admitted_entries e f g =
-      tested_not (loaded held levels) b g
-      (entries_not (loaded held levels) (decode b)
-      (sym (ap (λ (x : Entries). x.sound) e ∙ ap (λ (v : ℕ). both (every (entry_sound v) (decode b).entries) (total_sound (decode b))) speed_nominal) ∙ f))
+  pub admitted_entries : NotSound ≡ entries_tested speed (decode b) → state_sound (loaded held levels) (decode b) ≡ false
+  admitted_entries e =
+      entries_not (loaded held levels) (decode b)
+      (ap (λ (v : ℕ). both (every (entry_sound v) (decode b).entries) (total_sound (decode b))) (sym speed_nominal)
+      ∙ sym (ap is_sound e ∙ sound_by (both (every (entry_sound speed) (decode b).entries) (total_sound (decode b))) (every (entry_ahead speed) (decode b).entries)))
 
 -- its entries and its total are sound, and it is known whether the entries are ahead
-pub record Entered (held : List ℕ) (levels : ℕ) (b : List ℕ) (count clock level speed : ℕ) (found : Entries) : Type 0 where
+pub record Entered (held : List ℕ) (levels : ℕ) (b : List ℕ) (count clock level speed : ℕ) (ahead : Bool) : Type 0 where
   pub admitted : Admitted held levels b count clock level speed
-  pub tests : found ≡ entries_tested speed (decode b)
-  pub well : found.sound ≡ true
+  pub tests : entries_by true ahead ≡ entries_tested speed (decode b)
 
-module _ {held : List ℕ} {levels : ℕ} {b : List ℕ} {count clock level speed : ℕ} {found : Entries} (k : Entered held levels b count clock level speed found) where
+module _ {held : List ℕ} {levels : ℕ} {b : List ℕ} {count clock level speed : ℕ} {ahead : Bool} (k : Entered held levels b count clock level speed ahead) where
   abbrev table_speeds : List ℕ
   table_speeds = loaded held levels
 
   abbrev S : State
   S = decode b
 
-  entries_well_lem : both (every (entry_sound speed) S.entries) (total_sound S) ≡ true
-  entries_well_lem = sym (ap (λ (x : Entries). x.sound) k.tests) ∙ k.well
+  abbrev sounds : Bool
+  sounds = both (every (entry_sound speed) S.entries) (total_sound S)
 
-  ahead_is : found.ahead ≡ every (entry_ahead speed) S.entries
+  abbrev aheads : Bool
+  aheads = every (entry_ahead speed) S.entries
+
+  entries_well_lem : sounds ≡ true
+  entries_well_lem = sym (sym (sound_by true ahead) ∙ ap is_sound k.tests ∙ sound_by sounds aheads)
+
+  ahead_is : ahead ≡ aheads
   ahead_is =
-      ap (λ (x : Entries). x.ahead) k.tests ∙ ap (λ (t : Bool). both t (every (entry_ahead speed) S.entries)) entries_well_lem
+      sym (ahead_by ahead) ∙ ap is_ahead (k.tests ∙ ap (λ (t : Bool). entries_by t aheads) entries_well_lem) ∙ ahead_by aheads
 
   plan_well_lem : first_no (judging table_speeds (length S.entries) (plan_in S)) ≡ 0
   plan_well_lem =
@@ -264,14 +277,8 @@ module _ {held : List ℕ} {levels : ℕ} {b : List ℕ} {count clock level spee
   order_is : order_in table_speeds b level ≡ order_well table_speeds S
   order_is = ap (order_in table_speeds b) k.admitted.level_is
 
-  pub admitted_order :
-      {o : Bool} →
-      o ≡ order_in table_speeds b level →
-      o ≡ false →
-      {r : Tested} →
-      r ≡ tested_by [] false [] →
-      r ≡ tested_by table_speeds (state_sound table_speeds S) b
-  admitted_order e f g = tested_not table_speeds b g (order_not table_speeds S plan_well_lem nominal_well (sym (e ∙ order_is) ∙ f))
+  pub admitted_order : {o : Bool} → o ≡ order_in table_speeds b level → o ≡ false → state_sound table_speeds S ≡ false
+  admitted_order e f = order_not table_speeds S plan_well_lem nominal_well (sym (e ∙ order_is) ∙ f)
 
   -- and its order is sound
   module _ {o : Bool} (e : o ≡ order_in table_speeds b level) (y : o ≡ true) where
@@ -284,7 +291,7 @@ module _ {held : List ℕ} {levels : ℕ} {b : List ℕ} {count clock level spee
         (ordered_runnable table_speeds S (fine_tasks table_speeds (plan_in S) k.admitted.yes_all) stands)
 
     -- while idle every job is ahead, since none is open
-    pub behind_runs : found.ahead ≡ false → S.task ≡ 255 → ⊥
+    pub behind_runs : ahead ≡ false → S.task ≡ 255 → ⊥
     behind_runs f t = go stands
       where
         positive : 0 < speed
@@ -306,7 +313,7 @@ module _ {held : List ℕ} {levels : ℕ} {b : List ℕ} {count clock level spee
             (sym (at_every (entry_ahead speed) S.entries no_entry (λ i h. closed i h (z i (omega (arith, length-plan_in S))))) ∙ sym ahead_is ∙ f)
         go (runs r) = omega (arith, r.below, timing_count b, k.admitted.holds.few)
 
-    module _ {p : Bool} (q : p ≡ pick found.ahead true (fits_gap table_speeds (timing_in table_speeds b) (view_of S))) where
+    module _ {p : Bool} (q : p ≡ pick ahead true (fits_gap table_speeds (timing_in table_speeds b) (view_of S))) where
       pace_is : p ≡ state_sound table_speeds S
       pace_is =
           q
@@ -314,19 +321,16 @@ module _ {held : List ℕ} {levels : ℕ} {b : List ℕ} {count clock level spee
           (ahead_is ∙ ap (λ (v : ℕ). every (entry_ahead v) S.entries) (speed_nominal k.admitted))
           ∙ sym (pace_decides table_speeds S plan_well_lem nominal_well (sym (e ∙ order_is) ∙ y))
 
-      pub admitted_pace : p ≡ false → {r : Tested} → r ≡ tested_by [] false [] → r ≡ tested_by table_speeds (state_sound table_speeds S) b
-      admitted_pace f g = tested_not table_speeds b g (sym pace_is ∙ f)
+      pub admitted_pace : p ≡ false → state_sound table_speeds S ≡ false
+      admitted_pace f = sym pace_is ∙ f
 
       pub admitted_sound :
           p ≡ true →
           {keys : List ℕ} {next : ℕ} →
           keys ≡ keys_in b count clock →
           next ≡ next_arrival (timing_in table_speeds b) S.clock →
-          ◌≡◌ {A = Tested} (record { sound = true; next = next; nominal = level; keys = keys }) (tested_by table_speeds (state_sound table_speeds S) b)
-      admitted_sound t {keys} {next} m n =
-          let r : ◌≡◌ {A = Tested} (record { sound = true; next = next; nominal = level; keys = keys }) (tested_by table_speeds true b) =
-          λ i. record { sound = true; next = n i; nominal = k.admitted.level_is i; keys = keys_are k.admitted m i } in
-          r ∙ ap (λ (x : Bool). tested_by table_speeds x b) (sym t ∙ pace_is)
+          TestedBlock table_speeds (state_sound table_speeds S) b (record { next = next; nominal = level; keys = keys })
+      admitted_sound t m n = record { sound = sym pace_is ∙ t; next = n; nominal = k.admitted.level_is; keys = keys_are k.admitted m }
 
 -- a job that runs, by the order that stands, and the next arrival
 pub record Running (speeds b : List ℕ) (count next : ℕ) (c : Choice) : Type 0 where
@@ -351,9 +355,6 @@ module _ {speeds b : List ℕ} {count next : ℕ} {c : Choice} (k : Running spee
       k.arrival
       ∙ sym (ap (λ (t : Bool). pick t true gap) behind)
 
-  pub gap_short : next < c.time → false ≡ pick ahead true gap
-  gap_short h = gap_decides (sym (ap (both lone) (lt-leb c.time next h) ∙ both_false lone))
-
   pub gap_alone : c.time ≤ next → {i : ℕ} → i ≡ c.task → {found : Bool} → found ≡ not (other_in b count i) → found ≡ pick ahead true gap
   gap_alone h {i} t e =
       gap_decides
@@ -363,16 +364,16 @@ module _ {speeds b : List ℕ} {count next : ℕ} {c : Choice} (k : Running spee
       ∙ sym (ap (both lone) (le-leb c.time next h) ∙ both_yes lone))
 
 -- the number that a verdict is of
-refused_number : (n k : ℕ) (v : Verdict) (speeds : List ℕ) (ts : List Task) → v ≡ answered n speeds ts → v ≡ verdict.Refused k → 0 < n
+refused_number : (n k : ℕ) (v : Verdict) (speeds : List ℕ) (ts : List Task) → v ≡ answered n speeds ts → v ≡ refused k → 0 < n
 refused_number zero k v speeds ts a r = let z : ◌≡◌ {A = ℕ} 0 1 = cc in absurd (omega arith)
 refused_number (suc n) k v speeds ts a r = omega arith
 
 admitted_number :
     (n level span : ℕ) (v : Verdict) (speeds : List ℕ) (ts : List Task) →
     v ≡ answered n speeds ts →
-    v ≡ verdict.Admitted level span →
+    v ≡ accepted_with level span →
     (n ≡ 0) × (level ≡ nominal speeds ts)
-admitted_number zero level span v speeds ts a r = (refl, cc)
+admitted_number zero level span v speeds ts a r = (refl, ap level_told (sym r ∙ a))
 admitted_number (suc n) level span v speeds ts a r = let z : ◌≡◌ {A = ℕ} 0 1 = cc in absurd (omega arith)
 
 -- a block of some tasks with its plan and the plan's verdict
@@ -393,78 +394,43 @@ module _ {speeds b : List ℕ} {count : ℕ} {p : Plan} {v : Verdict} (k : Judge
       ∙ ap (λ (l : List Task). answered (first_no (task_questions speeds l)) speeds l)
       (ap tasks_of k.plan ∙ tasks_of-plan_of us)
 
-  pub plan_refused : {n : ℕ} → v ≡ verdict.Refused n → {r : Tested} → r ≡ tested_by [] false [] → r ≡ tested_by speeds (timed_sound speeds (decode b)) b
-  plan_refused {n} e f =
+  pub plan_refused : {n : ℕ} → v ≡ refused n → timed_sound speeds (decode b) ≡ false
+  plan_refused {n} e =
       let counted : length (decode b).entries ≡ state_count b = count_in_lem b in
       let some-no : 0 < first_no (task_questions speeds us) = refused_number (first_no (task_questions speeds us)) n v speeds us verdict_is e in
       let good : first_no (judging speeds (length (decode b).entries) us) ≡ first_no (task_questions speeds us) =
       count_good speeds us (length (decode b).entries) (omega (arith, k.same, k.some)) (omega (arith, k.holds.few)) in
-      tested_not speeds b f
-      (both_not (in_time (decode b).clock) (state_sound speeds (decode b)) (plan_not speeds (decode b) (subst (λ (m : ℕ). 0 < m) (sym good) some-no)))
+      both_not (in_time (decode b).clock) (state_sound speeds (decode b)) (plan_not speeds (decode b) (subst (λ (m : ℕ). 0 < m) (sym good) some-no))
 
-  pub plan_admitted : {level span : ℕ} → v ≡ verdict.Admitted level span → (first_no (task_questions speeds us) ≡ 0) × (level ≡ nominal speeds us)
+  pub plan_admitted : {level span : ℕ} → v ≡ accepted_with level span → (first_no (task_questions speeds us) ≡ 0) × (level ≡ nominal speeds us)
   plan_admitted {level} {span} e =
       admitted_number (first_no (task_questions speeds us)) level span v speeds us verdict_is e
 
--- a clock that is out of range, or in it
-module _ (speeds b : List ℕ) {clock : ℕ} (c : clock ≡ (decode b).clock) where
-  in_time_lem : {t : Bool} → leb clock largest_clock ≡ t → in_time (decode b).clock ≡ t
-  in_time_lem f = ap (λ (n : ℕ). leb n largest_clock) (sym c) ∙ f
-
-  pub clock_refused : {r : Tested} → leb clock largest_clock ≡ false → r ≡ tested_by [] false [] → r ≡ tested_by speeds (timed_sound speeds (decode b)) b
-  clock_refused f e = tested_not speeds b e (ap (λ (t : Bool). both t (state_sound speeds (decode b))) (in_time_lem f))
-
-  pub clock_accepted :
-      {r : Tested} →
-      leb clock largest_clock ≡ true → r ≡ tested_by speeds (state_sound speeds (decode b)) b → r ≡ tested_by speeds (timed_sound speeds (decode b)) b
-  clock_accepted f e = e ∙ ap (λ (t : Bool). tested_by speeds t b) (sym (ap (λ (t : Bool). both t (state_sound speeds (decode b))) (in_time_lem f)))
-
 -- a block, by each way out
-abbrev Right : List ℕ → List ℕ → Tested → Type 0
-Right speeds bytes r = r ≡ tested_by speeds (sound_at speeds bytes) bytes
+module _ (speeds bytes : List ℕ) where
+  count_not : first_no (judging speeds (length (decode bytes).entries) (plan_in (decode bytes))) ≡ 3 → sound_at speeds bytes ≡ false
+  count_not e =
+      both_not (laid_out bytes) (timed_sound speeds (decode bytes))
+      (both_not (in_time (decode bytes).clock) (state_sound speeds (decode bytes)) (plan_not speeds (decode bytes) (omega arith)))
 
-module _ (speeds bytes : List ℕ) {r : Tested} where
-  pub layout_not : laid_out bytes ≡ false → r ≡ tested_by [] false [] → Right speeds bytes r
-  layout_not n f = tested_not speeds bytes f (ap (λ (t : Bool). both t (timed_sound speeds (decode bytes))) n)
-
-  count_not : first_no (judging speeds (length (decode bytes).entries) (plan_in (decode bytes))) ≡ 3 → r ≡ tested_by [] false [] → Right speeds bytes r
-  count_not e f =
-      tested_not speeds bytes f
-      (both_not (laid_out bytes) (timed_sound speeds (decode bytes))
-      (both_not (in_time (decode bytes).clock) (state_sound speeds (decode bytes)) (plan_not speeds (decode bytes) (omega arith))))
-
-  pub count_none : state_count bytes < 1 → r ≡ tested_by [] false [] → Right speeds bytes r
+  pub count_none : state_count bytes < 1 → sound_at speeds bytes ≡ false
   count_none h =
       count_not (count_low speeds (plan_in (decode bytes)) (length (decode bytes).entries) (omega (arith, count_in_lem bytes)))
 
-  pub count_above : places < state_count bytes → r ≡ tested_by [] false [] → Right speeds bytes r
+  pub count_above : places < state_count bytes → sound_at speeds bytes ≡ false
   count_above h =
       count_not (count_high speeds (plan_in (decode bytes)) (length (decode bytes).entries) (omega (arith, count_in_lem bytes)))
 
-  pub state_tested : laid_out bytes ≡ true → r ≡ tested_by speeds (timed_sound speeds (decode bytes)) bytes → Right speeds bytes r
-  state_tested y e =
-      e ∙ ap (λ (t : Bool). tested_by speeds t bytes) (sym (ap (λ (t : Bool). both t (timed_sound speeds (decode bytes))) y))
-
 -- what a caller reads off the answer
-module _ (speeds bytes : List ℕ) (r : Tested) (e : r ≡ tested_by speeds (sound_at speeds bytes) bytes) where
-  sound_field : (b : Bool) → (tested_by speeds b bytes).sound ≡ b
-  sound_field true = refl
-  sound_field false = refl
-
-  pub tested_sound : r.sound ≡ sound_at speeds bytes
-  tested_sound = ap (λ (x : Tested). x.sound) e ∙ sound_field (sound_at speeds bytes)
-
-  pub tested_good : Rising speeds → r.sound ≡ true → Good speeds bytes r.keys r.nominal
-  tested_good rising t =
-      let ok : sound_at speeds bytes ≡ true = sym tested_sound ∙ t in
-      let is : tested_by speeds true bytes ≡ r = sym (e ∙ ap (λ (x : Bool). tested_by speeds x bytes) ok) in
-      subst (λ (x : Tested). Good speeds bytes x.keys x.nominal) is
-      record {
-        sound = ok;
-        holds = sound_holds speeds rising bytes ok;
-        keyed = keyed_in speeds bytes (sound_plan_yes speeds rising bytes ok) (sound_holds speeds rising bytes ok).few (sound_clock speeds bytes ok);
-        nominal = refl;
-      }
-
-  pub tested_next : r.sound ≡ true → r.next ≡ next_arrival (timing_in speeds bytes) (decode bytes).clock
-  tested_next t = ap (λ (x : Tested). x.next) (e ∙ ap (λ (x : Bool). tested_by speeds x bytes) (sym tested_sound ∙ t))
+pub tested_good :
+    {speeds bytes : List ℕ} {t : Tested} → Rising speeds → TestedBlock speeds (sound_at speeds bytes) bytes t → Good speeds bytes t.keys t.nominal
+tested_good {speeds} {bytes} rising k =
+    let holds : Holds bytes = sound_holds speeds rising bytes k.sound in
+    record {
+      sound = k.sound;
+      holds = holds;
+      keyed =
+          subst (Keyed (timing_in speeds bytes) (decode bytes).clock) (sym k.keys)
+          (keyed_in speeds bytes (sound_plan_yes speeds rising bytes k.sound) holds.few (sound_clock speeds bytes k.sound));
+      nominal = k.nominal;
+    }

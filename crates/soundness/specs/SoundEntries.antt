@@ -7,6 +7,7 @@ use Rattle.reclaiming.specs.declared.Entry.{Entry}
 use Rattle.reclaiming.specs.StateBlock.{State}
 use Rattle.reclaiming.specs.Questions.{entry_sound, entry_ahead, total_sound}
 use Rattle.soundness.specs.declared.entries.Entries.{Entries}
+use Rattle.soundness.specs.declared.entries.Entries.TheVariants.{NotSound, Behind, Ahead}
 
 -- whether what is left of a job is sound, beside a whole one
 abbrev pub rest_sound : Rest → Rest → Bool
@@ -24,7 +25,7 @@ entries_pass ahead speed s = both (every (entry_passes ahead speed) s.entries) (
 
 -- what testing the entries finds: whether each is sound and they come to the total and, if so, whether each is ahead
 abbrev pub entries_by : Bool → Bool → Entries
-entries_by sound ahead = record { sound = sound; ahead = both sound ahead }
+entries_by sound ahead = pick sound (pick ahead Ahead Behind) NotSound
 
 abbrev pub entries_tested : ℕ → State → Entries
 entries_tested speed s =

@@ -7,11 +7,15 @@ ghost use Rattle.soundness.specs.SoundEntries.{rest_sound, entry_passes, entries
 use plan::Rest;
 use state::{remaining_at, rest_at, task_at, total_at};
 
-// What was found of the entries: whether each is sound and they come to the total, and whether each job can be done at the nominal speed in its remaining ticks.
-#[derive(Clone, Copy)]
-pub struct Entries {
-    pub sound: bool,
-    pub ahead: bool,
+// What was found of the entries and their total.
+#[derive(Clone, Copy, Debug, PartialEq, Eq)]
+pub enum Entries {
+    // An entry is not sound, or they do not come to the total.
+    NotSound,
+    // All are sound, but some job needs more than its remaining ticks at the nominal speed.
+    Behind,
+    // All are sound, and each job's remaining ticks are enough for it at the nominal speed.
+    Ahead,
 }
 
 // Whether no more is left of a job than of a whole one, and no fixed ticks where it has finished.
@@ -57,13 +61,11 @@ fn entries_pass(block: &[u8], count: usize, speed: u32, ahead: bool) -> bool
     ensures { result ≡ entries_pass ahead speed (decode block.now) }
 {
     let mut sum: u32 = 0;
-    let mut i: usize = 0;
-    while i < count {
+    for i in 0..count {
         if !entry_passes(block, i, speed, ahead) {
             return false;
         }
         sum += remaining_at(block, i);
-        i += 1;
     }
     total_at(block) == sum
 }
@@ -75,14 +77,10 @@ pub fn entries_sound(block: &[u8], count: usize, speed: u32) -> Entries
     ensures { result ≡ entries_tested speed (decode block.now) }
 {
     if entries_pass(block, count, speed, true) {
-        return Entries {
-            sound: true,
-            ahead: true,
-        };
+        return Entries::Ahead;
     }
-    let sound = entries_pass(block, count, speed, false);
-    Entries {
-        sound,
-        ahead: false,
+    if entries_pass(block, count, speed, false) {
+        return Entries::Behind;
     }
+    Entries::NotSound
 }

@@ -4,9 +4,9 @@
 mod entries;
 mod order;
 
-ghost use Rattle.std.specs.Prelude.{◌≡◌, true, false, [], ◌≤◌, length};
+ghost use Rattle.std.specs.Prelude.{◌≡◌, true, false, ◌≤◌, length, MatchOption};
 ghost use Rattle.plan.specs.Levels.{nominal};
-ghost use Rattle.levels.specs.Code.{loaded, Table};
+ghost use Rattle.levels.specs.Held.{speeds_of};
 ghost use Rattle.plan.specs.Questions.{task_questions};
 ghost use Rattle.arith.specs.Choice.{pick};
 ghost use Rattle.arith.specs.Asking.{first_no};
@@ -18,22 +18,22 @@ ghost use Rattle.reclaiming.specs.States.{view_of};
 ghost use Rattle.reclaiming.specs.Questions.{fits_gap, state_sound, sound_at};
 ghost use Rattle.state.specs.Code.{Holds, timing_in};
 ghost use Rattle.orders.specs.Code.{Runnable};
-ghost use Rattle.soundness.specs.Code.{timed_sound, tested_by};
+ghost use Rattle.soundness.specs.Code.{timed_sound, TestedBlock};
 
-use crate::entries::entries_sound;
+use crate::entries::{Entries, entries_sound};
 use crate::order::order_sound;
+use levels::table::SpeedTable;
 use orders::lone::is_lone;
 use orders::standing;
-use plan::{Plan, Verdict};
+use plan::Plan;
 use state::clock::Clock;
 use state::layout::laid_out;
 use state::{COUNT_AT, PLACES, clock_at, task_at};
 use urgency::{keys_of, next_arrival};
 
-// A block that was tested: whether it is sound and, if so, its nominal level, the keys of its jobs and the ticks to the next arrival.
+// What the test of a sound block tells: its nominal level, the keys of its jobs and the ticks to the next arrival.
 #[derive(Clone, Copy)]
 pub struct Tested {
-    pub sound: bool,
     pub next: u32,
     pub nominal: usize,
     pub keys: [u64; PLACES],
@@ -46,126 +46,100 @@ fn plan_of(block: &[u8], count: usize) -> Plan
 {
     let mut p = judging::verdicts::empty_plan();
     p.count = count;
-    let mut i: usize = 0;
-    while i < count {
+    for i in 0..count {
         p.tasks[i] = task_at(block, i);
-        i += 1;
     }
     p
 }
 
-// The answer to a block that is not sound: nothing is in it.
-fn not_sound() -> Tested
-    ensures { result ≡ tested_by [] false [] }
-{
-    Tested {
-        sound: false,
-        next: 0,
-        nominal: 0,
-        keys: [0; PLACES],
-    }
-}
-
 // Whether a state keeps up: every job is ahead, or the one that runs is the only open one and can be done by the next arrival.
-fn keeps_up(
-    speeds: &[u32; 8],
-    levels: usize,
-    block: &[u8],
-    count: usize,
-    next: u32,
-    ahead: bool,
-) -> bool
-    requires table { Table speeds.now levels × Holds block.now × (count ≡ state_count block.now) }
-    requires runnable { Runnable levels (decode block.now) × (ahead ≡ false → (decode block.now).task ≡ 255 → ⊥) }
-    requires next_value { next ≡ next_arrival (timing_in (loaded speeds.now levels) block.now) (decode block.now).clock }
-    ensures { result ≡ pick ahead true (fits_gap (loaded speeds.now levels)
-        (timing_in (loaded speeds.now levels) block.now)
+fn keeps_up(table: &SpeedTable, block: &[u8], count: usize, next: u32, ahead: bool) -> bool
+    requires holds { Holds block.now × (count ≡ state_count block.now) }
+    requires runnable { Runnable table.now.levels (decode block.now) × (ahead ≡ false → (decode block.now).task ≡ 255 → ⊥) }
+    requires next_value { next ≡ next_arrival (timing_in (speeds_of table.now) block.now) (decode block.now).clock }
+    ensures { result ≡ pick ahead true (fits_gap (speeds_of table.now)
+        (timing_in (speeds_of table.now) block.now)
         (view_of (decode block.now))) }
 {
     if ahead {
         return true;
     }
-    let c = standing(speeds, levels, block);
+    let c = standing(table, block);
     if c.time > next {
         return false;
     }
     is_lone(block, count, c.task as usize)
 }
 
-// A block that is laid out, whose clock is in range and whose plan is admitted at a nominal level.
+// A block that is laid out, whose clock is in range and whose plan is admitted at a nominal level. Built into its caller it would take
+// some 370 bytes more of the stack: its keys would be kept several times over.
+#[inline(never)]
 fn test_admitted(
-    speeds: &[u32; 8],
-    levels: usize,
+    table: &SpeedTable,
     block: &[u8],
     count: usize,
     clock: u32,
     level: usize,
-) -> Tested
-    requires table { Table speeds.now levels × Holds block.now × (count ≡ state_count block.now) × (1 ≤ count) }
+) -> Option<Tested>
+    requires holds { Holds block.now × (count ≡ state_count block.now) × (1 ≤ count) }
     requires clock_value { (clock ≡ (decode block.now).clock) × (clock ≤ largest_clock) }
-    requires block_value { (first_no (task_questions (loaded speeds.now levels) (plan_in (decode block.now))) ≡ 0) × (level ≡ nominal (loaded speeds.now levels) (plan_in (decode block.now))) }
-    ensures { result ≡ tested_by (loaded speeds.now levels)
-        (state_sound (loaded speeds.now levels) (decode block.now))
-        block.now }
+    requires block_value { (first_no (task_questions (speeds_of table.now) (plan_in (decode block.now))) ≡ 0) × (level ≡ nominal (speeds_of table.now) (plan_in (decode block.now))) }
+    ensures { MatchOption result (state_sound (speeds_of table.now) (decode block.now) ≡ false)
+        (λ t. TestedBlock (speeds_of table.now) (state_sound (speeds_of table.now) (decode block.now)) block.now t) }
 {
-    let entries = entries_sound(block, count, speeds[level]);
-    if !entries.sound {
-        return not_sound();
-    }
+    let ahead = match entries_sound(block, count, table.speeds[level]) {
+        Entries::NotSound => return None,
+        Entries::Behind => false,
+        Entries::Ahead => true,
+    };
     let keys = keys_of(block, count, clock);
     let next = next_arrival(&keys, count, clock);
-    if !order_sound(speeds, levels, block, &keys, count, level, next) {
-        return not_sound();
+    if !order_sound(table, block, &keys, count, level, next) {
+        return None;
     }
-    if !keeps_up(speeds, levels, block, count, next, entries.ahead) {
-        return not_sound();
+    if !keeps_up(table, block, count, next, ahead) {
+        return None;
     }
-    Tested {
-        sound: true,
+    Some(Tested {
         next,
         nominal: level,
         keys,
-    }
+    })
 }
 
 // A block that is laid out, of at least one task.
-fn test_state(speeds: &[u32; 8], levels: usize, block: &[u8], count: usize) -> Tested
-    requires { Table speeds.now levels × Holds block.now × (count ≡ state_count block.now) × (1 ≤ count) }
-    ensures { result ≡ tested_by (loaded speeds.now levels)
-        (timed_sound (loaded speeds.now levels) (decode block.now))
-        block.now }
+fn test_state(table: &SpeedTable, block: &[u8], count: usize) -> Option<Tested>
+    requires { Holds block.now × (count ≡ state_count block.now) × (1 ≤ count) }
+    ensures { MatchOption result (timed_sound (speeds_of table.now) (decode block.now) ≡ false)
+        (λ t. TestedBlock (speeds_of table.now) (timed_sound (speeds_of table.now) (decode block.now)) block.now t) }
 {
     let clock = Clock::new(clock_at(block));
     if !clock.in_range() {
-        return not_sound();
+        return None;
     }
     let p = plan_of(block, count);
-    let v = judging::admission::verdict_of(speeds, levels, p);
+    let v = judging::admission::verdict_of(table, p);
     match v {
-        Verdict::Refused(_) => not_sound(),
-        Verdict::Admitted {
-            nominal,
-            hyperperiod: _,
-        } => test_admitted(speeds, levels, block, count, clock.ticks, nominal),
+        Err(_) => None,
+        Ok(admission) => test_admitted(table, block, count, clock.ticks, admission.nominal),
     }
 }
 
-// A block of a state's length tested: whether it is sound and, if so, its nominal level and its keys.
-pub fn test_block(speeds: &[u32; 8], levels: usize, block: &[u8]) -> Tested
-    requires { Table speeds.now levels × (length block.now ≡ state_length) }
-    ensures { result ≡ tested_by (loaded speeds.now levels)
-        (sound_at (loaded speeds.now levels) block.now)
-        block.now }
+// A block of a state's length tested: where it is sound, its nominal level, its keys and the ticks to the next arrival.
+pub fn test_block(table: &SpeedTable, block: &[u8]) -> Option<Tested>
+    requires { length block.now ≡ state_length }
+    ensures { MatchOption result (sound_at (speeds_of table.now) block.now ≡ false)
+        (λ t. TestedBlock (speeds_of table.now) (sound_at (speeds_of table.now) block.now) block.now t) }
 {
     let count = block[COUNT_AT] as usize;
     if count < 1 {
-        return not_sound();
+        return None;
     }
     if count > PLACES {
-        return not_sound();
+        return None;
     }
     if !laid_out(block) {
-        return not_sound();
+        return None;
     }
-    test_state(speeds, levels, block, count)
+    test_state(table, block, count)
 }

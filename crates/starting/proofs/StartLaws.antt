@@ -11,7 +11,7 @@ use Rattle.arith.specs.Choice.{pick}
 use Rattle.plan.specs.declared.Task.{Task}
 use Rattle.plan.specs.declared.Plan.{Plan}
 use Rattle.plan.specs.declared.Judged.{Judged}
-use Rattle.plan.specs.declared.Verdict.TheVariants as verdict
+use Rattle.plan.specs.Counted.{refused}
 use Rattle.plan.specs.Times.{whole, time_of}
 use Rattle.plan.specs.Levels.{Rising, speed_of, nominal}
 use Rattle.plan.specs.LevelBlocks.{loading, speeds_in}
@@ -274,7 +274,7 @@ module _ (speeds block pairs : List ℕ) where
   pub start_unread :
       (buffer : List ℕ) {j : Judged} {n : ℕ} →
       j ≡ judged_by read_number speeds (tasks_in block) →
-      j.verdict ≡ verdict.Refused n →
+      j.verdict ≡ refused n →
       Left speeds block pairs buffer (reply.Refused n) buffer
   start_unread buffer {n = n} read told =
       let f : Refusal read_number n = judged_refused speeds read_number (tasks_in block) read told in

@@ -40,8 +40,7 @@ pub fn fresh(speeds: &[u32; 8], levels: usize, p: Plan, speed: u32) -> [u8; STAT
     let count = p.count;
     let mut image = blank(speeds, levels, count);
     let mut total: u32 = 0;
-    let mut i: usize = 0;
-    while i < count {
+    for i in 0..count {
         let t = p.tasks[i];
         let rest = times::whole_of(t);
         let remaining = times::task_time(speed, t);
@@ -56,7 +55,6 @@ pub fn fresh(speeds: &[u32; 8], levels: usize, p: Plan, speed: u32) -> [u8; STAT
         };
         put_entry(&mut image, i, e);
         total += remaining;
-        i += 1;
     }
     put_total(&mut image, total);
     image

@@ -10,7 +10,7 @@ use native.Mathlib.Decide.{ℕ_discrete}
 use native.Mathlib.Omega.{arith}
 use borrow.Author.Tests.{eq-eqb, ne_eqb}
 use lib.ListN.{length, get_or, take, drop, set, replicate, length-append, length-set, length-replicate, replicate-append-replicate}
-use lib.Seq.{sets, length-sets, drop-drop, get_or-drop, length-take-le, take_all, take-length, take-suc, get_or-set_same, get_or-set_other, paste, paste-suc}
+use lib.Seq.{sets, length-sets, drop-drop, get_or-drop, length-take-le, take-length, take-suc, get_or-set_same, get_or-set_other}
 use Rattle.arith.specs.Digits.{number, digits}
 use Rattle.arith.specs.Choice.{pick}
 use Rattle.arith.proofs.Sums.{sum_to_eq}
@@ -198,37 +198,6 @@ pub stored_all : (s : State) (i : ℕ) → i ≡ length s.entries → stored_to 
 stored_all s i e =
     ap (λ (k : ℕ). stored_to s k) e
     ∙ ap (λ (x : List Entry). fields_bytes head_fields s ++ (entries_bytes x ++ past_entries s)) (take-length s.entries)
-
--- an image of a state is copied to the front of a buffer: its first i bytes stand there
-pub record CopiedTo (image found buffer : List ℕ) (i : ℕ) : Type 0 where
-  pub size : length image ≡ state_length
-  pub room : state_length ≤ length found
-  pub below : i ≤ state_length
-  pub kept : length buffer ≡ length found
-  pub bytes : buffer ≡ paste found 0 image i
-
-pub copy_none : (image found : List ℕ) → length image ≡ state_length → state_length ≤ length found → CopiedTo image found found 0
-copy_none image found size room = record { size = size; room = room; below = omega arith; kept = refl; bytes = refl }
-
-module _ {image found buffer : List ℕ} {i : ℕ} (so_far : CopiedTo image found buffer i) where
-  pub copy_more : i < state_length → CopiedTo image found (set buffer i (get_or image i 0)) (i + 1)
-  copy_more h =
-      let z : i ≡ 0 + i = omega arith in
-      record {
-        size = so_far.size;
-        room = so_far.room;
-        below = omega arith;
-        kept = length-set buffer i (get_or image i 0) ∙ so_far.kept;
-        bytes =
-            ap₂ (λ (l : List ℕ) (k : ℕ). set l k (get_or image i 0)) so_far.bytes z
-            ∙ paste-suc found 0 image i 0 (omega (arith, so_far.room)) (omega (arith, so_far.size))
-            ∙ sym (ap (λ (k : ℕ). paste found 0 image k) (add-one i));
-      }
-
-  pub copy_all : state_length ≤ i → buffer ≡ image ++ drop state_length found
-  copy_all h =
-      let z : 0 + i ≡ state_length = omega (arith, so_far.below) in
-      so_far.bytes ∙ ap₂ (λ (l : List ℕ) (k : ℕ). l ++ drop k found) (take_all i image (omega (arith, so_far.size))) z
 
 -- the bytes of entries from entry i on
 from_entry :

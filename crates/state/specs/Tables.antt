@@ -1,23 +1,23 @@
 -- The table of speeds in a state block, as the code holds it and stores it.
 -- Assumes nothing.
-use Rattle.std.specs.Prelude.{ℕ, ◌≡◌, Bool, true, false, List, [], eqb, length}
-use Rattle.arith.specs.Arrays.{padded}
+use Rattle.std.specs.Prelude.{ℕ, ◌≡◌, Bool, true, List, [], eqb, length}
 use Rattle.arith.specs.Choice.{both}
 use Rattle.arith.specs.Ranges.{list_to}
 use Rattle.plan.specs.LevelBlocks.{table_good}
+use Rattle.levels.specs.declared.table.SpeedTable.{SpeedTable}
 use Rattle.levels.specs.Code.{loaded, Table}
 use Rattle.reclaiming.specs.Fields.{fields_bytes}
 use Rattle.reclaiming.specs.StateBlock.{State, level_places, tail_fields, state_length, level_count, speed_in, decode}
-use Rattle.state.specs.declared.tables.OwnTable.{OwnTable}
 
 -- whether a block has a state's length and a table that may be loaded
 abbrev pub own_table : List ℕ → Bool
 own_table bytes = both (eqb (length bytes) state_length) (table_good (decode bytes).speeds)
 
--- its table, with the numbers at all places; or none, and zeros
-abbrev pub table_by : Bool → List ℕ → OwnTable
-table_by false bytes = record { levels = 0; speeds = padded 8 0 [] }
-table_by true bytes = record { levels = level_count bytes; speeds = list_to level_places (speed_in bytes) }
+-- its table, with the numbers at all places
+pub record OwnTable (bytes : List ℕ) (t : SpeedTable) : Type 0 where
+  pub good : own_table bytes ≡ true
+  pub levels : t.levels ≡ level_count bytes
+  pub speeds : t.speeds ≡ list_to level_places (speed_in bytes)
 
 -- numbers and a count that are a block's own table, where the block has one
 pub record Owns (bytes held : List ℕ) (levels : ℕ) : Type 0 where

@@ -13,12 +13,10 @@ fn unused_zero(block: &[u8]) -> bool
     requires { length block.now ≡ state_length }
     ensures { result ≡ unused_zero block.now }
 {
-    let mut k = levels_at(block);
-    while k < LEVEL_PLACES {
+    for k in levels_at(block)..LEVEL_PLACES {
         if speed_at(block, k) != 0 {
             return false;
         }
-        k += 1;
     }
     true
 }
@@ -29,10 +27,8 @@ fn zero_from(block: &[u8], at: usize) -> bool
     ensures { result ≡ every (eqb 0) (drop at (take tail_at block.now)) }
 {
     let mut sum: u32 = 0;
-    let mut i: usize = at;
-    while i < TAIL_AT {
-        sum += numeric::wide(block[i]);
-        i += 1;
+    for byte in &block[at..TAIL_AT] {
+        sum += u32::from(*byte);
     }
     sum == 0
 }

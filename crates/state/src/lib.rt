@@ -89,6 +89,9 @@ pub const TOTAL_WIDTH: usize = 4;
 
 pub const STATE_LENGTH: usize = TOTAL_AT + TOTAL_WIDTH;
 
+// The number of a state that is not sound.
+pub const UNSOUND: u32 = 10;
+
 // The clock of a block.
 pub fn clock_at(block: &[u8]) -> u32
     requires { length block.now ≡ state_length }

@@ -66,9 +66,5 @@ pub fn store(buffer: &mut [u8], image: &[u8])
     requires { (length image.now ≡ state_length) × (state_length ≤ length buffer.old) }
     ensures { buffer.new ≡ image.now ++ drop state_length buffer.old }
 {
-    let mut i: usize = 0;
-    while i < STATE_LENGTH {
-        buffer[i] = image[i];
-        i += 1;
-    }
+    buffer[..STATE_LENGTH].copy_from_slice(image);
 }

@@ -2,8 +2,8 @@
 ghost use Rattle.std.specs.Prelude.{◌≡◌, ◌-◌};
 ghost use Rattle.reclaiming.specs.Calls.{queued_reply};
 
-use crate::{STATE_LENGTH, total_at};
-use reclaiming::Queued;
+use crate::{STATE_LENGTH, UNSOUND, total_at};
+use plan::Refused;
 
 // What d ticks leave of a total: they take no more than there is.
 pub fn left_of(total: u32, d: u32) -> u32
@@ -16,11 +16,11 @@ pub fn left_of(total: u32, d: u32) -> u32
 }
 
 // The total of a state, sound or not: 10 where it has not a state's length.
-pub fn queued(state: &[u8]) -> Queued
+pub fn queued(state: &[u8]) -> Result<u32, Refused>
     ensures { result ≡ queued_reply state.now }
 {
     if state.len() != STATE_LENGTH {
-        return Queued::Refused(10);
+        return Err(Refused { number: UNSOUND });
     }
-    Queued::Ticks(total_at(state))
+    Ok(total_at(state))
 }

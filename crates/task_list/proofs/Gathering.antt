@@ -1,13 +1,12 @@
 -- A list of tasks put into a plan, one after the other.
 -- Assumes nothing.
-use Prim.Native.Nat.{ℕ, suc, ◌+◌, ◌-◌, ◌*◌, ◌^◌, ◌<◌, ◌≤◌, min}
+use Prim.Native.Nat.{ℕ, suc, ◌+◌, ◌<◌, ◌≤◌, min}
 use mathlib.Core.Path.{◌≡◌, refl, sym, ap, ap₂, ◌∙◌}
 use mathlib.Core.List.{List, [], ◌∷◌, ◌++◌, append-nil}
-use native.Mathlib.Numerals.{add-one}
 use native.Mathlib.Omega.{arith}
 use native.Mathlib.Decide.{dec_le, ℕ_discrete}
-use lib.ListN.{length, set, get_or, take, drop, length-set}
-use lib.Seq.{drop-cons, drop-length, set_out, take-suc-set, append_snoc}
+use lib.ListN.{length, set, take, length-set}
+use lib.Seq.{take-suc-set, append_snoc}
 use Rattle.plan.specs.declared.Task.{Task}
 use Rattle.plan.specs.declared.Plan.{Plan}
 use Rattle.plan.specs.Blocks.{tasks_of, plan_of}
@@ -19,40 +18,7 @@ use Rattle.plan.specs.Answers.{judged_list, judged_plan}
 use Rattle.task_list.specs.Lists.{put_task, gathered_from}
 use Rattle.judging.proofs.verdicts.Judgements.{count_high, refused_as}
 
--- the two ways out of `put`
-pub put_stored : (p : Plan) (t : Task) → p.count < 16 → ◌≡◌ {A = Plan} (record { count = p.count + 1; tasks = set p.tasks p.count t }) (put_task p t)
-put_stored p t h =
-    let e : p.count + 1 ≡ min (suc p.count) 17 = omega arith in
-    λ i. record { count = e i; tasks = set p.tasks p.count t }
-
-pub put_counted : (p : Plan) (t : Task) → length p.tasks ≡ 16 → 16 ≤ p.count → ◌≡◌ {A = Plan} (record { count = 17; tasks = p.tasks }) (put_task p t)
-put_counted p t size h =
-    let e : 17 ≡ min (suc p.count) 17 = omega arith in
-    let s : p.tasks ≡ set p.tasks p.count t = sym (set_out p.tasks p.count t (omega arith)) in
-    λ i. record { count = e i; tasks = s i }
-
--- ---- the loop of `gathered`
--- what is left to put, where i tasks have been put: at a place below the length, and at the end
-pub gathered_more : (p : Plan) (ts : List Task) (i : ℕ) (d : Task) → i < length ts → gathered_from p (drop i ts) ≡ gathered_from (put_task p (get_or ts i d)) (drop (i + 1) ts)
-gathered_more p ts i d h = ap (λ (l : List Task). gathered_from p l) (drop-cons ts i d h) ∙ ap (λ (k : ℕ). gathered_from (put_task p (get_or ts i d)) (drop k ts)) (sym (add-one i))
-
-pub gathered_end : (p : Plan) (ts : List Task) (i : ℕ) → i ≤ length ts → length ts ≤ i → gathered_from p (drop i ts) ≡ p
-gathered_end p ts i h g =
-    let e : i ≡ length ts = omega arith in
-    ap (λ (k : ℕ). gathered_from p (drop k ts)) e ∙ ap (λ (l : List Task). gathered_from p l) (drop-length ts)
-
--- the offset of a place, a task being 16 bytes, and the next place, are machine words; the loop comes nearer to its end
-pub place_fits : (n i : ℕ) → n * 16 < 2 ^ 63 → i < n → i * 16 < 2 ^ 64
-place_fits n i h g = omega arith
-
-pub next_fits : (n i : ℕ) → n < 2 ^ 64 → i < n → i + 1 < 2 ^ 64
-next_fits n i h g = omega arith
-
-pub nearer : (n i : ℕ) → i < n → n - (i + 1) < n - i
-nearer n i h = omega arith
-
--- ---- a gathered list judged
--- the count, and up to 16 the tasks
+-- a gathered list: its count, and up to 16 its tasks
 gathered_count : (p : Plan) (ts : List Task) → p.count ≤ 17 → (gathered_from p ts).count ≡ min (p.count + length ts) 17
 gathered_count p [] h = omega arith
 gathered_count p (t ∷ ts) h =

@@ -30,10 +30,8 @@ pub fn gathered(tasks: &[Task]) -> Plan
     ensures { result ≡ gathered_from (plan_of []) tasks.now }
 {
     let mut q = empty_plan();
-    let mut i: usize = 0;
-    while i < tasks.len() {
-        q = put(q, tasks[i]);
-        i += 1;
+    for task in tasks {
+        q = put(q, *task);
     }
     q
 }

@@ -1,15 +1,13 @@
--- Texts stored one after another; a word byte by byte, a number digit by digit.
+-- Texts stored one after another; a number digit by digit.
 -- Assumes nothing.
 use Prim.Native.Nat.{ℕ, zero, suc, ◌+◌, ◌-◌, ◌/◌, ◌%◌, ◌<◌, ◌≤◌}
 use mathlib.Core.Bool.{Bool}
 use mathlib.Core.Path.{◌≡◌, refl, sym, subst, ap, ap₂, ◌∙◌}
 use mathlib.Core.List.{List, [], ◌∷◌, ◌++◌}
-use native.Mathlib.Nat.{add-zero}
-use native.Mathlib.Numerals.{add-one}
 use native.Mathlib.Omega.{arith}
 use borrow.Author.Tests.{lt-ltb, le-ltb}
-use lib.ListN.{length, get_or, drop, set, length-set, length-append}
-use lib.Seq.{sets, drop-cons, drop-length}
+use lib.ListN.{length-append}
+use lib.Seq.{sets}
 use Rattle.arith.specs.Choice.{pick}
 use Rattle.transcript.specs.Text.{decimal_within}
 use Rattle.text.specs.Stores.{Put}
@@ -32,42 +30,6 @@ wider p h = record { place = p.place; bytes = p.bytes; near = omega (arith, p.ne
 -- the same text, otherwise written
 pub as_text : {m n at r : ℕ} {a b s t : List ℕ} → Put m a at s r b → s ≡ t → m ≤ n → Put n a at t r b
 as_text {m} {n} {at} {r} {a} {b} p e h = wider (subst (λ (x : List ℕ). Put m a at x r b) e p) h
-
--- a word stored byte by byte: what is still to be stored completes it
-pub record Storing (word start : List ℕ) (at : ℕ) (out : List ℕ) (i : ℕ) : Type 0 where
-  pub inside : i ≤ length word
-  pub room : length out ≡ length start
-  pub bytes : sets out (at + i) (drop i word) ≡ sets start at word
-
-pub storing_first : (word out : List ℕ) (at : ℕ) → Storing word out at out 0
-storing_first word out at = record {
-  inside = omega arith;
-  room = refl;
-  bytes = ap (λ (k : ℕ). sets out k word) (add-zero at);
-}
-
-module _ {word start : List ℕ} {at : ℕ} {out : List ℕ} {i : ℕ} (s : Storing word start at out i) where
-  pub storing_more : i < length word → Storing word start at (set out (at + i) (get_or word i 0)) (i + 1)
-  storing_more h =
-      let e : at + (i + 1) ≡ suc (at + i) = omega arith in
-      record {
-        inside = omega arith;
-        room = length-set out (at + i) (get_or word i 0) ∙ s.room;
-        bytes =
-            ap₂ (λ (k j : ℕ). sets (set out (at + i) (get_or word i 0)) k (drop j word)) e (add-one i)
-            ∙ sym (ap (λ (l : List ℕ). sets out (at + i) l) (drop-cons word i 0 h))
-            ∙ s.bytes;
-      }
-
-  pub storing_all : length word ≤ 7 → length word ≤ i → Put 7 start at word (at + i) out
-  storing_all few h =
-      let e : i ≡ length word = omega (arith, s.inside) in
-      let none : [] ≡ drop i word = sym (drop-length word) ∙ ap (λ (k : ℕ). drop k word) (sym e) in
-      record {
-        place = ap (λ (k : ℕ). at + k) e;
-        bytes = ap (λ (l : List ℕ). sets out (at + i) l) none ∙ s.bytes;
-        near = omega arith;
-      }
 
 -- a number in decimal: no digit before its last, a number of one digit, and one of more
 pub digits_none :

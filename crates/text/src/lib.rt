@@ -21,12 +21,9 @@ pub(crate) fn put_word(out: &mut [u8], at: usize, word: &[u8]) -> usize
     requires { (length word.now ≤ 7) × (at + 7 ≤ length out.old) }
     ensures { Put 7 out.old at word.now result out.new }
 {
-    let mut i: usize = 0;
-    while i < word.len() {
-        out[at + i] = word[i];
-        i += 1;
-    }
-    at + i
+    let end = at + word.len();
+    out[at..end].copy_from_slice(word);
+    end
 }
 
 // Stores a number in decimal, with at most so many digits before its last.

@@ -42,12 +42,10 @@ fn arrive(
     ensures block_after { (s : State) → block.old ≡ encode s → length s.entries ≡ count → ((i : ℕ) → i < count → FitTask (task_of (get_or s.entries i no_entry))) → block.new ≡ encode (arrived_state keys.now clock speed s) }
 {
     let mut sum: u32 = total;
-    let mut i: usize = 0;
-    while i < count {
+    for i in 0..count {
         if deadline_in(keys[i]) == clock {
             sum = renew(block, i, speed, sum);
         }
-        i += 1;
     }
     sum
 }

@@ -1,11 +1,12 @@
 // What d ticks take from the queue and from the running job, in a state's bytes.
 ghost use Rattle.std.specs.Prelude.{◌≡◌, ℕ, ◌-◌, ◌%◌, ◌<◌, ◌≤◌, min, length, get_or};
-ghost use Rattle.levels.specs.Code.{loaded, Table};
+ghost use Rattle.levels.specs.Held.{speeds_of};
 ghost use Rattle.reclaiming.specs.StateBlock.{State, remaining_of, rest_of, places, remaining_field, state_length, encode};
 ghost use Rattle.reclaiming.specs.States.{worked_of};
 ghost use Rattle.state.specs.Code.{entry_in, entry_stored, with_jobs, FitRest};
 ghost use Rattle.urgency.specs.Code.{no_key, drained_by};
 
+use levels::table::SpeedTable;
 use orders::Choice;
 use state::storing::{put_remaining, put_rest};
 use state::{PLACES, REMAINING_AT, REMAINING_WIDTH, remaining_at, rest_at};
@@ -43,17 +44,10 @@ pub fn drain(block: &mut [u8], keys: &[u64; PLACES], count: usize, d: u32)
 }
 
 // Of the running job d ticks at its level take their part, or nothing is left of it if it finished.
-pub fn work_off(
-    speeds: &[u32; 8],
-    levels: usize,
-    block: &mut [u8],
-    c: Choice,
-    d: u32,
-    finished: bool,
-)
-    requires table { Table speeds.now levels × (length block.old ≡ state_length) × (d ≤ 65535) }
-    requires task_lt_places { (c.task ≡ 255 → ⊥) → (c.task < places) × (c.level < levels) }
-    ensures { (s : State) → block.old ≡ encode s → c.task ≡ s.task → c.level ≡ s.level → length s.entries ≤ places → ((s.task ≡ 255 → ⊥) → (s.task < length s.entries) × FitRest (rest_of s s.task)) → block.new ≡ encode (with_jobs s (worked_of (loaded speeds.now levels) s d finished) (remaining_of s)) }
+pub fn work_off(table: &SpeedTable, block: &mut [u8], c: Choice, d: u32, finished: bool)
+    requires few_ticks { (length block.old ≡ state_length) × (d ≤ 65535) }
+    requires task_lt_places { (c.task ≡ 255 → ⊥) → (c.task < places) × (c.level < table.now.levels) }
+    ensures { (s : State) → block.old ≡ encode s → c.task ≡ s.task → c.level ≡ s.level → length s.entries ≤ places → ((s.task ≡ 255 → ⊥) → (s.task < length s.entries) × FitRest (rest_of s s.task)) → block.new ≡ encode (with_jobs s (worked_of (speeds_of table.now) s d finished) (remaining_of s)) }
 {
     if c.task == 255 {
         return;
@@ -65,5 +59,5 @@ pub fn work_off(
     }
     let level = c.level as usize;
     let rest = rest_at(block, i);
-    put_rest(block, i, times::worn_by(speeds[level], d, rest));
+    put_rest(block, i, times::worn_by(table.speeds[level], d, rest));
 }

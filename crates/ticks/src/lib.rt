@@ -5,7 +5,7 @@ mod arriving;
 mod draining;
 
 ghost use Rattle.std.specs.Prelude.{◌≡◌, ℕ, ◌<◌, ◌≤◌, length, get_or};
-ghost use Rattle.levels.specs.Code.{loaded, Table};
+ghost use Rattle.levels.specs.Held.{speeds_of};
 ghost use Rattle.reclaiming.specs.Orders.{next_arrival};
 ghost use Rattle.reclaiming.specs.Passes.{largest_clock};
 ghost use Rattle.reclaiming.specs.StateBlock.{places, state_length, encode, decode};
@@ -17,6 +17,7 @@ ghost use Rattle.ticks.specs.Code.{Stepping, renewed_keys};
 
 use crate::arriving::arrive_if;
 use crate::draining::{drain, work_off};
+use levels::table::SpeedTable;
 use orders::Choice;
 use state::clock::Clock;
 use state::storing::put_total;
@@ -31,23 +32,20 @@ pub fn renewed(block: &[u8], keys: &[u64; PLACES], count: usize, clock: u32) -> 
     ensures { result ≡ renewed_keys block.now keys.now count clock }
 {
     let mut r = [0u64; PLACES];
-    let mut i: usize = 0;
-    while i < count {
+    for i in 0..count {
         let key = keys[i];
         r[i] = key;
         if deadline_in(key) == clock {
             let period = period_at(block, i);
             r[i] = key_of(clock + period, period, i);
         }
-        i += 1;
     }
     r
 }
 
 // Moves a state on by d ticks, before an order is chosen. Its total is kept by what the ticks take and the arrivals change, not summed anew.
 pub fn move_on(
-    speeds: &[u32; 8],
-    levels: usize,
+    table: &SpeedTable,
     block: &mut [u8],
     keys: &[u64; PLACES],
     c: Choice,
@@ -56,19 +54,19 @@ pub fn move_on(
     d: u32,
     finished: bool,
 )
-    requires table { Table speeds.now levels × Stepping (loaded speeds.now levels) block.old keys.now highest d }
-    requires c_value { c ≡ choice_of (loaded speeds.now levels) (decode block.old) }
-    requires next_value { next ≡ next_arrival (timing_in (loaded speeds.now levels) block.old) (decode block.old).clock }
-    ensures { block.new ≡ encode (moved_state (loaded speeds.now levels)
-        (timing_in (loaded speeds.now levels) block.old)
+    requires step { Stepping (speeds_of table.now) block.old keys.now highest d }
+    requires c_value { c ≡ choice_of (speeds_of table.now) (decode block.old) }
+    requires next_value { next ≡ next_arrival (timing_in (speeds_of table.now) block.old) (decode block.old).clock }
+    ensures { block.new ≡ encode (moved_state (speeds_of table.now)
+        (timing_in (speeds_of table.now) block.old)
         (decode block.old) d finished) }
 {
     let count = count_at(block);
     let clock = Clock::new(clock_at(block)).after(d);
-    let speed = speeds[highest];
+    let speed = table.speeds[highest];
     let left = left_of(total_at(block), d);
     drain(block, keys, count, d);
-    work_off(speeds, levels, block, c, d, finished);
+    work_off(table, block, c, d, finished);
     numeric::put_number(block, CLOCK_AT, CLOCK_WIDTH, clock.ticks);
     let total = arrive_if(block, keys, count, clock.ticks, speed, left, d == next);
     put_total(block, total);

@@ -4,11 +4,10 @@ use Rattle.std.specs.Prelude.{ℕ, ◌+◌, ◌*◌, ◌%◌, min, List, [], ◌
 use Rattle.arith.specs.Choice.{pick}
 use Rattle.arith.specs.Asking.{within}
 use Rattle.plan.specs.declared.Judged.{Judged}
-use Rattle.plan.specs.declared.Verdict.{Verdict}
-use Rattle.plan.specs.declared.Verdict.TheVariants as verdict
+use Rattle.std.specs.declared.result.Result.TheVariants.{Ok, Err}
+use Rattle.plan.specs.Answers.{Verdict, read_block}
 use Rattle.plan.specs.LevelBlocks.{level_count_in, level_length}
 use Rattle.plan.specs.Blocks.{edition_in, count_in, block_length}
-use Rattle.plan.specs.Answers.{read_block}
 use Rattle.reclaiming.specs.Passes.{Pass}
 use Rattle.reclaiming.specs.StateBlock.{state_length}
 use Rattle.reclaiming.specs.Run.{Line, run_lines}
@@ -73,9 +72,9 @@ started_lines levels block passes = lines_text (run_lines levels block [] (repli
 
 -- the lines from a plan that was read on; "If the reading is refused, the bench program prints that line and ends."
 abbrev pub judged_lines : List ℕ → List ℕ → Verdict → ℕ → List ℕ → List ℕ
-judged_lines levels block (verdict.Refused n) count passes = refused_line n
-judged_lines levels block (verdict.Admitted level span) count passes =
-    plan_line count level span ++ started_lines levels block passes
+judged_lines levels block (Err e) count passes = refused_line e.number
+judged_lines levels block (Ok a) count passes =
+    plan_line count a.nominal a.hyperperiod ++ started_lines levels block passes
 
 abbrev pub read_lines : List ℕ → List ℕ → Judged → List ℕ → List ℕ
 read_lines levels block judged passes = judged_lines levels block judged.verdict judged.plan.count passes

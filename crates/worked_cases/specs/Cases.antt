@@ -8,12 +8,11 @@ use Rattle.arith.specs.Divisor.{gcd, lcm}
 use Rattle.arith.specs.Asking.{Answer, values, refusal}
 use Rattle.plan.specs.declared.Task.{Task}
 use Rattle.plan.specs.declared.Judged.{Judged}
-use Rattle.plan.specs.declared.Verdict.TheVariants as verdict
+use Rattle.plan.specs.Answers.{accepted_with, verdict_answer, judged_list, read_block}
 use Rattle.plan.specs.Times.{time_of, worn}
-use Rattle.plan.specs.LevelBlocks.{level_block, load_answer, read_levels}
+use Rattle.plan.specs.LevelBlocks.{level_block, read_levels}
 use Rattle.plan.specs.Levels.{base_speeds, speed_of, hyperperiod, demand_within, nominal}
 use Rattle.plan.specs.Blocks.{plan_block, plan_of}
-use Rattle.plan.specs.Answers.{verdict_answer, written_answer, judged_list, read_block}
 use Rattle.schedule.specs.PlainSchedule.{Book, more_urgent}
 use Rattle.reclaiming.specs.declared.Reply.{Reply}
 use Rattle.reclaiming.specs.declared.Reply.TheVariants as reply
@@ -27,6 +26,7 @@ use Rattle.reclaiming.specs.Earliness.{earliness}
 use Rattle.reclaiming.specs.StateBlock.{same_bytes, tail_at, state_length}
 use Rattle.reclaiming.specs.Calls.{start_reply, pass_reply, show_reply, show_buffer}
 use Rattle.reclaiming.specs.Run.{Line, bytes_after, started_bytes, line, lines_from, run_lines}
+use Rattle.plan.specs.Counted.{counted_answer}
 
 abbrev pub task : ℕ → ℕ → Task
 task p w = record { period = p; worst = w; fixed = 0; floor = 0 }
@@ -58,7 +58,7 @@ bench_after n = bytes_after bench_started (take n bench_passes)
 
 -- 01: "First line: count, nominal level, hyperperiod." The example's is "plan 3 7 30".
 abbrev pub bench_judged : Judged
-bench_judged = record { verdict = verdict.Admitted 7 30; plan = plan_of bench_tasks }
+bench_judged = record { verdict = accepted_with 7 30; plan = plan_of bench_tasks }
 
 -- the example's run, line for line; the line that begins with `unfolding`, here and below, only lets them be computed
 abbrev pub bench_lines : List Line
@@ -130,11 +130,11 @@ abbrev pub pass_values : List ℕ → ℕ → Bool → List ℕ
 pass_values state d finished = told (reply_answer (pass_reply state d finished))
 
 abbrev pub shown_values : List ℕ → List ℕ → List ℕ
-shown_values state buffer = told (written_answer (show_reply state (length buffer))) ++ show_buffer state buffer
+shown_values state buffer = told (counted_answer (show_reply state (length buffer))) ++ show_buffer state buffer
 
 -- what reading a level block gives, with the eight speeds beside it; and starting
 abbrev load_values : List ℕ → List ℕ
-load_values levels = told (load_answer (read_levels levels).answer) ++ (read_levels levels).speeds
+load_values levels = told (counted_answer (read_levels levels).answer) ++ (read_levels levels).speeds
 
 abbrev pub start_values : List ℕ → List ℕ → ℕ → List ℕ
 start_values levels block room = told (reply_answer (start_reply levels block [] room))

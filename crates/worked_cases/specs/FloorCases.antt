@@ -10,7 +10,7 @@ use Rattle.plan.specs.Levels.{base_speeds}
 use Rattle.plan.specs.LevelBlocks.{level_block}
 use Rattle.plan.specs.Blocks.{plan_block, plan_of}
 use Rattle.plan.specs.Pairs.{pair_number}
-use Rattle.plan.specs.Answers.{verdict_answer, written_answer, judged_plan, write_plan, copy_number}
+use Rattle.plan.specs.Answers.{verdict_answer, judged_plan, write_plan, copy_number}
 use Rattle.plan.specs.Numbers.{plan_from}
 use Rattle.schedule.specs.PlainSchedule.{more_urgent}
 use Rattle.reclaiming.specs.declared.Reply.TheVariants as reply
@@ -22,6 +22,7 @@ use Rattle.reclaiming.specs.Calls.{start_reply}
 use Rattle.reclaiming.specs.Run.{Line, bytes_after, started_bytes, line, run_lines}
 use Rattle.worked_cases.specs.Cases.{Case, task, pass, base_levels, told, read_over, read_values, judged_over, judged_values, start_values, pass_values, shown_values, case}
 use Rattle.worked_cases.specs.LoneCases.{two_levels}
+use Rattle.plan.specs.Counted.{counted_answer}
 
 -- a task with fixed ticks and a floor
 abbrev floored : ℕ → ℕ → ℕ → ℕ → Task
@@ -40,7 +41,7 @@ abbrev numbers_values : ℕ → List ℕ → List ℕ
 numbers_values count numbers = told (verdict_answer (judged_plan base_levels (plan_from count numbers)).verdict)
 
 abbrev write_values : List ℕ → List Task → ℕ → List ℕ
-write_values levels ts room = told (written_answer (write_plan levels (plan_of ts) room))
+write_values levels ts room = told (counted_answer (write_plan levels (plan_of ts) room))
 
 -- a valve whose coil hums below level 5, beside another task: level 1 is nominal, and the floor is above it
 abbrev pub valve_plan : List ℕ

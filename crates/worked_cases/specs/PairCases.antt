@@ -7,7 +7,7 @@ use Rattle.plan.specs.declared.Task.{Task}
 use Rattle.plan.specs.Times.{time_of, worn}
 use Rattle.plan.specs.LevelBlocks.{level_block, speeds_in}
 use Rattle.plan.specs.Blocks.{plan_block, tasks_in}
-use Rattle.plan.specs.Pairs.{Pair, pairs_in, paired_answer, ask_pairs}
+use Rattle.plan.specs.Pairs.{Pair, pairs_in, ask_pairs}
 use Rattle.schedule.specs.PlainSchedule.{more_urgent}
 use Rattle.reclaiming.specs.Allotments.{timing}
 use Rattle.reclaiming.specs.Replies.{reply_answer}
@@ -17,6 +17,7 @@ use Rattle.reclaiming.specs.Calls.{start_reply, start_buffer}
 use Rattle.reclaiming.specs.Promises.{Started, EarlierClosed, actual_book}
 use Rattle.worked_cases.specs.Cases.{Case, task, case, told, base_levels}
 use Rattle.worked_cases.specs.FixedCases.{in_edition2}
+use Rattle.plan.specs.Counted.{counted_answer}
 
 -- a gait, an angle, a valve that reads it, and a radio
 abbrev knee_tasks : List Task
@@ -32,7 +33,7 @@ angle_before_valve (suc n) = 1 ∷ 2 ∷ angle_before_valve n
 
 -- what asking about a list, and starting with it, give
 abbrev pair_values : List ℕ → List ℕ
-pair_values pairs = told (paired_answer (ask_pairs base_levels knee_plan pairs))
+pair_values pairs = told (counted_answer (ask_pairs base_levels knee_plan pairs))
 
 abbrev starts_with : List ℕ → List ℕ → List ℕ → ℕ → List ℕ
 starts_with levels block pairs room = told (reply_answer (start_reply levels block pairs room))

@@ -11,13 +11,14 @@ use Rattle.plan.specs.Blocks.{plan_block}
 use Rattle.schedule.specs.PlainSchedule.{more_urgent}
 use Rattle.reclaiming.specs.declared.Entry.{Entry}
 use Rattle.reclaiming.specs.StateBlock.{State, entry_with, encode, state_length}
-use Rattle.reclaiming.specs.Calls.{pass_bytes, queued_reply, queued_answer}
+use Rattle.reclaiming.specs.Calls.{pass_bytes, queued_reply}
 use Rattle.reclaiming.specs.Run.{bytes_after, started_bytes}
 use Rattle.worked_cases.specs.Cases.{Case, told, task, pass, case, bench_started, bench_after, pass_values, shown_values}
+use Rattle.plan.specs.Counted.{counted_answer}
 
 -- what asking for the total gives
 abbrev queued_values : List ℕ → List ℕ
-queued_values state = told (queued_answer (queued_reply state))
+queued_values state = told (counted_answer (queued_reply state))
 
 -- one level of speed 1, and a plan started over it
 abbrev slow_level : List ℕ

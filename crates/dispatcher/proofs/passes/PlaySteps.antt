@@ -1,10 +1,11 @@
 -- A list of passes that is played: one pass more, and the end.
 -- Assumes nothing.
-use Prim.Native.Nat.{ℕ, suc, ◌+◌, ◌≤◌, ◌<◌}
+use Prim.Native.Nat.{ℕ, suc, min, ◌+◌, ◌≤◌, ◌<◌}
 use mathlib.Core.Path.{◌≡◌, refl, sym, ap, ap₂, ◌∙◌}
 use mathlib.Core.List.{List, [], ◌∷◌, ◌++◌, map}
 use native.Mathlib.Numerals.{add-one}
 use native.Mathlib.Omega.{arith}
+use native.Mathlib.Decide.{dec_le}
 use lib.ListN.{length, get_or, take, drop, set, length-map, length-set}
 use lib.Seq.{take-suc, drop-cons, set_at, append_snoc, length-take-le, take_all, take-length}
 use Rattle.reclaiming.specs.Passes.{Pass}
@@ -131,13 +132,12 @@ module _ {start passes found state replies : List ℕ} {i : ℕ} (so_far : Playe
         so_far.replies_are ∙ ap₂ (λ (y : List Pass) (k : ℕ). reply_numbers (trace start y) ++ drop k found) e n,
       )
 
-  pub played_all : length passes ≤ i → AllPlayed
-  played_all h =
-      let e : i ≡ length passes = omega (arith, so_far.below) in
-      played_end
-      (ap (map pass_from) (ap (λ (k : ℕ). take k passes) e ∙ take-length passes ∙ sym (take_all (length found) passes (omega (arith, so_far.room)))))
-
-  pub played_full : length replies ≤ i → AllPlayed
-  played_full h =
-      let e : i ≡ length found = omega (arith, so_far.room, so_far.replies_kept) in
-      played_end (ap (played_passes passes) e)
+  pub played_out : {n : ℕ} → n ≡ min (length passes) (length found) → n ≤ i → AllPlayed
+  played_out e h =
+      elim (dec_le (length found) (length passes)) [
+        | yes few ↦ let full : i ≡ length found = omega (arith, so_far.room) in played_end (ap (played_passes passes) full)
+        | no many ↦
+            let all : i ≡ length passes = omega (arith, so_far.below) in
+            played_end
+            (ap (map pass_from) (ap (λ (k : ℕ). take k passes) all ∙ take-length passes ∙ sym (take_all (length found) passes (omega arith))))
+      ]

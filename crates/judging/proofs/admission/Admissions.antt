@@ -17,9 +17,8 @@ use Rattle.arith.specs.Sum.{sum_to}
 use Rattle.arith.specs.Asking.{Question, first_no}
 use Rattle.plan.specs.declared.Task.{Task}
 use Rattle.plan.specs.declared.Plan.{Plan}
-use Rattle.plan.specs.declared.Verdict.{Verdict}
-use Rattle.plan.specs.declared.Verdict.TheVariants as verdict
-use Rattle.plan.specs.Answers.{answered}
+use Rattle.plan.specs.Answers.{Verdict, accepted_with, answered}
+use Rattle.plan.specs.Counted.{refused}
 use Rattle.plan.specs.Times.{task_time}
 use Rattle.plan.specs.Levels.{Rising, hyperperiod, demand_within, speed_of, nominal, admits}
 use Rattle.plan.specs.Blocks.{no_task, tasks_of}
@@ -53,15 +52,6 @@ pub record Summed (p : Plan) (jobs : List ℕ) (speed total i : ℕ) : Type 0 wh
   pub within : i ≤ p.count
   pub sum : total ≡ sum_to i (jobs_time speed p jobs)
   pub small : total ≤ 1048830000000 * i
-
-pub summed_all :
-    {p : Plan} {jobs : List ℕ} {speed total i : ℕ} →
-    Summed p jobs speed total i →
-    p.count ≤ i →
-    total ≡ sum_to p.count (jobs_time speed p jobs)
-summed_all {p} {jobs} {speed} {total} {i} at h =
-    let e : i ≡ p.count = omega arith in
-    at.sum ∙ ap (λ (n : ℕ). sum_to n (jobs_time speed p jobs)) e
 
 -- a turn of it
 pub record Added (p : Plan) (jobs : List ℕ) (speed i ticks : ℕ) : Type 0 where
@@ -100,14 +90,14 @@ module _ {test : ℕ → Bool} {held : List ℕ} {levels level : ℕ} (at : Tryi
   pub level_next : test (get_or held level 0) ≡ false → level + 1 ≤ first test (loaded held levels)
   level_next e = first_next test (loaded held levels) level 0 at.low (omega (arith, levels_are at.table)) (told_at e)
 
--- none of them passes
+-- none of them passes: what is answered is their count
 pub level_none :
     {held : List ℕ} {levels : ℕ} (t : Table held levels) (test : ℕ → Bool) (level : ℕ) →
     level ≤ first test (loaded held levels) →
     levels ≤ level →
-    level ≡ first test (loaded held levels)
+    levels ≡ first test (loaded held levels)
 level_none {held} {levels} t test level low past =
-    first_none test (loaded held levels) level low (omega (arith, levels_are t))
+    first_none test (loaded held levels) levels (omega (arith, low, past)) (omega (arith, levels_are t))
 
 -- a speed that does so much work within a span
 abbrev pub does : ℕ → ℕ → ℕ → Bool
@@ -176,7 +166,7 @@ module _ (speeds : List ℕ) (ts : List Task) where
   abbrev pub ranged : List Question
   ranged = range_question ts ∷ floor_question speeds ts ∷ []
 
-  pub refused_ranges : (n : ℕ) → (n ≡ 0 → ⊥) → n ≡ first_no ranged → verdict.Refused n ≡ verdict_of speeds ts
+  pub refused_ranges : (n : ℕ) → (n ≡ 0 → ⊥) → n ≡ first_no ranged → refused n ≡ verdict_of speeds ts
   refused_ranges zero some e = absurd (some refl)
   refused_ranges (suc n) some e =
       told {n = suc n} (no_before ranged (span_question ts ∷ level_question speeds ts ∷ []) (suc n) (omega arith) (sym e))
@@ -187,7 +177,7 @@ module _ (speeds : List ℕ) (ts : List Task) where
       (yes.0, yes.1.0)
 
   pub refused_7 :
-      ((range_question ts).reply ≡ true) × ((floor_question speeds ts).reply ≡ true) → 1000000 < hyperperiod ts → verdict.Refused 7 ≡ verdict_of speeds ts
+      ((range_question ts).reply ≡ true) × ((floor_question speeds ts).reply ≡ true) → 1000000 < hyperperiod ts → refused 7 ≡ verdict_of speeds ts
   refused_7 (six, floor) over = told {n = 7} (ask_yes 6 six (ask_yes 24 floor (ask_no 7 _ (lt-leb (hyperperiod ts) 1000000 over))))
 
 -- 6, 24 and 7 are answered yes, and the level is known
@@ -203,10 +193,10 @@ module _ {speeds : List ℕ} {ts : List Task} {span level : ℕ} (k : Levelled s
       told speeds ts {n = n}
       (ask_yes 6 k.ranges.0 (ask_yes 24 k.ranges.1 (ask_yes 7 (span_asked ts (subst (λ (x : ℕ). x ≤ 1000000) k.span_is k.small)) e)))
 
-  pub refused_8 : length speeds ≤ level → verdict.Refused 8 ≡ verdict_of speeds ts
+  pub refused_8 : length speeds ≤ level → refused 8 ≡ verdict_of speeds ts
   refused_8 h = levelled 8 (ask_no 8 _ (le-ltb (nominal speeds ts) (length speeds) (subst (λ (n : ℕ). length speeds ≤ n) k.level_is h)))
 
-  pub admitted_at : level < length speeds → verdict.Admitted level span ≡ verdict_of speeds ts
+  pub admitted_at : level < length speeds → accepted_with level span ≡ verdict_of speeds ts
   admitted_at h =
-      ap₂ (λ (l x : ℕ). verdict.Admitted l x) k.level_is k.span_is
+      ap₂ (λ (l x : ℕ). accepted_with l x) k.level_is k.span_is
       ∙ levelled 0 (ask_yes 8 (level_asked speeds ts (subst (λ (n : ℕ). n < length speeds) k.level_is h)) refl)

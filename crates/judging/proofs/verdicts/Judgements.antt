@@ -1,27 +1,28 @@
 -- Judging a plan: a plan filled from the front, and what each way out says of the questions.
 -- Assumes nothing.
-use Prim.Native.Nat.{ℕ, zero, suc, ◌+◌, ◌<◌, ◌≤◌}
-use mathlib.Core.Path.{◌≡◌, refl, sym, ap, ◌∙◌}
+use Prim.Native.Nat.{ℕ, zero, suc, ◌+◌, ◌-◌, ◌<◌, ◌≤◌}
+use mathlib.Core.Path.{◌≡◌, refl, sym, ap, ap₂, ◌∙◌}
 use mathlib.Core.List.{List, [], ◌++◌}
 use native.Mathlib.Omega.{arith}
 use borrow.Author.Tests.{le-leb, lt-leb}
-use lib.ListN.{length, get_or, take, set}
+use lib.ListN.{length, get_or, take, drop, set, replicate}
 use lib.Seq.{length-take-le}
+use Rattle.std.proofs.lemmas.List.{drop-replicate}
 use Rattle.arith.specs.Arrays.{padded}
 use Rattle.arith.specs.Asking.{Question, first_no}
 use Rattle.plan.specs.declared.Task.{Task}
 use Rattle.plan.specs.declared.Plan.{Plan}
 use Rattle.plan.specs.declared.Judged.{Judged}
-use Rattle.plan.specs.declared.Verdict.{Verdict}
-use Rattle.plan.specs.declared.Verdict.TheVariants as verdict
+use Rattle.plan.specs.Answers.{Verdict, accepted_with, judged_by, refused_with, answered}
+use Rattle.plan.specs.Counted.{refused}
 use Rattle.plan.specs.LevelBlocks.{loading, speeds_in}
-use Rattle.plan.specs.Answers.{judged_by, refused_with, answered}
-use Rattle.plan.specs.Blocks.{no_task, plan_of}
+use Rattle.plan.specs.Blocks.{no_task, plan_of, tasks_of}
 use Rattle.plan.specs.Questions.{task_questions, judging}
 use Rattle.arith.proofs.ArrayLaws.{taken_more}
 use Rattle.arith.proofs.Tests.{both_false}
 use Rattle.arith.proofs.QuestionLaws.{no_before, yes_before}
 use Rattle.plan.proofs.AnswerLaws.{Refusal}
+use Rattle.plan.proofs.Held.{Held, count_is}
 use Rattle.levels.specs.Code.{loaded}
 use Rattle.levels.proofs.Tables.{Loads}
 
@@ -52,16 +53,32 @@ module _ {l : List Task} {count : ℕ} {q : Plan} {i : ℕ} (at : Filled l count
       let tasks : q.tasks ≡ padded 16 no_task (take count l) = at.tasks ∙ ap (λ (n : ℕ). padded 16 no_task (take n l)) e in
       λ j. record { count = counts j; tasks = tasks j }
 
+-- an empty plan's places, the first of which hold a plan's tasks now
+pub cleared_is :
+    {p q : Plan} {l : List Task} →
+    Held p →
+    q ≡ plan_of [] →
+    l ≡ tasks_of p →
+    ◌≡◌ {A = Plan} (record { count = p.count; tasks = l ++ drop p.count q.tasks }) (plan_of (tasks_of p))
+cleared_is {p} {q} {l} held none e =
+    let counts : p.count ≡ length (tasks_of p) = sym (count_is held) in
+    let past : drop p.count q.tasks ≡ replicate (16 - length (tasks_of p)) no_task =
+    ap (λ (x : Plan). drop p.count x.tasks) none
+    ∙ drop-replicate p.count 16 no_task
+    ∙ ap (λ (n : ℕ). replicate (16 - n) no_task) counts in
+    let tasks : l ++ drop p.count q.tasks ≡ padded 16 no_task (tasks_of p) = ap₂ (λ (x y : List Task). x ++ y) e past in
+    λ j. record { count = counts j; tasks = tasks j }
+
 -- a refusal
-pub refused_is : (n : ℕ) {q : Plan} → q ≡ plan_of [] → ◌≡◌ {A = Judged} (record { verdict = verdict.Refused n; plan = q }) (refused_with n)
-refused_is n e = λ i. record { verdict = verdict.Refused n; plan = e i }
+pub refused_is : (n : ℕ) {q : Plan} → q ≡ plan_of [] → ◌≡◌ {A = Judged} (record { verdict = refused n; plan = q }) (refused_with n)
+refused_is n e = λ i. record { verdict = refused n; plan = e i }
 
 -- a verdict, and the plan beside it
 module _ (speeds : List ℕ) (ts : List Task) {v : Verdict} {q : Plan} where
   pub beside_refused :
       (n : ℕ) {k : ℕ} →
       v ≡ answered n speeds ts →
-      v ≡ verdict.Refused k →
+      v ≡ refused k →
       q ≡ plan_of [] →
       ◌≡◌ {A = Judged} (record { verdict = v; plan = q }) (judged_by n speeds ts)
   beside_refused zero a r e = let z : ◌≡◌ {A = ℕ} 0 1 = cc in absurd (omega arith)
@@ -70,7 +87,7 @@ module _ (speeds : List ℕ) (ts : List Task) {v : Verdict} {q : Plan} where
   pub beside_admitted :
       (n : ℕ) {l h : ℕ} →
       v ≡ answered n speeds ts →
-      v ≡ verdict.Admitted l h →
+      v ≡ accepted_with l h →
       q ≡ plan_of ts →
       ◌≡◌ {A = Judged} (record { verdict = v; plan = q }) (judged_by n speeds ts)
   beside_admitted zero a r e = λ i. record { verdict = a i; plan = e i }

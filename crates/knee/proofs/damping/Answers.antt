@@ -3,8 +3,8 @@ use mathlib.Core.Path.{ap, ◌∙◌}
 use native.Mathlib.Omega.{arith}
 use mir.Syntax.{w32}
 use mir.Val.{of_z, to_z}
-use Rattle.knee.specs.declared.Damped.TheVariants as damped
 use Rattle.knee.proofs.LookupLaws.{FromZero, below_range, above_range, below_zero, from_zero}
+use Rattle.std.specs.declared.result.Result.TheVariants.{Ok}
 use Rattle.knee.proofs.damping.Goals.{Else-angle-lt0}
 use Rattle.knee.proofs.damping.Goals as goal
 
@@ -32,4 +32,4 @@ pub damping_from-found-requires : goal.damping_from-found-requires
 damping_from-found-requires c = (tenths c).in_table
 
 pub returns : goal.returns
-returns c = ap damped.Value c.damping_from-found.ensures ∙ (tenths (goal.at.returns c).Else-angle-lt0).answer
+returns c = ap Ok c.damping_from-found.ensures ∙ (tenths (goal.at.returns c).Else-angle-lt0).answer

@@ -2,12 +2,13 @@ use mathlib.Core.Path.{ap, ◌∙◌}
 use lib.IntN.{ℤ}
 use mir.Syntax.{w32}
 use mir.ValLaws.{to_z-of_z}
-use Rattle.knee.specs.Curve.{damping_reply, damping_number}
+use Rattle.knee.specs.Curve.{damping_reply}
+use Rattle.plan.specs.Counted.{counted_number}
 use Rattle.knee.proofs.kilmstra_damping.Goals as goal
 
 -- first, so that a wrong answer is refused here
 pub returns : goal.returns
 returns c =
-    c.damping_number.ensures
-    ∙ ap damping_number c.damping-d.ensures
-    ∙ ap (λ (z : ℤ). damping_number (damping_reply z)) (to_z-of_z w32 c.args.angle c.ranges.angle)
+    c.total_number.ensures
+    ∙ ap counted_number c.damping-d.ensures
+    ∙ ap (λ (z : ℤ). counted_number (damping_reply z)) (to_z-of_z w32 c.args.angle c.ranges.angle)

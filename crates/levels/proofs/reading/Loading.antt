@@ -17,13 +17,13 @@ use Rattle.arith.specs.Asking.{first_no, within}
 use Rattle.arith.proofs.Tests.{both_true, both_false}
 use Rattle.arith.proofs.BitLaws.{rest_zero}
 use Rattle.arith.proofs.QuestionLaws.{ask_no, ask_yes, within_true, within_under, within_over}
-use Rattle.plan.specs.declared.Load.TheVariants as load
 use Rattle.plan.specs.declared.Board.{Board}
 use Rattle.plan.specs.LevelBlocks.{level_bit_count, level_length, level_count_in, level_closing_bits, speed_at, speeds_in, rises_from, loading, board_by, read_levels}
 use Rattle.plan.proofs.LevelBlockLaws.{length-speeds_in}
 use Rattle.levels.specs.Code.{loaded}
 use Rattle.levels.proofs.LevelLaws.{loaded_padded}
 use Rattle.levels.specs.Reading.{unloaded_with}
+use Rattle.std.specs.declared.result.Result.TheVariants.{Ok}
 
 -- each way out of reading a level block, by the first no of its questions
 module _ (block : List ℕ) {r : Board} where
@@ -119,10 +119,10 @@ module _ {block : List ℕ} {count x : ℕ} (c : Closing block count x) where
         {b : Bool} →
         b ≡ rises_from 0 (loaded held count) →
         b ≡ true →
-        ◌≡◌ {A = Board} (record { answer = load.Levels count; speeds = held }) (read_levels block)
+        ◌≡◌ {A = Board} (record { answer = Ok count; speeds = held }) (read_levels block)
     load_rises e h =
         let none : first_no (loading block) ≡ 0 =
         ask_yes 18 (eighteen c.counts) (ask_yes 19 nineteen (ask_yes 20 (twenty e ∙ h) refl)) in
-        let made : ◌≡◌ {A = Board} (record { answer = load.Levels count; speeds = held }) (board_by 0 (speeds_in block)) =
-        λ i. record { answer = load.Levels (count_is i); speeds = held_is i } in
+        let made : ◌≡◌ {A = Board} (record { answer = Ok count; speeds = held }) (board_by 0 (speeds_in block)) =
+        λ i. record { answer = Ok (count_is i); speeds = held_is i } in
         made ∙ sym (ap (λ (k : ℕ). board_by k (speeds_in block)) none)

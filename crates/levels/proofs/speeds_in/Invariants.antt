@@ -1,4 +1,3 @@
-use Prim.Native.Nat.{◌-◌, ◌≤◌}
 use mathlib.Core.Path.{◌≡◌}
 use Rattle.arith.specs.Arrays.{padded}
 use Rattle.arith.specs.Ranges.{list_to}
@@ -6,7 +5,4 @@ use Rattle.plan.specs.LevelBlocks.{speed_at}
 use Rattle.levels.proofs.speeds_in.Given as goal
 
 abbrev pub invariant-loop-i : goal.invariant-loop-i
-invariant-loop-i l = (l.i ≤ l.count) × (l.speeds ≡ padded 8 0 (list_to l.i (speed_at l.block)))
-
-abbrev pub decreases-loop-i : goal.decreases-loop-i
-decreases-loop-i l = l.count - l.i
+invariant-loop-i l = l.speeds ≡ padded 8 0 (list_to l.i (speed_at l.block))

@@ -32,4 +32,4 @@ slice_bounds-started_lines-end c =
 
 pub returns : goal.returns
 returns c =
-    as_text (c.plan_line-at.ensures then c.started_lines.ensures) (admitted_is (known (goal.at.returns c).After-read-judged) c.in-Admitted.is) (omega arith)
+    as_text (c.plan_line-at.ensures then c.started_lines.ensures) (admitted_is (known (goal.at.returns c).After-read-judged) c.in-Ok.is) (omega arith)

@@ -1,13 +1,14 @@
 -- The loop over the passes: the lines that are stored, and those that are still to come.
 -- Assumes nothing.
-use Prim.Native.Nat.{ℕ, suc, ◌+◌, ◌*◌, ◌%◌, ◌<◌, ◌≤◌}
+use Prim.Native.Nat.{ℕ, zero, suc, ◌+◌, ◌*◌, ◌/◌, ◌%◌, ◌<◌, ◌≤◌}
 use mathlib.Core.Path.{◌≡◌, refl, sym, ap, ap₂, ◌∙◌}
 use mathlib.Core.List.{List, [], ◌∷◌, ◌++◌, append_assoc}
 use native.Mathlib.Nat.{add-zero}
 use native.Mathlib.Omega.{arith}
 use lib.Dec.{eqb}
-use lib.ListN.{length, get_or, drop, length-append, drop_of_length-le}
-use lib.Seq.{sets, drop-cons}
+use lib.ListN.{length, get_or, take, drop, length-append, drop_of_length-le}
+use lib.Seq.{sets, drop-cons, drop-drop}
+use Rattle.std.specs.Simd.{first_chunks}
 use Rattle.arith.specs.Choice.{pick}
 use Rattle.plan.specs.declared.Task.{Task}
 use Rattle.plan.specs.Times.{no_rest}
@@ -95,31 +96,46 @@ module _ {m at r : ℕ} {a b line : List ℕ} (p : Put m a at line r b) (rest le
   rest_place : (end : ℕ) → at + length rest ≡ end → r + length left ≡ end
   rest_place end h = omega (arith, p.place, length-append line left, ap (λ (x : List ℕ). length x) e)
 
--- the two bytes of a pass
-two_more :
-    (passes : List ℕ) (i high low : ℕ) →
-    i + 1 < length passes →
-    high ≡ get_or passes i 0 →
-    low ≡ get_or passes (i + 1) 0 →
-    drop i passes ≡ high ∷ low ∷ drop (i + 2) passes
-two_more passes i high low h a b =
+-- two bytes, and those that follow
+two_more : (passes : List ℕ) (i : ℕ) → i + 1 < length passes → drop i passes ≡ get_or passes i 0 ∷ get_or passes (i + 1) 0 ∷ drop (i + 2) passes
+two_more passes i h =
     let one : suc i ≡ i + 1 = omega arith in
     let two : suc (i + 1) ≡ i + 2 = omega arith in
     drop-cons passes i 0 (omega arith)
-    ∙ ap₂ (λ (x k : ℕ). x ∷ drop k passes) (sym a) one
-    ∙ ap (λ (l : List ℕ). high ∷ l)
-    (drop-cons passes (i + 1) 0 h ∙ ap₂ (λ (x k : ℕ). x ∷ drop k passes) (sym b) two)
+    ∙ ap (λ (k : ℕ). get_or passes i 0 ∷ drop k passes) one
+    ∙ ap (λ (l : List ℕ). get_or passes i 0 ∷ l)
+    (drop-cons passes (i + 1) 0 h ∙ ap (λ (k : ℕ). get_or passes (i + 1) 0 ∷ drop k passes) two)
+
+-- the two bytes of pass k, where the passes are cut into pairs
+pair_cut : (n k : ℕ) (passes none : List ℕ) → k < n → get_or (first_chunks 2 n passes) k none ≡ take 2 (drop (2 * k) passes)
+pair_cut zero k passes none h = absurd (omega arith)
+pair_cut (suc n) zero passes none h = refl
+pair_cut (suc n) (suc k) passes none h =
+    let on : 2 + 2 * k ≡ 2 * suc k = omega arith in
+    pair_cut n k (drop 2 passes) none (omega arith)
+    ∙ ap (λ (l : List ℕ). take 2 l) (drop-drop (2 * k) 2 passes ∙ ap (λ (j : ℕ). drop j passes) on)
+
+pub pair_at :
+    (passes : List ℕ) {pairs : List (List ℕ)} (k : ℕ) →
+    pairs ≡ first_chunks 2 (length passes / 2) passes →
+    length pairs ≡ length passes / 2 →
+    k < length pairs →
+    get_or pairs k [] ≡ get_or passes (2 * k) 0 ∷ get_or passes (2 * k + 1) 0 ∷ []
+pair_at passes k e long h =
+    ap (λ (ps : List (List ℕ)). get_or ps k []) e
+    ∙ pair_cut (length passes / 2) k passes [] (omega arith)
+    ∙ ap (λ (l : List ℕ). take 2 l) (two_more passes (2 * k) (omega arith))
 
 -- where the loop stands: what is still to be stored from its place on completes the lines of all passes
-pub record Going (passes start before : List ℕ) (from : ℕ) (state out : List ℕ) (at clock i : ℕ) : Type 0 where
-  pub inside : i ≤ length passes
+pub record Going (passes start before : List ℕ) (from : ℕ) (state out : List ℕ) (at clock k : ℕ) : Type 0 where
+  pub inside : 2 * k ≤ length passes
   pub room : length out ≡ length before
   pub kept : length state ≡ length start
-  pub near : at ≤ from + 26 * i
-  pub early : 2 * clock ≤ 32767 * i
-  pub bytes : sets out at (text_at clock state (drop i passes)) ≡ sets before from (text_at 0 start passes)
-  pub place : at + length (text_at clock state (drop i passes)) ≡ from + length (text_at 0 start passes)
-  pub states : bytes_after state (passes_in (drop i passes)) ≡ bytes_after start (passes_in passes)
+  pub near : at ≤ from + 52 * k
+  pub early : clock ≤ 32767 * k
+  pub bytes : sets out at (text_at clock state (drop (2 * k) passes)) ≡ sets before from (text_at 0 start passes)
+  pub place : at + length (text_at clock state (drop (2 * k) passes)) ≡ from + length (text_at 0 start passes)
+  pub states : bytes_after state (passes_in (drop (2 * k) passes)) ≡ bytes_after start (passes_in passes)
 
 pub going_first : (passes state out : List ℕ) (from : ℕ) → Going passes state out from state out from 0 0
 going_first passes state out from = record {
@@ -133,11 +149,11 @@ going_first passes state out from = record {
   states = refl;
 }
 
--- one pass: its two bytes, and what the dispatcher replied and left
-pub record Passed (passes : List ℕ) (i : ℕ) (state : List ℕ) (clock high low : ℕ) (r : Reply) (next : List ℕ) (after : ℕ) : Type 0 where
-  pub more : i + 1 < length passes
-  pub is_high : high ≡ get_or passes i 0
-  pub is_low : low ≡ get_or passes (i + 1) 0
+-- pass k: its two bytes, and what the dispatcher replied and left
+pub record Passed (passes : List ℕ) (k : ℕ) (state : List ℕ) (clock high low : ℕ) (r : Reply) (next : List ℕ) (after : ℕ) : Type 0 where
+  pub more : 2 * k + 1 < length passes
+  pub is_high : high ≡ get_or passes (2 * k) 0
+  pub is_low : low ≡ get_or passes (2 * k + 1) 0
   pub small : low < 256
   pub replied : r ≡ pass_reply state (pass_of high low).d (pass_of high low).finished
   pub stored : next ≡ pass_bytes state (pass_of high low).d (pass_of high low).finished
@@ -145,35 +161,39 @@ pub record Passed (passes : List ℕ) (i : ℕ) (state : List ℕ) (clock high l
   pub moved : (booked no_speeds no_tasks (book_at clock) (pass_of high low) r).clock ≡ after
   pub later : after ≤ clock + (pass_of high low).d
 
-module _ {passes : List ℕ} {i : ℕ} {state : List ℕ} {clock high low : ℕ} {r : Reply} {next : List ℕ} {after : ℕ}
-    (h : Passed passes i state clock high low r next after) where
-  passed_bytes : drop i passes ≡ high ∷ low ∷ drop (i + 2) passes
-  passed_bytes = two_more passes i high low h.more h.is_high h.is_low
+module _ {passes : List ℕ} {k : ℕ} {state : List ℕ} {clock high low : ℕ} {r : Reply} {next : List ℕ} {after : ℕ}
+    (h : Passed passes k state clock high low r next after) where
+  passed_bytes : drop (2 * k) passes ≡ high ∷ low ∷ drop (2 * (k + 1)) passes
+  passed_bytes =
+      let on : 2 * k + 2 ≡ 2 * (k + 1) = omega arith in
+      two_more passes (2 * k) h.more
+      ∙ ap₂ (λ (x y : ℕ). x ∷ y ∷ drop (2 * k + 2) passes) (sym h.is_high) (sym h.is_low)
+      ∙ ap (λ (j : ℕ). high ∷ low ∷ drop j passes) on
 
   -- its line, then the lines of the rest
-  passed_line : text_at clock state (drop i passes) ≡ reply_line after r ++ text_at after next (drop (i + 2) passes)
+  passed_line : text_at clock state (drop (2 * k) passes) ≡ reply_line after r ++ text_at after next (drop (2 * (k + 1)) passes)
   passed_line =
       ap (λ (l : List ℕ). text_at clock state l) passed_bytes
-      ∙ first_line clock after high low state (drop (i + 2) passes) h.replied h.stored h.moved
+      ∙ first_line clock after high low state (drop (2 * (k + 1)) passes) h.replied h.stored h.moved
 
-  passed_states : bytes_after next (passes_in (drop (i + 2) passes)) ≡ bytes_after state (passes_in (drop i passes))
+  passed_states : bytes_after next (passes_in (drop (2 * (k + 1)) passes)) ≡ bytes_after state (passes_in (drop (2 * k) passes))
   passed_states =
-      ap (λ (s : List ℕ). bytes_after s (passes_in (drop (i + 2) passes))) h.stored
+      ap (λ (s : List ℕ). bytes_after s (passes_in (drop (2 * (k + 1)) passes))) h.stored
       ∙ sym (ap (λ (l : List ℕ). bytes_after state (passes_in l)) passed_bytes)
 
-module _ {passes start before : List ℕ} {from : ℕ} {state out : List ℕ} {at clock i : ℕ}
-    (g : Going passes start before from state out at clock i) where
+module _ {passes start before : List ℕ} {from : ℕ} {state out : List ℕ} {at clock k : ℕ}
+    (g : Going passes start before from state out at clock k) where
   -- another pass
   pub going_again :
       {high low after r' : ℕ} {r : Reply} {next out' : List ℕ} →
-      Passed passes i state clock high low r next after →
+      Passed passes k state clock high low r next after →
       Put 52 out at (reply_line after r) r' out' →
       length out' ≡ length out →
-      Going passes start before from next out' r' after (i + 2)
+      Going passes start before from next out' r' after (k + 1)
   going_again {after = after} {next = next} h p room' =
       let lines : List ℕ = text_at 0 start passes in
-      let rest : List ℕ = text_at clock state (drop i passes) in
-      let left : List ℕ = text_at after next (drop (i + 2) passes) in
+      let rest : List ℕ = text_at clock state (drop (2 * k) passes) in
+      let left : List ℕ = text_at after next (drop (2 * (k + 1)) passes) in
       record {
         inside = omega (arith, h.more);
         room = room' ∙ g.room;
@@ -195,7 +215,7 @@ module _ {passes start before : List ℕ} {from : ℕ} {state out : List ℕ} {a
   ends :
       {r : ℕ} {out' : List ℕ} (rest : List ℕ) →
       length passes ≤ 65536 →
-      rest ≡ drop i passes →
+      rest ≡ drop (2 * k) passes →
       [] ≡ passes_in rest →
       Put 52 out at (text_at clock state rest) r out' →
       Ends r out'
@@ -211,7 +231,7 @@ module _ {passes start before : List ℕ} {from : ℕ} {state out : List ℕ} {a
       )
 
   -- no byte is left
-  pub going_even : length passes ≤ 65536 → length passes ≤ i → Ends at out
+  pub going_even : length passes ≤ 65536 → length passes ≤ 2 * k → Ends at out
   going_even few h =
       ends [] few (sym (drop_of_length-le passes h)) refl record { place = sym (add-zero at); bytes = refl; near = omega arith }
 
@@ -219,12 +239,12 @@ module _ {passes start before : List ℕ} {from : ℕ} {state out : List ℕ} {a
   pub going_odd :
       {r : ℕ} {out' : List ℕ} →
       length passes ≤ 65536 →
-      i < length passes →
-      length passes ≤ i + 1 →
+      2 * k < length passes →
+      length passes ≤ 2 * k + 1 →
       Put 52 out at (refused_line 16) r out' →
       Ends r out'
   going_odd few h last p =
-      let odd : ℕ = get_or passes i 0 in
-      let one : drop i passes ≡ odd ∷ [] =
-      drop-cons passes i 0 h ∙ ap (λ (l : List ℕ). odd ∷ l) (drop_of_length-le passes {i = suc i} (omega arith)) in
+      let odd : ℕ = get_or passes (2 * k) 0 in
+      let one : drop (2 * k) passes ≡ odd ∷ [] =
+      drop-cons passes (2 * k) 0 h ∙ ap (λ (l : List ℕ). odd ∷ l) (drop_of_length-le passes {i = suc (2 * k)} (omega arith)) in
       ends (odd ∷ []) few (sym one) refl p

@@ -10,23 +10,23 @@ use Rattle.orders.proofs.chosen.Goals.{After-allowance_until-allowed, After-high
 use Rattle.orders.proofs.chosen.Goals as goal
 
 looked : (c : After-most_urgent-best) →
-    Looked (loaded c.args.speeds.now c.args.levels) c.args.block.now c.args.keys.now c.args.count c.most_urgent-best.result
+    Looked (loaded c.args.table.now.speeds c.args.table.now.levels) c.args.block.now c.args.keys.now c.args.count c.most_urgent-best.result
 looked c = record {
-  holds = c.requires.table.1;
+  holds = c.requires.holds.0;
   keyed = c.requires.keyed;
-  same = c.requires.table.2;
+  same = c.requires.holds.1;
   found = c.most_urgent-best.ensures;
 }
 
 -- its task is told
 told : (c : After-task_in-i) →
-    Looked (loaded c.args.speeds.now c.args.levels) c.args.block.now c.args.keys.now c.args.count c.most_urgent-best.result →
-    Told (loaded c.args.speeds.now c.args.levels) c.args.block.now c.args.keys.now c.args.count c.most_urgent-best.result c.task_in-i.result
+    Looked (loaded c.args.table.now.speeds c.args.table.now.levels) c.args.block.now c.args.keys.now c.args.count c.most_urgent-best.result →
+    Told (loaded c.args.table.now.speeds c.args.table.now.levels) c.args.block.now c.args.keys.now c.args.count c.most_urgent-best.result c.task_in-i.result
 told c k = record { looked = k; some = λ e. omega (arith, e); task = c.task_in-i.ensures.0 }
 
 read : (c : After-allowance_until-allowed) →
-    Told (loaded c.args.speeds.now c.args.levels) c.args.block.now c.args.keys.now c.args.count c.most_urgent-best.result c.task_in-i.result →
-    Read (loaded c.args.speeds.now c.args.levels) c.args.block.now c.args.keys.now c.args.count c.most_urgent-best.result
+    Told (loaded c.args.table.now.speeds c.args.table.now.levels) c.args.block.now c.args.keys.now c.args.count c.most_urgent-best.result c.task_in-i.result →
+    Read (loaded c.args.table.now.speeds c.args.table.now.levels) c.args.block.now c.args.keys.now c.args.count c.most_urgent-best.result
     c.task_in-i.result c.rest_at-rest.result c.args.next c.allowance_until-allowed.result
 read c k = record {
   told = k;
@@ -37,30 +37,30 @@ read c k = record {
 
 -- the highest level that it may have is one of the table's
 below : (c : After-higher_of-top) →
-    Read (loaded c.args.speeds.now c.args.levels) c.args.block.now c.args.keys.now c.args.count c.most_urgent-best.result
+    Read (loaded c.args.table.now.speeds c.args.table.now.levels) c.args.block.now c.args.keys.now c.args.count c.most_urgent-best.result
     c.task_in-i.result c.rest_at-rest.result c.args.next c.allowance_until-allowed.result →
-    c.higher_of-top.result < c.args.levels
+    c.higher_of-top.result < c.args.table.now.levels
 below c k =
     omega (
       arith,
       c.higher_of-top.ensures,
       read_loaded k c.floor_at-floor.ensures c.requires.enough,
       c.requires.enough.level,
-      levels_are c.requires.table.0,
+      levels_are c.args.table.now.known,
     )
 
 picked : (c : After-level_for-level) →
-    Read (loaded c.args.speeds.now c.args.levels) c.args.block.now c.args.keys.now c.args.count c.most_urgent-best.result
+    Read (loaded c.args.table.now.speeds c.args.table.now.levels) c.args.block.now c.args.keys.now c.args.count c.most_urgent-best.result
     c.task_in-i.result c.rest_at-rest.result c.args.next c.allowance_until-allowed.result →
-    c.higher_of-top.result < c.args.levels →
-    Picked (loaded c.args.speeds.now c.args.levels) c.args.block.now c.args.keys.now c.args.count c.most_urgent-best.result
+    c.higher_of-top.result < c.args.table.now.levels →
+    Picked (loaded c.args.table.now.speeds c.args.table.now.levels) c.args.block.now c.args.keys.now c.args.count c.most_urgent-best.result
     c.task_in-i.result c.rest_at-rest.result c.args.next c.allowance_until-allowed.result
     c.floor_at-floor.result c.level_for-level.result
 picked c k h = record {
   read = k;
   floor_in = c.floor_at-floor.ensures;
   level_is = c.level_for-level.ensures.0;
-  low = omega (arith, h, c.level_for-level.ensures.1, c.requires.table.0.few);
+  low = omega (arith, h, c.level_for-level.ensures.1, c.args.table.now.known.few);
 }
 
 pub returns-then-best-eq-NO_KEY-clause-value : goal.returns-then-best-eq-NO_KEY-clause-value
@@ -73,7 +73,7 @@ allowance_until-allowed-requires c =
     let k = told at.After-task_in-i (looked at.After-most_urgent-best) in (
       omega (arith, k.looked.holds.few, k.looked.same),
       k.looked.holds.size,
-      omega (arith, next_short (loaded c.args.speeds.now c.args.levels) c.args.block.now k.looked.keyed (omega (arith, (first_open k).below)) c.requires.next_value),
+      omega (arith, next_short (loaded c.args.table.now.speeds c.args.table.now.levels) c.args.block.now k.looked.keyed (omega (arith, (first_open k).below)) c.requires.next_value),
     )
 
 pub level_for-level-requires : goal.level_for-level-requires
@@ -81,10 +81,10 @@ level_for-level-requires c =
     let at = goal.at.level_for-level-requires c in
     let k = read at.After-allowance_until-allowed (told at.After-task_in-i (looked at.After-most_urgent-best)) in
     let h = below c k in record {
-      table = (c.requires.table.0, c.allowance_until-allowed.ensures.1, omega (arith, c.higher_of-top.ensures), h);
+      bounds = (c.allowance_until-allowed.ensures.1, omega (arith, c.higher_of-top.ensures), h);
       rest_bound =
-          enough_higher k c.requires.table.0.rising c.requires.enough c.higher_of-top.result (omega (arith, c.higher_of-top.ensures))
-          (omega (arith, h, levels_are c.requires.table.0));
+          enough_higher k c.args.table.now.known.rising c.requires.enough c.higher_of-top.result (omega (arith, c.higher_of-top.ensures))
+          (omega (arith, h, levels_are c.args.table.now.known));
     }
 
 pub running_order-requires : goal.running_order-requires
@@ -93,7 +93,6 @@ running_order-requires c =
     let k = read at.After-allowance_until-allowed (told at.After-task_in-i (looked at.After-most_urgent-best)) in
     let h = below at.After-higher_of-top k in
     let rest = c.rest_at-rest.ensures in (
-      c.requires.table.0,
       told_task k.told,
       omega (arith, h, c.level_for-level.ensures.1),
       omega (arith, rest.2),

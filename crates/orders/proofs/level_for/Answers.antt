@@ -12,22 +12,22 @@ abbrev middle : In-loop-low → ℕ
 middle c = (c.loop-low.low + c.loop-low.high) / 2
 
 tried : (c : After-is_enough) →
-    Tried c.args.speeds.now c.args.levels c.args.rest c.args.allowed c.args.floor ((c.loop-low.low + c.loop-low.high) / 2) c.is_enough.result
-tried c = record { table = c.requires.table.0; above = omega arith; low = omega arith; found_is = c.is_enough.ensures }
+    Tried c.args.table.now.speeds c.args.table.now.levels c.args.rest c.args.allowed c.args.floor ((c.loop-low.low + c.loop-low.high) / 2) c.is_enough.result
+tried c = record { table = c.args.table.now.known; above = omega arith; low = omega arith; found_is = c.is_enough.ensures }
 
 pub loop-low-init : goal.loop-low-init
 loop-low-init c = (
   omega arith,
   omega arith,
-  lowest_le (loaded c.args.speeds.now c.args.levels) c.args.floor c.args.rest c.args.allowed c.args.highest c.requires.table.2
-      (omega (arith, c.requires.table.3, levels_are c.requires.table.0)) c.requires.rest_bound,
+  lowest_le (loaded c.args.table.now.speeds c.args.table.now.levels) c.args.floor c.args.rest c.args.allowed c.args.highest c.requires.bounds.1
+      (omega (arith, c.requires.bounds.2, levels_are c.args.table.now.known)) c.requires.rest_bound,
   omega arith,
 )
 
 pub is_enough-requires : goal.is_enough-requires
 is_enough-requires c =
     let m = middle (goal.at.is_enough-requires c).In-loop-low in
-    (speed_positive c.requires.table.0 m (omega arith), speed_most c.requires.table.0 m (omega arith), c.requires.table.1)
+    (speed_positive c.args.table.now.known m (omega arith), speed_most c.args.table.now.known m (omega arith), c.requires.bounds.0)
 
 pub loop-low-preserved-then-is_enough : goal.loop-low-preserved-then-is_enough
 loop-low-preserved-then-is_enough c =

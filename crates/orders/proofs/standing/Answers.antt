@@ -13,8 +13,8 @@ use Rattle.orders.proofs.OrderLaws.{Runs, standing_task, standing_level, standin
 use Rattle.orders.proofs.standing.Goals.{Else-task-eq255}
 use Rattle.orders.proofs.standing.Goals as goal
 
-runs : (c : Else-task-eq255) → Runs c.args.levels c.args.block.now
-runs c = record { holds = c.requires.1; runnable = c.requires.2; some = λ e. c.if-task-eq255.false (task_byte c.args.block.now ∙ e) }
+runs : (c : Else-task-eq255) → Runs c.args.table.now.levels c.args.block.now
+runs c = record { holds = c.requires.holds; runnable = c.requires.runnable; some = λ e. c.if-task-eq255.false (task_byte c.args.block.now ∙ e) }
 
 pub rest_at-requires : goal.rest_at-requires
 rest_at-requires c = (omega (arith, standing_task (runs c), task_byte c.args.block.now), (runs c).holds.size)
@@ -22,7 +22,6 @@ rest_at-requires c = (omega (arith, standing_task (runs c), task_byte c.args.blo
 pub running_order-requires : goal.running_order-requires
 running_order-requires c =
     let k = runs (goal.at.running_order-requires c).Else-task-eq255 in (
-      c.requires.0,
       omega (arith, standing_task k, task_byte c.args.block.now),
       omega (arith, standing_level k, level_byte c.args.block.now),
       omega (arith, c.rest_at.ensures.2),
@@ -32,7 +31,7 @@ running_order-requires c =
 pub returns : goal.returns
 returns c =
     let b : List ℕ = c.args.block.now in
-    let table : List ℕ = loaded c.args.speeds.now c.args.levels in
+    let table : List ℕ = loaded c.args.table.now.speeds c.args.table.now.levels in
     let r : Rest = c.rest_at.result in
     let left : r ≡ rest_in (entry_in b (decode b).task) =
     c.rest_at.ensures.0 ∙ ap (λ (x : ℕ). rest_in (entry_in b x)) (task_byte b) in

@@ -11,13 +11,10 @@ use Rattle.arith.specs.Asking.{Question, first_no}
 use Rattle.arith.proofs.QuestionLaws.{no_before, yes_before}
 use Rattle.plan.specs.declared.Task.{Task}
 use Rattle.plan.specs.declared.Judged.{Judged}
-use Rattle.plan.specs.declared.Paired.{Paired}
-use Rattle.plan.specs.declared.Paired.TheVariants as paired
-use Rattle.plan.specs.declared.Verdict.TheVariants as verdict
+use Rattle.plan.specs.Answers.{accepted_with, judged_by, refused_with}
 use Rattle.plan.specs.LevelBlocks.{loading, speeds_in}
 use Rattle.plan.specs.Blocks.{tasks_in, tasks_of}
 use Rattle.plan.specs.Questions.{in_range, reading}
-use Rattle.plan.specs.Answers.{judged_by, refused_with}
 use Rattle.plan.specs.Pairs.{Pair, pairs_in, pairs_good, pairs_question, paired_reading, paired_by, ask_pairs}
 use Rattle.plan.proofs.Facts.{FineList, fine_list}
 use Rattle.plan.proofs.RoundTrip.{read_judged}
@@ -27,6 +24,8 @@ use Rattle.plan.proofs.JudgedLaws.{judged_refused, Admitted, none_answered_no, p
 use Rattle.judging.proofs.verdicts.Judgements.{refused_as}
 use Rattle.levels.specs.Code.{loaded}
 use Rattle.levels.proofs.Tables.{Loads}
+use Rattle.std.specs.declared.result.Result.TheVariants.{Ok}
+use Rattle.plan.specs.Counted.{Counted, refused}
 
 module _ (speeds block pairs : List ℕ) where
   abbrev ts : List Task
@@ -40,7 +39,7 @@ module _ (speeds block pairs : List ℕ) where
   then_pairs = pairs_question ts pairs ∷ []
 
   -- it is refused without them
-  pub unread : {j r : Judged} {n : ℕ} → j ≡ judged_by (first_no (reading speeds block)) speeds ts → j.verdict ≡ verdict.Refused n → r ≡ refused_with n → ReadsPaired r
+  pub unread : {j r : Judged} {n : ℕ} → j ≡ judged_by (first_no (reading speeds block)) speeds ts → j.verdict ≡ refused n → r ≡ refused_with n → ReadsPaired r
   unread is told a =
       let f : Refusal (first_no (reading speeds block)) _ = judged_refused speeds (first_no (reading speeds block)) ts is told in
       refused_as speeds ts a f.positive (no_before (reading speeds block) then_pairs _ f.positive f.is)
@@ -69,7 +68,7 @@ module _ (speeds block pairs : List ℕ) where
         ∙ ap (λ (n : ℕ). judged_by n speeds ts) (none_answered_no k ∙ sym (asked_last is ∙ ap (λ (b : Bool). pick {A = ℕ} b 0 22) good))
 
 -- what is answered about a list, by the number of the questions
-paired_refused : (ps : List Pair) {number n : ℕ} → Refusal number n → paired.Refused n ≡ paired_by number ps
+paired_refused : (ps : List Pair) {number n : ℕ} → Refusal number n → refused n ≡ paired_by number ps
 paired_refused ps {n = zero} f = absurd (omega (arith, f.positive))
 paired_refused ps {n = suc n} f = sym (ap (λ (k : ℕ). paired_by k ps) f.is)
 
@@ -77,25 +76,25 @@ module _ (speeds block pairs : List ℕ) {j : Judged} (is : ReadsPaired speeds b
   abbrev number : ℕ
   number = first_no (paired_reading speeds block pairs)
 
-  pub asked_refused : {n : ℕ} → j.verdict ≡ verdict.Refused n → paired.Refused n ≡ paired_by number (pairs_in pairs)
+  pub asked_refused : {n : ℕ} → j.verdict ≡ refused n → refused n ≡ paired_by number (pairs_in pairs)
   asked_refused told = paired_refused (pairs_in pairs) (judged_refused speeds number (tasks_in block) is told)
 
-  pub asked_good : {level span : ℕ} → j.verdict ≡ verdict.Admitted level span → paired.Pairs (length pairs / 2) ≡ paired_by number (pairs_in pairs)
+  pub asked_good : {level span : ℕ} → j.verdict ≡ accepted_with level span → Ok (length pairs / 2) ≡ paired_by number (pairs_in pairs)
   asked_good {level} {span} told =
       let k : Admitted speeds number (tasks_in block) j level span = record { judged = is; told = told } in
-      ap paired.Pairs (sym (length-pairs_in pairs)) ∙ sym (ap (λ (n : ℕ). paired_by n (pairs_in pairs)) (none_answered_no k))
+      ap Ok (sym (length-pairs_in pairs)) ∙ sym (ap (λ (n : ℕ). paired_by n (pairs_in pairs)) (none_answered_no k))
 
 -- over a level block
 module _ (levels block pairs : List ℕ) where
   abbrev own : List Question
   own = paired_reading (speeds_in levels) block pairs
 
-  pub ask_unloaded : {n : ℕ} → Refusal (first_no (loading levels)) n → paired.Refused n ≡ ask_pairs levels block pairs
+  pub ask_unloaded : {n : ℕ} → Refusal (first_no (loading levels)) n → refused n ≡ ask_pairs levels block pairs
   ask_unloaded {n} f =
       paired_refused (pairs_in pairs) (record { positive = f.positive; is = no_before (loading levels) own n f.positive f.is })
 
   pub ask_loaded :
-      {held : List ℕ} {count : ℕ} {r : Paired} →
+      {held : List ℕ} {count : ℕ} {r : Counted} →
       Loads levels held count →
       r ≡ paired_by (first_no (paired_reading (loaded held count) block pairs)) (pairs_in pairs) →
       r ≡ ask_pairs levels block pairs

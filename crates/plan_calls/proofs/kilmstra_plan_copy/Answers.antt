@@ -3,6 +3,6 @@ use Rattle.plan_calls.proofs.Packing.{copy_most}
 use Rattle.plan_calls.proofs.kilmstra_plan_copy.Goals as goal
 
 -- no step is cited by its name, so that a wrong answer is refused where it returns
-pub written_number-requires : goal.written_number-requires
-written_number-requires c =
+pub counted_number-requires : goal.counted_number-requires
+counted_number-requires c =
     search (rules, copy_most c.args.levels.now c.args.block.now (length c.args.buffer.now))

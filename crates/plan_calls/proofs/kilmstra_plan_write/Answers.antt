@@ -7,8 +7,8 @@ use Rattle.plan_calls.proofs.Packing.{wrote_most}
 use Rattle.plan_calls.proofs.kilmstra_plan_write.Goals as goal
 
 -- the call of `write` is not cited by its name, so that a wrong answer is refused where it returns
-pub written_number-requires : goal.written_number-requires
-written_number-requires c =
+pub counted_number-requires : goal.counted_number-requires
+counted_number-requires c =
     search (rules, wrote_most c.args.levels.now c.plan_from-p.result (length c.args.buffer.now))
 
 pub returns-clause-value : goal.returns-clause-value

@@ -1,7 +1,7 @@
 -- A plan filled from numbers, as far as the loop has come.
 -- Assumes nothing.
 use Prim.Native.Nat.{ℕ, ◌+◌, ◌<◌, ◌≤◌}
-use mathlib.Core.Path.{◌≡◌, ap, ◌∙◌}
+use mathlib.Core.Path.{◌≡◌}
 use mathlib.Core.List.{List}
 use native.Mathlib.Omega.{arith}
 use lib.ListN.{set}
@@ -10,7 +10,7 @@ use Rattle.arith.specs.Ranges.{list_to}
 use Rattle.plan.specs.declared.Task.{Task}
 use Rattle.plan.specs.declared.Plan.{Plan}
 use Rattle.plan.specs.Blocks.{no_task}
-use Rattle.plan.specs.Numbers.{task_at, plan_from}
+use Rattle.plan.specs.Numbers.{task_at}
 use Rattle.arith.proofs.ArrayLaws.{values_more}
 
 -- the loop that fills a plan with the tasks of a list of numbers
@@ -23,9 +23,3 @@ module _ {numbers : List ℕ} {count : ℕ} {q : Plan} {i : ℕ} (at : Put numbe
   pub put_more : {t : Task} → i < 16 → t ≡ task_at numbers i → Put numbers count (record { count = q.count; tasks = set q.tasks i t }) (i + 1)
   put_more h e =
       record { within = omega arith; counted = at.counted; tasks = values_more 16 no_task (task_at numbers) q.tasks i _ h at.tasks e }
-
-  pub put_all : 16 ≤ i → q ≡ plan_from count numbers
-  put_all h =
-      let e : i ≡ 16 = omega arith in
-      let tasks : q.tasks ≡ list_to 16 (task_at numbers) = at.tasks ∙ ap (λ (k : ℕ). padded 16 no_task (list_to k (task_at numbers))) e in
-      λ j. record { count = at.counted j; tasks = tasks j }

@@ -2,21 +2,22 @@
 -- Assumes nothing.
 use Prim.Native.Nat.{ℕ, ◌+◌, ◌*◌, ◌<◌, ◌≤◌}
 use mathlib.Core.Bool.{Bool, true, false}
-use mathlib.Core.Path.{◌≡◌, sym, ap, ◌∙◌}
+use mathlib.Core.Path.{◌≡◌, refl, sym, ap, ◌∙◌}
 use mathlib.Core.List.{List}
 use native.Mathlib.Omega.{arith}
-use borrow.Author.Tests.{eq-eqb, ne_eqb}
+use borrow.Author.Tests.{eq-eqb, eqb-true, ne_eqb}
 use lib.Dec.{eqb}
 use lib.ListN.{length, get_or, drop}
 use lib.Seq.{drop-drop, take_all}
-use Rattle.arith.specs.Choice.{pick, both}
+use Rattle.arith.specs.Choice.{pick, both, every}
 use Rattle.arith.specs.Digits.{number}
 use Rattle.arith.specs.Bits.{width_of, fields_from}
 use Rattle.plan.specs.declared.Task.{Task}
 use Rattle.plan.specs.declared.Plan.{Plan}
 use Rattle.plan.specs.Blocks.{widths_by, task_of, task_width, bit_count, task_from, tasks_from, adds_nothing, plan_of, no_task}
 use Rattle.judging.proofs.verdicts.Judgements.{Filled, filled_all}
-use Rattle.arith.proofs.Tests.{both_true, both_false, passed, failed, tested}
+use Rattle.arith.proofs.ListLaws.{every_at, at_every}
+use Rattle.arith.proofs.Tests.{both_true, both_left, both_right, passed, failed, tested}
 use Rattle.plan.proofs.BlockBits.{length-tasks_from, tasks_from_at}
 
 -- a field, by how far it stands into the task at a place
@@ -84,13 +85,23 @@ module _ (edition : ℕ) (bits : List ℕ) (count : ℕ) where
       filled_all at tasks_listed h
       ∙ ap (λ (x : List Task). plan_of x) (take_all count tasks_at (omega (arith, length-tasks_from edition count (drop 9 bits))))
 
--- a task adds fixed ticks or a floor, or neither
-module _ (t : Task) where
-  pub adds_fixed : (t.fixed ≡ 0 → ⊥) → adds_nothing t ≡ false
-  adds_fixed n = ap (λ (b : Bool). both b (eqb t.floor 0)) (ne_eqb t.fixed 0 n)
+-- whether tasks add nothing, by their fields
+abbrev Plain : List Task → Type 0
+Plain ts = (k : ℕ) → k < length ts → ((get_or ts k no_task).fixed ≡ 0) × ((get_or ts k no_task).floor ≡ 0)
 
-  pub adds_floor : (t.floor ≡ 0 → ⊥) → adds_nothing t ≡ false
-  adds_floor n = ap (λ (b : Bool). both (eqb t.fixed 0) b) (ne_eqb t.floor 0 n) ∙ both_false (eqb t.fixed 0)
+module _ (ts : List Task) where
+  pub adds_none : Plain ts → every adds_nothing ts ≡ true
+  adds_none h =
+      at_every adds_nothing ts no_task (λ k l. let t = h k l in both_true (eq-eqb (get_or ts k no_task).fixed 0 t.0) (eq-eqb (get_or ts k no_task).floor 0 t.1))
 
-  pub adds_neither : t.fixed ≡ 0 → t.floor ≡ 0 → adds_nothing t ≡ true
-  adds_neither f g = both_true (eq-eqb t.fixed 0 f) (eq-eqb t.floor 0 g)
+  pub adds_some : (Plain ts → ⊥) → every adds_nothing ts ≡ false
+  adds_some n =
+      elim (tested (every adds_nothing ts))
+      as (λ b _. every adds_nothing ts ≡ b → b ≡ false) [
+        | passed ↦ λ e. absurd (n (λ k l.
+            let t : Task = get_or ts k no_task in
+            let plain : both (eqb t.fixed 0) (eqb t.floor 0) ≡ true = every_at adds_nothing ts k no_task e l in
+            (eqb-true t.fixed 0 (both_left (eqb t.fixed 0) (eqb t.floor 0) plain), eqb-true t.floor 0 (both_right (eqb t.fixed 0) (eqb t.floor 0) plain))))
+        | failed ↦ λ e. refl
+      ]
+      refl

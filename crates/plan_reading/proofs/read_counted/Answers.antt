@@ -15,7 +15,7 @@ use Rattle.plan_reading.proofs.read_counted.Goals as goal
 
 -- the levels' speeds, and the block
 abbrev speeds : After-bits_at-closing → List ℕ
-speeds c = loaded c.args.speeds.now c.args.levels
+speeds c = loaded c.args.table.now.speeds c.args.table.now.levels
 
 abbrev block : After-bit_count-used → List ℕ
 block c = c.args.block.now
@@ -123,7 +123,7 @@ returns-then-edition_of-edition c =
 
 pub judged_with-requires : goal.judged_with-requires
 judged_with-requires c =
-    (few (goal.at.judged_with-requires c).After-plan_in-p, c.requires.table)
+    few (goal.at.judged_with-requires c).After-plan_in-p
 
 pub returns : goal.returns
 returns c =

@@ -9,7 +9,7 @@ use Rattle.plan_reading.proofs.read_over.Goals as goal
 
 -- the levels' speeds, and the block
 abbrev speeds : Start → List ℕ
-speeds c = loaded c.args.speeds.now c.args.levels
+speeds c = loaded c.args.table.now.speeds c.args.table.now.levels
 
 abbrev block : After-bits_at-edition → List ℕ
 block c = c.args.block.now
@@ -63,7 +63,6 @@ pub read_counted-requires : goal.read_counted-requires
 read_counted-requires c =
     let k = counted (goal.at.read_counted-requires c).Else-count-gt16 in
     let o = k.opens in record {
-      table = c.requires;
       edition_value = (o.named, o.edition_low, o.edition_high, o.counted);
       le_count = (k.low, k.high, c.if-block-block_length.false ∙ c.block_length.ensures);
     }

@@ -9,20 +9,19 @@ use lib.Seq.{take_at}
 use Rattle.plan.specs.declared.Task.{Task}
 use Rattle.plan.specs.declared.Plan.{Plan}
 use Rattle.plan.specs.declared.Judged.{Judged}
-use Rattle.plan.specs.declared.Verdict.TheVariants as verdict
-use Rattle.plan.specs.declared.Written.{Written}
-use Rattle.plan.specs.declared.Written.TheVariants as written
+use Rattle.plan.specs.Answers.{accepted_with, beside, judged_by, read_block, write_number, written_by, stored_by, write_plan, write_buffer, copy_number}
 use Rattle.plan.specs.Blocks.{plan_block, tasks_in, tasks_of, plan_of}
 use Rattle.plan.specs.LevelBlocks.{loading, speeds_in}
 use Rattle.plan.specs.Questions.{reading, writing, room_question}
 use Rattle.arith.specs.Asking.{Question, first_no}
-use Rattle.plan.specs.Answers.{beside, judged_by, read_block, write_number, written_by, stored_by, write_plan, write_buffer, copy_number}
 use Rattle.plan.specs.Laws.{Bytes}
 use Rattle.plan.proofs.Facts.{fine_block}
 use Rattle.arith.proofs.QuestionLaws.{no_before, yes_before, yes_of, yes_after}
 use Rattle.plan.proofs.RoundTrip.{written_reads_back, none_accepted, accepted_block, tasks_of-plan_of, read_judged}
 use Rattle.plan.proofs.AnswerLaws.{told_refused, told_admitted, told_written, Leaves, leaves_refused}
 use Rattle.plan_writing.proofs.WriteLaws.{asked, last, Writes, write_last}
+use Rattle.std.specs.declared.result.Result.TheVariants.{Ok}
+use Rattle.plan.specs.Counted.{Counted, refused}
 
 -- a block read, and what writes it again
 module _ (levels block : List ℕ) where
@@ -32,7 +31,7 @@ module _ (levels block : List ℕ) where
   abbrev room_asked : ℕ → List Question
   room_asked room = room_question (length block) room ∷ []
 
-  abbrev Copied : List ℕ → Written → List ℕ → Type 0
+  abbrev Copied : List ℕ → Counted → List ℕ → Type 0
   Copied buffer r m = Leaves (copy_number levels block (length buffer)) block buffer r m
 
   -- accepted: its plan's block is the block itself, and its plan is accepted too
@@ -57,17 +56,17 @@ module _ (levels block : List ℕ) where
         ∙ ap (λ (l : List ℕ). first_no (room_question (length l) room ∷ [])) copied
         ∙ sym (yes_before (loading levels ++ read_asked) (room_asked room) refl all)
 
-    leaves_copy : (buffer : List ℕ) {r : Written} {m : List ℕ} → Writes levels p buffer r m → Copied buffer r m
+    leaves_copy : (buffer : List ℕ) {r : Counted} {m : List ℕ} → Writes levels p buffer r m → Copied buffer r m
     leaves_copy buffer w = (
       w.0 ∙ ap₂ (λ (k : ℕ) (l : List ℕ). written_by k l) (copy_number_lem (length buffer)) copied,
       w.1 ∙ ap₂ (λ (k : ℕ) (l : List ℕ). stored_by k l buffer) (copy_number_lem (length buffer)) copied,
     )
 
   pub leaves_read :
-      (buffer : List ℕ) {j : Judged} {level span : ℕ} {r : Written} {m : List ℕ} →
+      (buffer : List ℕ) {j : Judged} {level span : ℕ} {r : Counted} {m : List ℕ} →
       Bytes block →
       j ≡ read_block levels block →
-      j.verdict ≡ verdict.Admitted level span →
+      j.verdict ≡ accepted_with level span →
       Writes levels j.plan buffer r m →
       Copied buffer r m
   leaves_read buffer {j} {level} {span} bytes a b =
@@ -80,8 +79,8 @@ module _ (levels block : List ℕ) where
   pub leaves_unread :
       (buffer : List ℕ) {j : Judged} {n : ℕ} →
       j ≡ read_block levels block →
-      j.verdict ≡ verdict.Refused n →
-      Copied buffer (written.Refused n) buffer
+      j.verdict ≡ refused n →
+      Copied buffer (refused n) buffer
   leaves_unread buffer {j} {n} a b =
       let asked-all : List Question = loading levels ++ read_asked in
       let t = told_refused (speeds_in levels) (tasks_in block) j.verdict (first_no asked-all) n (ap (λ (x : Judged). x.verdict) a) b in
@@ -95,9 +94,9 @@ pub record Rewritten (levels : List ℕ) (p : Plan) (buffer m : List ℕ) (n : �
   pub stored : m ≡ write_buffer levels p buffer
 
 pub rewritten :
-    {levels : List ℕ} {p : Plan} {buffer m : List ℕ} {n : ℕ} {w : Written} →
+    {levels : List ℕ} {p : Plan} {buffer m : List ℕ} {n : ℕ} {w : Counted} →
     w ≡ write_plan levels p (length buffer) →
-    w ≡ written.Bytes n →
+    w ≡ Ok n →
     m ≡ write_buffer levels p buffer →
     Rewritten levels p buffer m n
 rewritten {levels} {p} {buffer} a b s =

@@ -1,48 +1,43 @@
 use native.Mathlib.Omega.{arith}
-use borrow.Author.Tests.{not-true, not-false}
+use borrow.Author.Rules.{rules}
 use Rattle.levels.specs.Code.{loaded}
 use Rattle.soundness.specs.Code.{Good}
 use Rattle.soundness.proofs.SoundLaws.{tested_good}
 use Rattle.showing.proofs.ready.ReadySteps.{listed_few, listed_below}
 use Rattle.showing.proofs.ShowLaws.{over_own, Showing, show_unsound, show_short, show_stored}
-use Rattle.showing.proofs.show_over.Goals.{After-ready-q, Else-not-tested}
+use Rattle.showing.proofs.show_over.Goals.{After-ready-q, In-Some}
 use Rattle.showing.proofs.show_over.Goals as goal
 
-good : (c : Else-not-tested) →
-    Good (loaded c.args.speeds.now c.args.levels) c.args.state.now c.test_block-tested.result.keys c.test_block-tested.result.nominal
-good c =
-    tested_good (loaded c.args.speeds.now c.args.levels) c.args.state.now c.test_block-tested.result c.test_block-tested.ensures c.requires.table.rising
-    (not-false c.test_block-tested.result.sound c.if-not-tested.false)
+good : (c : In-Some) → Good (loaded c.args.table.now.speeds c.args.table.now.levels) c.args.state.now c.in-Some.tested.keys c.in-Some.tested.nominal
+good c = tested_good c.args.table.now.known.rising c.in-Some.ensures
 
 showing : (c : After-ready-q) →
-    Showing (loaded c.args.speeds.now c.args.levels) c.args.state.now c.test_block-tested.result.keys c.test_block-tested.result.nominal
+    Showing (loaded c.args.table.now.speeds c.args.table.now.levels) c.args.state.now c.in-Some.tested.keys c.in-Some.tested.nominal
     c.count_at.result c.ready-q.result
 showing c =
-    let good : Good (loaded c.args.speeds.now c.args.levels) c.args.state.now c.test_block-tested.result.keys c.test_block-tested.result.nominal =
-    tested_good (loaded c.args.speeds.now c.args.levels) c.args.state.now c.test_block-tested.result c.test_block-tested.ensures c.requires.table.rising
-    (not-false c.test_block-tested.result.sound c.if-not-tested.false) in
+    let good : Good (loaded c.args.table.now.speeds c.args.table.now.levels) c.args.state.now c.in-Some.tested.keys c.in-Some.tested.nominal =
+    tested_good c.args.table.now.known.rising c.in-Some.ensures in
     record {
       good = good;
       counted = c.count_at.ensures;
       listed = record { few = omega (arith, c.count_at.ensures, good.holds.few); is = c.ready-q.ensures };
     }
 
-pub test_block-tested-requires : goal.test_block-tested-requires
-test_block-tested-requires c = (c.requires.table, c.requires.size)
+pub test_block-requires : goal.test_block-requires
+test_block-requires c = c.requires.size
 
-pub returns-then-not-tested : goal.returns-then-not-tested
-returns-then-not-tested c =
+pub returns-in_default : goal.returns-in_default
+returns-in_default c =
     let all = over_own c.requires c.args.buffer.now
-    (show_unsound (loaded c.args.speeds.now c.args.levels) c.args.state.now c.args.buffer.now c.test_block-tested.result c.test_block-tested.ensures
-    (not-true c.test_block-tested.result.sound c.if-not-tested.true)) in
+    (show_unsound (loaded c.args.table.now.speeds c.args.table.now.levels) c.args.state.now c.args.buffer.now (search rules)) in
     record { value = all.0; buffer_after = all.1 }
 
 pub count_at-requires : goal.count_at-requires
-count_at-requires c = (good (goal.at.count_at-requires c).Else-not-tested).holds
+count_at-requires c = (good (goal.at.count_at-requires c).In-Some).holds
 
 pub ready-q-requires : goal.ready-q-requires
 ready-q-requires c =
-    let holds = (good (goal.at.ready-q-requires c).Else-not-tested).holds in
+    let holds = (good (goal.at.ready-q-requires c).In-Some).holds in
     (omega (arith, c.count_at.ensures, holds.few), holds.size)
 
 pub overflow_mul-wanted : goal.overflow_mul-wanted

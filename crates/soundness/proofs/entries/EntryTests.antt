@@ -13,15 +13,15 @@ use lib.Seq.{take_all}
 use Rattle.arith.specs.Choice.{pick, both, every}
 use Rattle.plan.specs.declared.Rest.{Rest}
 use Rattle.plan.specs.Times.{time_of, whole}
-use Rattle.arith.proofs.Tests.{both_left, both_yes}
+use Rattle.arith.proofs.Tests.{both_left, both_right, both_yes}
 use Rattle.arith.proofs.ListLaws.{every_both}
 use Rattle.arith.proofs.Loops.{every_again, every_not, every_end}
 use Rattle.reclaiming.specs.declared.Entry.{Entry}
 use Rattle.reclaiming.specs.StateBlock.{State, no_entry, rest_in, task_of, total_in, decode, state_count}
 use Rattle.reclaiming.specs.Questions.{entry_sound, entry_ahead, total_sound}
 use Rattle.state.specs.Code.{Holds, entry_in, queued_to}
-use Rattle.soundness.specs.declared.entries.Entries.{Entries}
-use Rattle.soundness.specs.SoundEntries.{rest_sound, entry_passes, entries_pass, entries_tested}
+use Rattle.soundness.specs.declared.entries.Entries.TheVariants.{NotSound, Behind, Ahead}
+use Rattle.soundness.specs.SoundEntries.{rest_sound, entry_passes, entries_pass, entries_by, entries_tested}
 use Rattle.state.proofs.BlockLaws.{count_in_lem, entry_at_lem, queued_in_lem}
 
 -- what is left of a job, beside a whole one: each test as the code makes it
@@ -180,16 +180,19 @@ module _ (speed : ℕ) (s : State) {both-pass : Bool} (e : both-pass ≡ entries
       both_turned (every (entry_sound speed) es) (total_sound s) aheads
       ∙ sym (e ∙ ap (λ (t : Bool). both t (total_sound s)) (every_both (entry_sound speed) (entry_ahead speed) es))
 
-  pub entries_ahead : both-pass ≡ true → ◌≡◌ {A = Entries} (record { sound = true; ahead = true }) (entries_tested speed s)
+  pub entries_ahead : both-pass ≡ true → Ahead ≡ entries_tested speed s
   entries_ahead t =
       let all : both sounds aheads ≡ true = passes_both ∙ t in
-      λ k. record { sound = sym (both_left sounds aheads all) k; ahead = sym all k }
+      sym (ap₂ entries_by (both_left sounds aheads all) (both_right sounds aheads all))
 
-  pub entries_behind :
-      both-pass ≡ false →
-      {sound : Bool} →
-      sound ≡ entries_pass false speed s →
-      ◌≡◌ {A = Entries} (record { sound = sound; ahead = false }) (entries_tested speed s)
-  entries_behind f {sound} g =
-      let alone : sound ≡ sounds = g ∙ (λ k. both (every (λ (x : Entry). both_yes (entry_sound speed x) k) es) (total_sound s)) in
-      λ k. record { sound = alone k; ahead = sym (passes_both ∙ f) k }
+  module _ {sound : Bool} (g : sound ≡ entries_pass false speed s) where
+    alone : sounds ≡ sound
+    alone = sym (g ∙ (λ k. both (every (λ (x : Entry). both_yes (entry_sound speed x) k) es) (total_sound s)))
+
+    pub entries_behind : both-pass ≡ false → sound ≡ true → Behind ≡ entries_tested speed s
+    entries_behind f t =
+        let well : sounds ≡ true = alone ∙ t in
+        sym (ap₂ entries_by well (ap (λ (x : Bool). both x aheads) (sym well) ∙ passes_both ∙ f))
+
+    pub entries_none : sound ≡ false → NotSound ≡ entries_tested speed s
+    entries_none f = sym (ap (λ (x : Bool). entries_by x aheads) (alone ∙ f))

@@ -19,7 +19,7 @@ use Rattle.starting.proofs.started.Goals as goal
 
 -- the table's speeds
 abbrev table : Start → List ℕ
-table c = loaded c.args.speeds.now c.args.levels
+table c = loaded c.args.table.now.speeds c.args.table.now.levels
 
 size : (c : Start) → length c.args.p.tasks ≡ 16
 size c = search (length_mapped, rules)
@@ -28,17 +28,17 @@ accepted : (c : Start) → Planned (table c) c.args.p c.args.highest
 accepted c = planned (table c) c.args.p c.args.highest (size c) c.requires.p_value c.requires.highest_value
 
 -- the nominal level is one of the table's
-below : (c : Start) → c.args.highest < c.args.levels
-below c = omega (arith, level_below (accepted c), levels_are c.requires.table.0)
+below : (c : Start) → c.args.highest < c.args.table.now.levels
+below c = omega (arith, level_below (accepted c), levels_are c.args.table.now.known)
 
 -- the new image
-new : (c : After-fresh-image) → Newly (loaded c.args.speeds.now c.args.levels) (tasks_of c.args.p) c.fresh-image.result
+new : (c : After-fresh-image) → Newly (loaded c.args.table.now.speeds c.args.table.now.levels) (tasks_of c.args.p) c.fresh-image.result
 new c =
     let size : length c.args.p.tasks ≡ 16 = search (length_mapped, rules) in
-    let accepted : Planned (loaded c.args.speeds.now c.args.levels) c.args.p c.args.highest =
-    planned (loaded c.args.speeds.now c.args.levels) c.args.p c.args.highest size c.requires.p_value c.requires.highest_value in
-    newly c.requires.table.0.rising (table_stored c.requires.table.0) accepted
-    (speed_is c.requires.table.0 c.args.highest (omega (arith, level_below accepted, levels_are c.requires.table.0)))
+    let accepted : Planned (loaded c.args.table.now.speeds c.args.table.now.levels) c.args.p c.args.highest =
+    planned (loaded c.args.table.now.speeds c.args.table.now.levels) c.args.p c.args.highest size c.requires.p_value c.requires.highest_value in
+    newly c.args.table.now.known.rising (table_stored c.args.table.now.known) accepted
+    (speed_is c.args.table.now.known c.args.highest (omega (arith, level_below accepted, levels_are c.args.table.now.known)))
     c.fresh-image.ensures
 
 pub returns-then-state-lt-STATE_LENGTH : goal.returns-then-state-lt-STATE_LENGTH
@@ -48,22 +48,22 @@ returns-then-state-lt-STATE_LENGTH c =
       state_after = all.1;
     }
 
-pub offset_bounds-speeds-highest : goal.offset_bounds-speeds-highest
-offset_bounds-speeds-highest c = omega (arith, below (goal.at.offset_bounds-speeds-highest c).Start, c.requires.table.0.few)
+pub offset_bounds-table-highest : goal.offset_bounds-table-highest
+offset_bounds-table-highest c = omega (arith, below (goal.at.offset_bounds-table-highest c).Start, c.args.table.now.known.few)
 
-pub bounds-speeds-highest : goal.bounds-speeds-highest
-bounds-speeds-highest c = omega (arith, below (goal.at.bounds-speeds-highest c).Start, c.requires.table.0.few)
+pub bounds-table-highest : goal.bounds-table-highest
+bounds-table-highest c = omega (arith, below (goal.at.bounds-table-highest c).Start, c.args.table.now.known.few)
 
 pub fresh-image-requires : goal.fresh-image-requires
 fresh-image-requires c =
     let k = accepted (goal.at.fresh-image-requires c).Start in record {
-      levels_bound = (c.requires.table.0.few, c.requires.table.1);
+      levels_bound = (c.args.table.now.known.few, c.requires.padded);
       count_le_places = (
         k.plan.held.most,
         k.plan.ranges,
-        subst (λ (n : ℕ). every (floor_loaded n) (tasks_of c.args.p) ≡ true) (levels_are c.requires.table.0) k.good.tasks.floors,
+        subst (λ (n : ℕ). every (floor_loaded n) (tasks_of c.args.p) ≡ true) (levels_are c.args.table.now.known) k.good.tasks.floors,
       );
-      speed_nonzero = (speed_positive c.requires.table.0 c.args.highest (below (goal.at.fresh-image-requires c).Start), speed_most c.requires.table.0 c.args.highest (below (goal.at.fresh-image-requires c).Start));
+      speed_nonzero = (speed_positive c.args.table.now.known c.args.highest (below (goal.at.fresh-image-requires c).Start), speed_most c.args.table.now.known c.args.highest (below (goal.at.fresh-image-requires c).Start));
     }
 
 pub keys_of-keys-requires : goal.keys_of-keys-requires
@@ -77,7 +77,7 @@ pub choose-r-requires : goal.choose-r-requires
 choose-r-requires c =
     let k = new (goal.at.choose-r-requires c).After-fresh-image in
     let r = new_ready k (sym (count_is (accepted (goal.at.choose-r-requires c).Start).plan.held)) c.keys_of-keys.ensures c.args.highest c.requires.highest_value in record {
-      table = (c.requires.table.0, r.0.0, r.0.1, r.0.2);
+      holds = (r.0.0, r.0.1, r.0.2);
       enough = r.1.0;
       keyed = r.1.1;
     }

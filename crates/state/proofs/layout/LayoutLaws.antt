@@ -6,15 +6,16 @@ use mathlib.Core.Path.{◌≡◌, refl, sym, ap, ap₂, ◌∙◌}
 use mathlib.Core.Bool.{Bool, true, false}
 use mathlib.Core.List.{List, [], ◌∷◌, ◌++◌, append_assoc}
 use native.Mathlib.Nat.{one-le-pow}
-use native.Mathlib.Numerals.{add-one}
 use native.Mathlib.Omega.{arith}
 use native.Mathlib.Decide.{dec_le}
 use borrow.Author.Tests.{eqb-true, eq-eqb, ne_eqb}
 use lib.Dec.{eqb}
 use lib.ListN.{length, get_or, take, drop, replicate, length-drop, length-replicate, take-append-drop}
-use lib.Seq.{drop-cons, drop-drop, drop-length, drop_at, get_or-take, length-take-le, take-add}
+use lib.Seq.{drop-drop, drop-length, length-take-le}
+use Rattle.std.specs.List.{sum}
+use Rattle.std.proofs.lemmas.List.{take_all, drop-take}
+use Rattle.std.proofs.lemmas.List.Sums.{sum_by-cons}
 use Rattle.arith.specs.Choice.{both, every}
-use Rattle.arith.specs.Sum.{sum_of}
 use Rattle.arith.specs.Digits.{number, digits}
 use Rattle.arith.proofs.Tests.{same_test, both_yes}
 use Rattle.arith.proofs.DigitLaws.{length_digits, number_digits, digits_number}
@@ -31,54 +32,34 @@ both_assoc : (a b c : Bool) → both a (both b c) ≡ both (both a b) c
 both_assoc true b c = refl
 both_assoc false b c = refl
 
--- the sum of bytes
-abbrev byte_sum : List ℕ → ℕ
-byte_sum l = sum_of (λ (x : ℕ). x) l
-
 -- bytes are all zero exactly if their sum is
-zero_sum : (l : List ℕ) → eqb (byte_sum l) 0 ≡ every (eqb 0) l
+zero_sum : (l : List ℕ) → eqb (sum l) 0 ≡ every (eqb 0) l
 zero_sum [] = refl
 zero_sum (x ∷ l) =
+    let c : sum (x ∷ l) ≡ x + sum l = sum_by-cons (λ (n : ℕ). n) x l in
     elim (dec_le 1 x) [
-      | yes h ↦ simp (ne_eqb (x + byte_sum l) 0 (λ e. omega arith), ne_eqb 0 x (λ e. omega arith))
+      | yes h ↦ simp (ne_eqb (sum (x ∷ l)) 0 (λ e. omega (arith, c)), ne_eqb 0 x (λ e. omega arith))
       | no h ↦
-          let e : x + byte_sum l ≡ byte_sum l = omega arith in
+          let e : sum (x ∷ l) ≡ sum l = omega (arith, c) in
           ap (λ (n : ℕ). eqb n 0) e ∙ zero_sum l ∙ ap (λ (b : Bool). both b (every (eqb 0) l)) (sym (eq-eqb 0 x (omega arith)))
     ]
 
--- the bytes of a block up to the end of its places
-abbrev places_in : List ℕ → List ℕ
-places_in bytes = take tail_at bytes
+-- the bytes of a block from a place on, up to the end of the places for entries
+abbrev pub places_from : List ℕ → ℕ → List ℕ
+places_from bytes at = take (tail_at - at) (drop at bytes)
 
--- their sum from a place on, up to i
-pub record SummedTo (bytes : List ℕ) (at sum i : ℕ) : Type 0 where
-  pub size : length bytes ≡ state_length
-  pub below : i ≤ tail_at
-  pub total : sum + byte_sum (drop i (places_in bytes)) ≡ byte_sum (drop at (places_in bytes))
-  pub small : sum ≤ 255 * i
-
-pub sum_none : (bytes : List ℕ) (at : ℕ) → length bytes ≡ state_length → at ≤ tail_at → SummedTo bytes at 0 at
-sum_none bytes at size h = record { size = size; below = h; total = omega arith; small = omega arith }
-
-module _ {bytes : List ℕ} {at sum i : ℕ} (so_far : SummedTo bytes at sum i) where
-  places_length : length (places_in bytes) ≡ tail_at
-  places_length = length-take-le tail_at bytes (omega (arith, so_far.size))
-
-  pub sum_more : {x : ℕ} → i < tail_at → x ≡ get_or bytes i 0 → x ≤ 255 → SummedTo bytes at (sum + x) (i + 1)
-  sum_more {x} h e most =
-      let l : List ℕ = places_in bytes in
-      let s : byte_sum (drop i l) ≡ get_or l i 0 + byte_sum (drop (i + 1) l) =
-      ap byte_sum (drop-cons l i 0 (omega (arith, places_length)) ∙ ap (λ (k : ℕ). get_or l i 0 ∷ drop k l) (sym (add-one i))) in
-      let same : get_or l i 0 ≡ get_or bytes i 0 = get_or-take tail_at bytes i 0 h in
-      record { size = so_far.size; below = omega arith; total = omega (arith, so_far.total); small = omega (arith, so_far.small) }
-
-  pub sum_all : tail_at ≤ i → eqb sum 0 ≡ every (eqb 0) (drop at (take tail_at bytes))
-  sum_all h =
-      let l : List ℕ = places_in bytes in
-      let z : i ≡ length l = omega (arith, places_length, so_far.below) in
-      let e : byte_sum (drop i l) ≡ 0 = ap byte_sum (ap (λ (k : ℕ). drop k l) z ∙ drop-length l) in
-      let s : sum ≡ byte_sum (drop at l) = omega (arith, so_far.total) in
-      ap (λ (n : ℕ). eqb n 0) s ∙ zero_sum (drop at l)
+-- a sum of them all decides whether they are zero
+pub zero_places :
+    (bytes : List ℕ) (at : ℕ) {s i : ℕ} →
+    at ≤ tail_at →
+    s ≡ sum (take i (places_from bytes at)) →
+    length (places_from bytes at) ≤ i →
+    eqb s 0 ≡ every (eqb 0) (drop at (take tail_at bytes))
+zero_places bytes at h e past =
+    let z : tail_at ≡ at + (tail_at - at) = omega arith in
+    ap (λ (n : ℕ). eqb n 0) (e ∙ ap sum (take_all _ (places_from bytes at) past))
+    ∙ zero_sum (places_from bytes at)
+    ∙ sym (ap (every (eqb 0)) (ap (λ (n : ℕ). drop at (take n bytes)) z ∙ drop-take at (tail_at - at) bytes))
 
 -- comparing bytes piece by piece
 same_append :
@@ -200,11 +181,6 @@ same_entries (suc n) m l rest h b =
     (drop-drop (entry_length * n) entry_length l ∙ ap (λ (k : ℕ). drop k l) p)
     (drop-drop (entry_length * n + m) entry_length l ∙ ap (λ (k : ℕ). drop k l) q)
 
--- a part of a list, cut off in front or behind first
-drop-take : (a m : ℕ) (l : List ℕ) → a + m ≤ length l → drop a (take (a + m) l) ≡ take m (drop a l)
-drop-take a m l h =
-    ap (λ (x : List ℕ). drop a x) (take-add a m l) ∙ drop_at (take a l) (take m (drop a l)) a (length-take-le a l (omega arith))
-
 -- the tests of a block past its head
 abbrev zeros_past : List ℕ → Bool
 zeros_past block = every (eqb 0) (drop (entry_at (state_count block)) (take tail_at block))
@@ -279,7 +255,7 @@ module _ {block : List ℕ} (known : BlockBytes block) where
       (bytes_past head_length block known.bytes)
       ∙ ap₂ (λ (x y : List ℕ). both (every (eqb 0) x) (same_bytes last y))
       (ap (λ (x : List ℕ). take m x) (drop-drop (entry_length * n) head_length block)
-      ∙ sym (drop-take (entry_at n) m block (omega (arith, known.size)))
+      ∙ sym (drop-take (entry_at n) m block)
       ∙ ap (λ (k : ℕ). drop (entry_at n) (take k block)) q)
       (drop-drop (entry_length * n + m) head_length block ∙ ap (λ (k : ℕ). drop k block) p)
       ∙ ap (λ (t : Bool). both (zeros_past block) t) tail_same

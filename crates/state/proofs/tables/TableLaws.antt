@@ -3,7 +3,7 @@
 use Prim.Native.Nat.{ℕ, suc, ◌+◌, ◌*◌, ◌<◌, ◌≤◌}
 use mathlib.Core.Path.{◌≡◌, refl, sym, ap, ap₂, ◌∙◌}
 use mathlib.Core.Bool.{Bool, true, false, true≢false}
-use mathlib.Core.List.{List, []}
+use mathlib.Core.List.{List}
 use native.Mathlib.Numerals.{add-one}
 use native.Mathlib.Omega.{arith}
 use borrow.Author.Tests.{eqb-true, eq-eqb, ne_eqb}
@@ -31,8 +31,8 @@ use Rattle.reclaiming.proofs.FieldLaws.{store_next}
 use Rattle.reclaiming.proofs.StateCodec.{StorableTable, speed_row_lem, laid_length}
 use Rattle.reclaiming.proofs.Soundness.{fine_stored}
 use Rattle.state.proofs.TailLaws.{levels_in, speed_offset}
-use Rattle.state.specs.declared.tables.OwnTable.{OwnTable}
-use Rattle.state.specs.Tables.{own_table, table_by, Owns, table_only, table_bytes}
+use Rattle.levels.specs.declared.table.SpeedTable.{SpeedTable}
+use Rattle.state.specs.Tables.{own_table, OwnTable, Owns, table_only, table_bytes}
 
 -- a block's length, and then its table, decide
 module _ (bytes : List ℕ) where
@@ -66,11 +66,6 @@ loaded_own bytes {held} {count} gathered counted few =
     ∙ take-list_to count level_places (speed_in bytes) 0 few
     ∙ ap (λ (n : ℕ). list_to n (speed_in bytes)) counted
 
--- each way out of the test: no table, or the one that was found to rise
-module _ (bytes : List ℕ) {t : OwnTable} where
-  pub found_none : own_table bytes ≡ false → t ≡ table_by false [] → t ≡ table_by (own_table bytes) bytes
-  found_none f e = e ∙ sym (ap (λ (b : Bool). table_by b bytes) f)
-
 pub record Gathers (bytes held : List ℕ) (count : ℕ) : Type 0 where
   pub size : length bytes ≡ state_length
   pub some : 1 ≤ count
@@ -89,38 +84,33 @@ module _ {bytes held : List ℕ} {count : ℕ} (k : Gathers bytes held count) wh
       (sym (loaded_own bytes k.gathered k.counted k.few))
       ∙ sym e
 
-  pub found_falling : {t : OwnTable} {b : Bool} → b ≡ rises_from 0 (loaded held count) → b ≡ false → t ≡ table_by false [] → t ≡ table_by (own_table bytes) bytes
-  found_falling e f = found_none bytes (rises_is e ∙ f)
+  -- the two ways out of the last test: no table, or the one that was found to rise
+  pub found_falling : {b : Bool} → b ≡ rises_from 0 (loaded held count) → b ≡ false → own_table bytes ≡ false
+  found_falling e f = rises_is e ∙ f
 
-  pub found_rising : {b : Bool} → b ≡ rises_from 0 (loaded held count) → b ≡ true → record { levels = count; speeds = held } ≡ table_by (own_table bytes) bytes
-  found_rising e f =
-      (λ i. record { levels = k.counted i; speeds = k.gathered i }) ∙ sym (ap (λ (b : Bool). table_by b bytes) (rises_is e ∙ f))
+  module _ {b : Bool} (e : b ≡ rises_from 0 (loaded held count)) (f : b ≡ true) where
+    pub found_good : own_table bytes ≡ true
+    found_good = rises_is e ∙ f
+
+    pub found_table : Table held count
+    found_table = rises_table held count gathered_length k.few (sym e ∙ f)
 
 -- a table that was found is the block's own
-pub owns : (bytes : List ℕ) {t : OwnTable} → t ≡ table_by (own_table bytes) bytes → (t.levels ≡ 0 → ⊥) → Owns bytes t.speeds t.levels
-owns bytes {t} e some = by (own_table bytes) refl e
-  where
-    by : (b : Bool) → own_table bytes ≡ b → t ≡ table_by b bytes → Owns bytes t.speeds t.levels
-    by false f e = absurd (some (ap (λ (x : OwnTable). x.levels) e))
-    by true f e =
-        let speeds : List ℕ = (decode bytes).speeds in
-        let fine : FineTable speeds = fine_table speeds (both_right (eqb (length bytes) state_length) (table_good speeds) f) in
-        let counted : t.levels ≡ level_count bytes = ap (λ (x : OwnTable). x.levels) e in
-        let held : t.speeds ≡ list_to level_places (speed_in bytes) = ap (λ (x : OwnTable). x.speeds) e in
-        let few : t.levels ≤ 8 = omega (arith, counted, levels_in bytes, fine.few) in
-        let is : loaded t.speeds t.levels ≡ speeds = loaded_own bytes held counted few in
-        record {
-          size = eqb-true (length bytes) state_length (both_left (eqb (length bytes) state_length) (table_good speeds) f);
-          good = fine.good;
-          is = is;
-          table =
-              rises_table t.speeds t.levels (ap length held) few
-              (ap (λ (l : List ℕ). rises_from 0 l) is ∙ both_right (within 1 8 (length speeds)) (rises_from 0 speeds) fine.good);
-        }
+pub owns : (bytes : List ℕ) {t : SpeedTable} → OwnTable bytes t → Owns bytes t.speeds t.levels
+owns bytes {t} o =
+    let speeds : List ℕ = (decode bytes).speeds in
+    record {
+      size = eqb-true (length bytes) state_length (both_left (eqb (length bytes) state_length) (table_good speeds) o.good);
+      good = both_right (eqb (length bytes) state_length) (table_good speeds) o.good;
+      is = loaded_own bytes o.speeds o.levels t.known.few;
+      table = t.known;
+    }
 
 -- a block without one is not sound
-pub unowned : (bytes : List ℕ) {t : OwnTable} → t ≡ table_by (own_table bytes) bytes → t.levels ≡ 0 → sound bytes ≡ false
-unowned bytes {t} e none = by (own_table bytes) refl e
+pub unowned : (bytes : List ℕ) → own_table bytes ≡ false → sound bytes ≡ false
+unowned bytes none =
+    elim (tested (sound bytes)) as (λ b _. sound bytes ≡ b → b ≡ false)
+    [ passed ↦ λ h. absurd (true≢false (sym (owned h) ∙ none)) | failed ↦ λ h. refl ] refl
   where
     speeds : List ℕ
     speeds = (decode bytes).speeds
@@ -133,14 +123,6 @@ unowned bytes {t} e none = by (own_table bytes) refl e
         (eq-eqb (length bytes) state_length
         (laid_length bytes (both_left (laid_out bytes) rest (both_right (table_good speeds) (sound_at speeds bytes) h))))
         (both_left (table_good speeds) (sound_at speeds bytes) h)
-
-    by : (b : Bool) → own_table bytes ≡ b → t ≡ table_by b bytes → sound bytes ≡ false
-    by false f e =
-        elim (tested (sound bytes)) as (λ b _. sound bytes ≡ b → b ≡ false)
-        [ passed ↦ λ h. absurd (true≢false (sym (owned h) ∙ f)) | failed ↦ λ h. refl ] refl
-    by true f e =
-        let fine : FineTable speeds = fine_table speeds (both_right (eqb (length bytes) state_length) (table_good speeds) f) in
-        absurd (omega (arith, none, ap (λ (x : OwnTable). x.levels) e, levels_in bytes, fine.some))
 
 -- a table that the code is handed fits a block
 pub table_stored : {held : List ℕ} {levels : ℕ} → Table held levels → StorableTable (loaded held levels)

@@ -7,22 +7,22 @@ use Rattle.ticks.proofs.TickSteps.{clocked_allots, clocked_total, clocked_small,
 use Rattle.ticks.proofs.move_on.Goals.{After-count_at-count, After-put_number, After-put_total}
 use Rattle.ticks.proofs.move_on.Goals as goal
 
-moving : (c : After-count_at-count) → Moving c.args.speeds.now c.args.levels c.args.block.now c.args.keys.now c.args.highest c.args.d c.args.c c.count_at-count.result
-moving c = record { table = c.requires.table.0; step = c.requires.table.1; order = c.requires.c_value; same = c.count_at-count.ensures }
+moving : (c : After-count_at-count) → Moving c.args.table.now.speeds c.args.table.now.levels c.args.block.now c.args.keys.now c.args.highest c.args.d c.args.c c.count_at-count.result
+moving c = record { table = c.args.table.now.known; step = c.requires.step; order = c.requires.c_value; same = c.count_at-count.ensures }
 
 prepared :
     (c : After-put_number) →
-    Prepared c.args.speeds.now c.args.levels c.args.block.now c.args.keys.now c.args.highest c.args.d c.args.c
+    Prepared c.args.table.now.speeds c.args.table.now.levels c.args.block.now c.args.keys.now c.args.highest c.args.d c.args.c
     c.count_at-count.result c.after-clock.result.ticks
 prepared c = record {
-  moving = record { table = c.requires.table.0; step = c.requires.table.1; order = c.requires.c_value; same = c.count_at-count.ensures };
+  moving = record { table = c.args.table.now.known; step = c.requires.step; order = c.requires.c_value; same = c.count_at-count.ensures };
   clock_is = c.after-clock.ensures ∙ ap (λ (x : ℕ). x + c.args.d) (c.new.ensures ∙ c.clock_at.ensures);
 }
 
 -- the block before the arrivals, and what is left of the total
 clocked :
     (c : After-put_number) →
-    Clocked c.args.speeds.now c.args.levels c.args.block.now c.args.keys.now c.args.highest c.args.d c.args.c
+    Clocked c.args.table.now.speeds c.args.table.now.levels c.args.block.now c.args.keys.now c.args.highest c.args.d c.args.c
     c.count_at-count.result c.after-clock.result.ticks c.args.finished
     c.drain.new.block c.work_off.new.block c.put_number.new.s c.left_of-left.result
 clocked c = record {
@@ -33,22 +33,22 @@ clocked c = record {
   lowered = c.left_of-left.ensures ∙ ap (λ (x : ℕ). x - c.args.d) c.total_at.ensures;
 }
 
-pub offset_bounds-speeds-highest : goal.offset_bounds-speeds-highest
-offset_bounds-speeds-highest c =
-    let k = moving (goal.at.offset_bounds-speeds-highest c).After-count_at-count in
+pub offset_bounds-table-highest : goal.offset_bounds-table-highest
+offset_bounds-table-highest c =
+    let k = moving (goal.at.offset_bounds-table-highest c).After-count_at-count in
     omega (arith, highest_small k, k.table.few)
 
-pub bounds-speeds-highest : goal.bounds-speeds-highest
-bounds-speeds-highest c =
-    let k = moving (goal.at.bounds-speeds-highest c).After-count_at-count in
+pub bounds-table-highest : goal.bounds-table-highest
+bounds-table-highest c =
+    let k = moving (goal.at.bounds-table-highest c).After-count_at-count in
     omega (arith, highest_small k, k.table.few)
 
 pub drain-requires-clause-by_index : goal.drain-requires-clause-by_index
 drain-requires-clause-by_index c = moving_keys (moving (goal.at.drain-requires-clause-by_index c).After-count_at-count)
 
-pub work_off-requires-clause-table : goal.work_off-requires-clause-table
-work_off-requires-clause-table c =
-    let k = moving (goal.at.work_off-requires-clause-table c).After-count_at-count in (k.table, search rules, moving_short k)
+pub work_off-requires-clause-few_ticks : goal.work_off-requires-clause-few_ticks
+work_off-requires-clause-few_ticks c =
+    let k = moving (goal.at.work_off-requires-clause-few_ticks c).After-count_at-count in (search rules, moving_short k)
 
 pub work_off-requires-clause-task_lt_places : goal.work_off-requires-clause-task_lt_places
 work_off-requires-clause-task_lt_places c = order_form (moving (goal.at.work_off-requires-clause-task_lt_places c).After-count_at-count)
@@ -73,10 +73,10 @@ arrive_if-total-requires-clause-allots c =
 -- and after them
 stepped :
     (c : After-put_total) →
-    Clocked c.args.speeds.now c.args.levels c.args.block.now c.args.keys.now c.args.highest c.args.d c.args.c
+    Clocked c.args.table.now.speeds c.args.table.now.levels c.args.block.now c.args.keys.now c.args.highest c.args.d c.args.c
     c.count_at-count.result c.after-clock.result.ticks c.args.finished
     c.drain.new.block c.work_off.new.block c.put_number.new.s c.left_of-left.result →
-    Stepped c.args.speeds.now c.args.levels c.args.block.now c.args.keys.now c.args.highest c.args.d c.args.c
+    Stepped c.args.table.now.speeds c.args.table.now.levels c.args.block.now c.args.keys.now c.args.highest c.args.d c.args.c
     c.count_at-count.result c.after-clock.result.ticks c.args.finished
     c.drain.new.block c.work_off.new.block c.put_number.new.s c.arrive_if-total.new.block c.put_total.new.block
     c.left_of-left.result c.arrive_if-total.result

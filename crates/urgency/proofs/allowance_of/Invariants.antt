@@ -1,10 +1,6 @@
-use Prim.Native.Nat.{◌-◌}
 use Rattle.state.proofs.BlockLaws.{remaining_in}
 use Rattle.urgency.proofs.KeySteps.{AllowedTo}
 use Rattle.urgency.proofs.allowance_of.Given as goal
 
 abbrev pub invariant-loop-j : goal.invariant-loop-j
 invariant-loop-j l = AllowedTo l.keys (remaining_in l.block) l.count l.key l.sum l.j
-
-abbrev pub decreases-loop-j : goal.decreases-loop-j
-decreases-loop-j l = l.count - l.j

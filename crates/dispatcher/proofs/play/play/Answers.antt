@@ -1,8 +1,7 @@
 use lib.ListN.{length}
 use lib.Seq.{length-take-le}
-use mathlib.Core.List.{List}
 use mathlib.Core.Path.{sym}
-use Prim.Native.Nat.{ℕ, ◌≤◌}
+use Prim.Native.Nat.{◌≤◌}
 use Rattle.reclaiming.specs.StateBlock.{state_length}
 use Rattle.reclaiming.specs.Play.{played_passes}
 use Rattle.reclaiming.proofs.NumberLaws.{start_most}

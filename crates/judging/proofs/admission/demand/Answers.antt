@@ -1,9 +1,8 @@
-use mathlib.Core.Path.{refl}
 use native.Mathlib.Omega.{arith}
 use borrow.Author.Rules.{rules}
 use Rattle.arith.proofs.Loops.{length_mapped}
 use Rattle.plan.proofs.Held.{task_at_lem}
-use Rattle.judging.proofs.admission.Admissions.{Asked, Added, added_small, summed_more, summed_all}
+use Rattle.judging.proofs.admission.Admissions.{Asked, Added, summed_more}
 use Rattle.judging.proofs.admission.demand.Goals.{After-task_time-ticks, Start}
 use Rattle.judging.proofs.admission.demand.Goals as goal
 
@@ -24,28 +23,10 @@ added c =
     } in
     record { asked = asked; below = omega arith; needed = c.task_time-ticks.ensures }
 
-pub loop-i-init : goal.loop-i-init
-loop-i-init c = record { within = omega arith; sum = refl; small = omega arith }
-
 pub task_time-ticks-requires : goal.task_time-ticks-requires
 task_time-ticks-requires c =
     let range = task_at_lem (asked (goal.at.task_time-ticks-requires c).Start).plan c.loop-i.i (omega arith) in
     (c.requires.count_bound.2, c.requires.count_bound.3, omega (arith, range.fixed_high), omega (arith, range.worst_high))
 
-pub overflow_cast-total : goal.overflow_cast-total
-overflow_cast-total c = omega (arith, c.task_time-ticks.type_inv)
-
-pub overflow_cast-total-in-loop-i : goal.overflow_cast-total-in-loop-i
-overflow_cast-total-in-loop-i c = omega (arith, (asked (goal.at.overflow_cast-total-in-loop-i c).Start).few c.loop-i.i (added (goal.at.overflow_cast-total-in-loop-i c).After-task_time-ticks).below)
-
-pub overflow_mul-total : goal.overflow_mul-total
-overflow_mul-total c = omega (arith, added_small (added (goal.at.overflow_mul-total c).After-task_time-ticks))
-
-pub overflow_add-total : goal.overflow_add-total
-overflow_add-total c = omega (arith, added_small (added (goal.at.overflow_add-total c).After-task_time-ticks))
-
 pub loop-i-preserved : goal.loop-i-preserved
 loop-i-preserved c = summed_more (added (goal.at.loop-i-preserved c).After-task_time-ticks) c.loop-i.invariant
-
-pub returns : goal.returns
-returns c = summed_all c.loop-i.invariant c.loop-i-test.false

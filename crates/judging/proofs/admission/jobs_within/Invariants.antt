@@ -1,4 +1,3 @@
-use Prim.Native.Nat.{◌-◌, ◌≤◌}
 use mathlib.Core.Path.{◌≡◌}
 use Rattle.arith.specs.Arrays.{padded}
 use Rattle.arith.specs.Ranges.{list_to}
@@ -6,7 +5,4 @@ use Rattle.judging.proofs.admission.Admissions.{jobs_in}
 use Rattle.judging.proofs.admission.jobs_within.Given as goal
 
 abbrev pub invariant-loop-i : goal.invariant-loop-i
-invariant-loop-i l = (l.i ≤ l.count) × (l.jobs ≡ padded 16 0 (list_to l.i (jobs_in l.span l.p)))
-
-abbrev pub decreases-loop-i : goal.decreases-loop-i
-decreases-loop-i l = l.count - l.i
+invariant-loop-i l = l.jobs ≡ padded 16 0 (list_to l.i (jobs_in l.span l.p))

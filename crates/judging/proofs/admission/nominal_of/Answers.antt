@@ -1,4 +1,5 @@
 use Prim.Native.Nat.{ℕ}
+use mathlib.Core.Path.{sym}
 use mathlib.Core.List.{List}
 use native.Mathlib.Omega.{arith}
 use borrow.Author.Rules.{rules}
@@ -26,11 +27,11 @@ tasks c = tasks_of c.args.p
 
 -- the level of a turn, and its speed
 abbrev speed : In-loop-level → ℕ
-speed c = get_or c.args.speeds.now c.loop-level.level 0
+speed c = get_or c.args.table.now.speeds c.loop-level.level 0
 
 trying : (c : In-loop-level) →
-    Trying (admits (tasks_of c.args.p)) c.args.speeds.now c.args.levels c.loop-level.level
-trying c = record { table = c.requires.table; low = c.loop-level.invariant; below = c.loop-level-test.true }
+    Trying (admits (tasks_of c.args.p)) c.args.table.now.speeds c.args.table.now.levels c.loop-level.level
+trying c = record { table = c.args.table.now.known; low = c.loop-level.invariant; below = c.loop-level-test.true }
 
 pub jobs_within-jobs-requires : goal.jobs_within-jobs-requires
 jobs_within-jobs-requires c = c.requires.count_bound
@@ -42,18 +43,15 @@ demand-work-requires c =
       by_index = counted_few n;
     }
 
-pub slowest_for-level-requires : goal.slowest_for-level-requires
-slowest_for-level-requires c = c.requires.table
-
 pub loop-level-init : goal.loop-level-init
 loop-level-init c =
-    nominal_from (counted (goal.at.loop-level-init c).After-jobs_within-jobs) c.requires.table.rising c.demand-work.ensures c.slowest_for-level.ensures
+    nominal_from (counted (goal.at.loop-level-init c).After-jobs_within-jobs) c.args.table.now.known.rising c.demand-work.ensures (search rules)
 
-pub offset_bounds-speeds-level : goal.offset_bounds-speeds-level
-offset_bounds-speeds-level c = omega (arith, (trying c).table.few)
+pub offset_bounds-table-level : goal.offset_bounds-table-level
+offset_bounds-table-level c = omega (arith, (trying c).table.few)
 
-pub bounds-speeds-level : goal.bounds-speeds-level
-bounds-speeds-level c = omega (arith, (trying (goal.at.bounds-speeds-level c).In-loop-level).table.few)
+pub bounds-table-level : goal.bounds-table-level
+bounds-table-level c = omega (arith, (trying (goal.at.bounds-table-level c).In-loop-level).table.few)
 
 pub demand-requires : goal.demand-requires
 demand-requires c =
@@ -64,11 +62,10 @@ demand-requires c =
     }
 
 pub returns-then-demand-span : goal.returns-then-demand-span
-returns-then-demand-span c =
-    level_found (trying (goal.at.returns-then-demand-span c).In-loop-level) (admitted (counted (goal.at.returns-then-demand-span c).After-jobs_within-jobs) (speed (goal.at.returns-then-demand-span c).In-loop-level) c.demand.ensures (omega (arith, c.if-demand-span.true)))
-
-pub overflow_add-level : goal.overflow_add-level
-overflow_add-level c = omega (arith, (trying (goal.at.overflow_add-level c).In-loop-level).table.few)
+returns-then-demand-span c = (
+  level_found (trying (goal.at.returns-then-demand-span c).In-loop-level) (admitted (counted (goal.at.returns-then-demand-span c).After-jobs_within-jobs) (speed (goal.at.returns-then-demand-span c).In-loop-level) c.demand.ensures (omega (arith, c.if-demand-span.true))),
+  c.loop-level-test.true,
+)
 
 pub loop-level-preserved : goal.loop-level-preserved
 loop-level-preserved c =
@@ -76,4 +73,10 @@ loop-level-preserved c =
 
 pub returns : goal.returns
 returns c =
-    level_none c.requires.table (admits (tasks (goal.at.returns c).At-loop-level)) c.loop-level.level c.loop-level.invariant c.loop-level-test.false
+    sym (level_none c.args.table.now.known (admits (tasks (goal.at.returns c).At-loop-level)) c.loop-level.level c.loop-level.invariant c.loop-level-test.false)
+
+pub returns-in_err-fast : goal.returns-in_err-fast
+returns-in_err-fast c =
+    let n = counted (goal.at.returns-in_err-fast c).After-jobs_within-jobs in
+    let low = nominal_from n c.args.table.now.known.rising c.demand-work.ensures (sym c.in_err-fast.ensures) in
+    rw c.from_residual.ensures (sym (level_none c.args.table.now.known (admits (tasks_of c.args.p)) c.args.table.now.levels low (omega arith)))

@@ -1,11 +1,8 @@
-use Prim.Native.Nat.{◌≤◌, ◌-◌}
+use Prim.Native.Nat.{◌≤◌}
 use Rattle.plan.specs.Blocks.{tasks_of}
 use Rattle.plan.specs.Levels.{nominal}
 use Rattle.levels.specs.Code.{loaded}
 use Rattle.judging.proofs.admission.nominal_of.Given as goal
 
 abbrev pub invariant-loop-level : goal.invariant-loop-level
-invariant-loop-level l = l.level ≤ nominal (loaded l.speeds l.levels) (tasks_of l.p)
-
-abbrev pub decreases-loop-level : goal.decreases-loop-level
-decreases-loop-level l = l.levels - l.level
+invariant-loop-level l = l.level ≤ nominal (loaded l.table.speeds l.table.levels) (tasks_of l.p)

@@ -1,31 +1,22 @@
-use Prim.Native.Nat.{◌-◌}
-use native.Mathlib.Omega.{arith}
 use borrow.Author.Rules.{rules}
 use Rattle.arith.proofs.Loops.{length_mapped}
-use Rattle.plan.proofs.Held.{Ranged, task_at_lem}
-use Rattle.judging.proofs.ranges.TaskRanges.{Widened, spanned_none, spanned_more, spanned_over, spanned_all}
-use Rattle.judging.proofs.ranges.hyperperiod_of.Goals.{After-lcm_of-l, Start}
+use Rattle.plan.proofs.Held.{Ranged}
+use Rattle.judging.proofs.ranges.TaskRanges.{Next, next_first, next_positive, spanned_over, spanned_more}
+use Rattle.judging.proofs.ranges.hyperperiod_of.Goals.{In-Some}
 use Rattle.judging.proofs.ranges.hyperperiod_of.Goals as goal
 
-plan : (c : Start) → Ranged c.args.p
-plan c = record { held = record { places = search (length_mapped, rules); most = c.requires.0 }; ranges = c.requires.1 }
-
-widened : (c : After-lcm_of-l) → Widened c.args.p c.loop-i.i c.loop-i.h c.lcm_of-l.result
-widened c =
+next : (c : In-Some) → Next c.args.p c.loop-t.t-iterator.iter.rest.now c.next.new.self.iter.rest.now c.in-Some.t.now c.loop-t.h
+next c =
     let plan : Ranged c.args.p = record { held = record { places = search (length_mapped, rules); most = c.requires.0 }; ranges = c.requires.1 } in
-    record { plan = plan; at = c.loop-i.invariant; positive = omega arith; multiple = c.lcm_of-l.ensures }
-
-pub loop-i-init : goal.loop-i-init
-loop-i-init c = spanned_none (plan c)
+    record { plan = plan; first = c.loop-t.invariant.0; at = c.loop-t.invariant.1; split = c.in-Some.ensures.steps }
 
 pub lcm_of-l-requires : goal.lcm_of-l-requires
-lcm_of-l-requires c = (task_at_lem (plan (goal.at.lcm_of-l-requires c).Start) (c.loop-i.i - 1) (omega arith)).period_low
+lcm_of-l-requires c = next_positive (next (goal.at.lcm_of-l-requires c).In-Some)
 
 pub returns-then-l-gt1000000 : goal.returns-then-l-gt1000000
-returns-then-l-gt1000000 c = spanned_over (widened (goal.at.returns-then-l-gt1000000 c).After-lcm_of-l) c.if-l-gt1000000.true
+returns-then-l-gt1000000 c = spanned_over (next (goal.at.returns-then-l-gt1000000 c).In-Some) c.lcm_of-l.ensures c.if-l-gt1000000.true
 
-pub loop-i-preserved : goal.loop-i-preserved
-loop-i-preserved c = spanned_more (widened (goal.at.loop-i-preserved c).After-lcm_of-l) c.if-l-gt1000000.false
-
-pub returns : goal.returns
-returns c = spanned_all c.loop-i.invariant (omega arith)
+pub loop-t-preserved : goal.loop-t-preserved
+loop-t-preserved c =
+    let n = next (goal.at.loop-t-preserved c).In-Some in
+    (next_first n, spanned_more n c.lcm_of-l.ensures c.if-l-gt1000000.false)

@@ -3,10 +3,10 @@ use Rattle.orders.proofs.OrderLaws.{Timed, choose_next, choose_when}
 use Rattle.orders.proofs.choosing.choose.Goals.{After-clock_at}
 use Rattle.orders.proofs.choosing.choose.Goals as goal
 
-timed : (c : After-clock_at) → Timed (loaded c.args.speeds.now c.args.levels) c.args.block.now c.args.keys.now c.count_at.result c.clock_at.result
+timed : (c : After-clock_at) → Timed (loaded c.args.table.now.speeds c.args.table.now.levels) c.args.block.now c.args.keys.now c.count_at.result c.clock_at.result
 timed c = record {
-  holds = c.requires.table.1;
-  some = c.requires.table.2;
+  holds = c.requires.holds.0;
+  some = c.requires.holds.1;
   keyed = c.requires.keyed;
   same = c.count_at.ensures;
   clock_is = c.clock_at.ensures;

@@ -13,7 +13,7 @@ use Rattle.passing.proofs.accepted.StepLaws.{after_keyed, after_kept, after_next
 use Rattle.passing.proofs.accepted.passed.Goals.{After-move_on, Else-not-anew, Start, Then-not-anew}
 use Rattle.passing.proofs.accepted.passed.Goals as goal
 
-passing : (c : Start) → Passing (loaded c.args.speeds.now c.args.levels) c.args.block.now c.args.keys.now c.args.highest c.args.next c.args.d c.args.finished c.args.c
+passing : (c : Start) → Passing (loaded c.args.table.now.speeds c.args.table.now.levels) c.args.block.now c.args.keys.now c.args.highest c.args.next c.args.d c.args.finished c.args.c
 passing c = record {
   rising = c.requires.owns.0.table.rising;
   few = few_levels (owned_fine c.requires.owns.0);
@@ -25,30 +25,30 @@ passing c = record {
 }
 
 moved : (c : After-move_on) →
-    Passing (loaded c.args.speeds.now c.args.levels) c.args.block.now c.args.keys.now c.args.highest c.args.next c.args.d c.args.finished c.args.c →
-    After (loaded c.args.speeds.now c.args.levels) c.args.block.now c.args.keys.now c.args.highest c.args.next c.args.d c.args.finished c.args.c
+    Passing (loaded c.args.table.now.speeds c.args.table.now.levels) c.args.block.now c.args.keys.now c.args.highest c.args.next c.args.d c.args.finished c.args.c →
+    After (loaded c.args.table.now.speeds c.args.table.now.levels) c.args.block.now c.args.keys.now c.args.highest c.args.next c.args.d c.args.finished c.args.c
     c.move_on.new.block
 moved c passing = record { passing = passing; moved = c.move_on.ensures }
 
 stays : (c : Then-not-anew) →
-    chooses_anew (timing_in (loaded c.args.speeds.now c.args.levels) c.args.block.now) (view_of (decode c.args.block.now)) c.args.d c.args.finished ≡ false
+    chooses_anew (timing_in (loaded c.args.table.now.speeds c.args.table.now.levels) c.args.block.now) (view_of (decode c.args.block.now)) c.args.d c.args.finished ≡ false
 stays c = sym c.chooses_anew-anew.ensures ∙ c.if-not-anew.true
 
 anew : (c : Else-not-anew) →
-    chooses_anew (timing_in (loaded c.args.speeds.now c.args.levels) c.args.block.now) (view_of (decode c.args.block.now)) c.args.d c.args.finished ≡ true
+    chooses_anew (timing_in (loaded c.args.table.now.speeds c.args.table.now.levels) c.args.block.now) (view_of (decode c.args.block.now)) c.args.d c.args.finished ≡ true
 anew c = sym c.chooses_anew-anew.ensures ∙ c.if-not-anew.false
 
 pub chooses_anew-anew-requires : goal.chooses_anew-anew-requires
 chooses_anew-anew-requires c =
     let k = reaching (passing (goal.at.chooses_anew-anew-requires c).Start) in record {
-      table = (c.requires.owns.0.table, k.ok, k.some, k.within);
+      sound = (k.ok, k.some, k.within);
       next_value = k.arrival;
     }
 
 pub move_on-requires : goal.move_on-requires
 move_on-requires c =
     let k = passing (goal.at.move_on-requires c).Start in record {
-      table = (c.requires.owns.0.table, stepping k);
+      step = stepping k;
       c_value = k.order;
       next_value = k.arrival;
     }
@@ -69,7 +69,7 @@ overflow_sub-next c = omega (arith, (reaching (passing (goal.at.overflow_sub-nex
 pub choose_until-requires : goal.choose_until-requires
 choose_until-requires c =
     let k = moved (goal.at.choose_until-requires c).After-move_on (passing (goal.at.choose_until-requires c).Start) in record {
-      table = (c.requires.owns.0.table, after_holds k, after_again k);
+      holds = (after_holds k, after_again k);
       enough = after_enough k (anew (goal.at.choose_until-requires c).Else-not-anew);
       keyed = after_kept k c.if-d-next.true;
       next_value = after_next k c.if-d-next.true;
@@ -98,7 +98,7 @@ renewed-u-requires c =
 pub choose-requires : goal.choose-requires
 choose-requires c =
     let k = moved (goal.at.choose-requires c).After-move_on (passing (goal.at.choose-requires c).Start) in record {
-      table = (c.requires.owns.0.table, after_holds k, after_some k, after_again k);
+      holds = (after_holds k, after_some k, after_again k);
       enough = after_enough k (anew (goal.at.choose-requires c).Else-not-anew);
       keyed = after_keyed k c.count_at.result c.clock_at.result c.count_at.ensures c.clock_at.ensures
           c.renewed-u.result c.renewed-u.ensures;

@@ -1,26 +1,15 @@
-use Prim.Native.Nat.{◌+◌}
-use mathlib.Core.Path.{refl, ap}
 use native.Mathlib.Omega.{arith}
 use Rattle.arith.specs.Bits.{unpacked}
-use Rattle.plan.specs.declared.Plan.{Plan}
-use Rattle.plan.proofs.BlockBits.{bit_count_mono}
 use Rattle.judging.proofs.verdicts.Judgements.{filled_more}
 use Rattle.plan_reading.proofs.fields.FieldReads.{tasks_listed, task_from_lem, plan_read}
 use Rattle.plan_reading.proofs.fields.plan_in.Goals as goal
-
-pub loop-i-init : goal.loop-i-init
-loop-i-init c = record { within = omega arith; counted = refl; tasks = ap (λ (x : Plan). x.tasks) c.empty_plan-q.ensures }
-
-pub task_in-t-requires : goal.task_in-t-requires
-task_in-t-requires c =
-    (omega arith, omega (arith, bit_count_mono c.args.edition (c.loop-i.i + 1) c.args.count (omega arith)))
 
 pub loop-i-preserved : goal.loop-i-preserved
 loop-i-preserved c =
     let edition = c.args.edition in
     let bits = unpacked c.args.block.now in
     let count = c.args.count in
-    filled_more c.loop-i.invariant (tasks_listed edition bits count) (omega arith) (omega arith) (task_from_lem edition bits count c.loop-i-test.true c.task_in-t.ensures)
+    filled_more c.loop-i.invariant (tasks_listed edition bits count) (omega arith) (omega arith) (task_from_lem edition bits count c.loop-i-test.true c.task_in.ensures)
 
 pub returns : goal.returns
 returns c =

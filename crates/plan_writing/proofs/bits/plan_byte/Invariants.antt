@@ -1,10 +1,7 @@
-use Prim.Native.Nat.{◌≤◌, ◌-◌, ◌*◌}
+use Prim.Native.Nat.{◌*◌}
 use Rattle.arith.proofs.DigitLaws.{ReadTo}
 use Rattle.plan.specs.Blocks.{tasks_of, plan_bits}
 use Rattle.plan_writing.proofs.bits.plan_byte.Given as goal
 
 abbrev pub invariant-loop-i : goal.invariant-loop-i
-invariant-loop-i l = (l.i ≤ 8) × ReadTo 2 (plan_bits l.edition (tasks_of l.p)) (8 * l.j) l.acc l.i
-
-abbrev pub decreases-loop-i : goal.decreases-loop-i
-decreases-loop-i l = 8 - l.i
+invariant-loop-i l = ReadTo 2 (plan_bits l.edition (tasks_of l.p)) (8 * l.j) l.acc l.i

@@ -26,15 +26,9 @@ pub plan_byte-requires : goal.plan_byte-requires
 plan_byte-requires c =
     omega (arith, c.block_length-n.ensures, block_length_most c.args.edition c.args.p.count (plan (goal.at.plan_byte-requires c).Start).most)
 
-pub bounds-buffer-j : goal.bounds-buffer-j
-bounds-buffer-j c = omega (arith, long (goal.at.bounds-buffer-j c).After-block_length-n)
-
 pub loop-j-preserved : goal.loop-j-preserved
 loop-j-preserved c =
     stored_more c.loop-j.invariant (omega (arith, long (goal.at.loop-j-preserved c).After-block_length-n)) (plan_block_byte (plan (goal.at.loop-j-preserved c).Start) c.requires.1 (omega (arith, c.block_length-n.ensures)) c.plan_byte.ensures)
-
-pub shape_of-buffer : goal.shape_of-buffer
-shape_of-buffer c = c.loop-j.invariant.same
 
 pub returns : goal.returns
 returns c = stored_all c.loop-j.invariant (omega (arith, long (goal.at.returns c).After-block_length-n))

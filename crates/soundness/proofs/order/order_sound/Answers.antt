@@ -22,27 +22,27 @@ use Rattle.soundness.proofs.order.order_sound.Goals as goal
 
 -- a key was looked for, it tells a task, and that is the order's
 looked : (c : After-most_urgent-best) →
-    Looked (loaded c.args.speeds.now c.args.levels) c.args.block.now c.args.keys.now c.args.count c.most_urgent-best.result
+    Looked (loaded c.args.table.now.speeds c.args.table.now.levels) c.args.block.now c.args.keys.now c.args.count c.most_urgent-best.result
 looked c = record {
-  holds = c.requires.table.1;
+  holds = c.requires.holds.0;
   keyed = c.requires.keyed;
-  same = c.requires.table.2;
+  same = c.requires.holds.1;
   found = c.most_urgent-best.ensures;
 }
 
 told : (c : After-task_in) →
-    Looked (loaded c.args.speeds.now c.args.levels) c.args.block.now c.args.keys.now c.args.count c.most_urgent-best.result →
-    Told (loaded c.args.speeds.now c.args.levels) c.args.block.now c.args.keys.now c.args.count c.most_urgent-best.result c.task_in.result
+    Looked (loaded c.args.table.now.speeds c.args.table.now.levels) c.args.block.now c.args.keys.now c.args.count c.most_urgent-best.result →
+    Told (loaded c.args.table.now.speeds c.args.table.now.levels) c.args.block.now c.args.keys.now c.args.count c.most_urgent-best.result c.task_in.result
 told c k = record { looked = k; some = λ e. omega (arith, e); task = c.task_in.ensures.0 }
 
 runs : (c : Else-task-task_in) →
-    Told (loaded c.args.speeds.now c.args.levels) c.args.block.now c.args.keys.now c.args.count c.most_urgent-best.result c.task_in.result →
-    Told (loaded c.args.speeds.now c.args.levels) c.args.block.now c.args.keys.now c.args.count c.most_urgent-best.result (decode c.args.block.now).task
+    Told (loaded c.args.table.now.speeds c.args.table.now.levels) c.args.block.now c.args.keys.now c.args.count c.most_urgent-best.result c.task_in.result →
+    Told (loaded c.args.table.now.speeds c.args.table.now.levels) c.args.block.now c.args.keys.now c.args.count c.most_urgent-best.result (decode c.args.block.now).task
 runs c k = record { looked = k.looked; some = k.some; task = omega (arith, c.if-task-task_in.false, k.task, task_byte c.args.block.now) }
 
 -- whether its level is sound, as it was asked
 level_told : (c : After-level_sound) →
-    Told (loaded c.args.speeds.now c.args.levels) c.args.block.now c.args.keys.now c.args.count c.most_urgent-best.result (decode c.args.block.now).task →
+    Told (loaded c.args.table.now.speeds c.args.table.now.levels) c.args.block.now c.args.keys.now c.args.count c.most_urgent-best.result (decode c.args.block.now).task →
     c.level_sound.result ≡ level_in c.args.block.now c.args.highest
 level_told c k =
     let b : List ℕ = c.args.block.now in
@@ -51,16 +51,16 @@ level_told c k =
 
 -- where it is, it is one of the table's
 level_low : (c : Else-not-level_sound) →
-    Told (loaded c.args.speeds.now c.args.levels) c.args.block.now c.args.keys.now c.args.count c.most_urgent-best.result (decode c.args.block.now).task →
+    Told (loaded c.args.table.now.speeds c.args.table.now.levels) c.args.block.now c.args.keys.now c.args.count c.most_urgent-best.result (decode c.args.block.now).task →
     level_in c.args.block.now c.args.highest ≡ true →
-    (decode c.args.block.now).level < c.args.levels
+    (decode c.args.block.now).level < c.args.table.now.levels
 level_low c k well =
     let b : List ℕ = c.args.block.now in
     let floor : ℕ = floor_of (decode b) (decode b).task in
     omega (
       arith,
       within_high floor (max c.args.highest floor) (decode b).level well,
-      c.requires.table.3,
+      c.requires.holds.2,
       c.requires.by_index (decode b).task (omega (arith, (first_open k).below, k.looked.same)),
     )
 
@@ -87,12 +87,12 @@ returns-then-not-level_sound c =
     let k = runs at.Else-task-task_in (told at.After-task_in (looked at.After-most_urgent-best)) in
     level_unsound k c.args.highest (sym (level_told at.After-level_sound k) ∙ c.if-not-level_sound.true)
 
-pub bounds-speeds-level : goal.bounds-speeds-level
-bounds-speeds-level c =
-    let at = goal.at.bounds-speeds-level c in
+pub bounds-table-level : goal.bounds-table-level
+bounds-table-level c =
+    let at = goal.at.bounds-table-level c in
     let k = runs at.Else-task-task_in (told at.After-task_in (looked at.After-most_urgent-best)) in
     let well = sym (level_told at.After-level_sound k) ∙ c.if-not-level_sound.false in
-    omega (arith, level_low at.Else-not-level_sound k well, level_byte c.args.block.now, c.requires.table.0.few)
+    omega (arith, level_low at.Else-not-level_sound k well, level_byte c.args.block.now, c.args.table.now.known.few)
 
 pub meets_until-requires : goal.meets_until-requires
 meets_until-requires c =
@@ -103,9 +103,9 @@ meets_until-requires c =
     let low = level_low at.Else-not-level_sound k well in (
       omega (arith, k.looked.holds.few, k.looked.same),
       k.looked.holds.size,
-      omega (arith, next_short (loaded c.args.speeds.now c.args.levels) b k.looked.keyed (omega (arith, (first_open k).below)) c.requires.next_value),
-      speed_positive c.requires.table.0 _ (omega (arith, low, level_byte b)),
-      speed_most c.requires.table.0 _ (omega (arith, low, level_byte b)),
+      omega (arith, next_short (loaded c.args.table.now.speeds c.args.table.now.levels) b k.looked.keyed (omega (arith, (first_open k).below)) c.requires.next_value),
+      speed_positive c.args.table.now.known _ (omega (arith, low, level_byte b)),
+      speed_most c.args.table.now.known _ (omega (arith, low, level_byte b)),
     )
 
 pub returns : goal.returns
@@ -117,8 +117,8 @@ returns c =
     let allowed : ℕ = allowed_until b l c.args.count best c.args.next in
     let k = runs at.Else-task-task_in (told at.After-task_in (looked at.After-most_urgent-best)) in
     let well = sym (level_told at.After-level_sound k) ∙ c.if-not-level_sound.false in
-    let weighed : Weighed c.args.speeds.now c.args.levels b l c.args.count best c.args.highest c.rest_at-rest.result c.args.next allowed c.meets_until.result = record {
-      table = c.requires.table.0;
+    let weighed : Weighed c.args.table.now.speeds c.args.table.now.levels b l c.args.count best c.args.highest c.rest_at-rest.result c.args.next allowed c.meets_until.result = record {
+      table = c.args.table.now.known;
       read = record {
         told = k;
         rest_in = c.rest_at-rest.ensures.0 ∙ ap (λ (n : ℕ). rest_in (entry_in b n)) (task_byte b);
@@ -127,6 +127,6 @@ returns c =
       };
       low = level_low at.Else-not-level_sound k well;
       sound = well;
-      found_is = c.meets_until.ensures ∙ ap (λ (n : ℕ). leb (time_of (get_or c.args.speeds.now n 0) c.rest_at-rest.result) allowed) (level_byte b);
+      found_is = c.meets_until.ensures ∙ ap (λ (n : ℕ). leb (time_of (get_or c.args.table.now.speeds n 0) c.rest_at-rest.result) allowed) (level_byte b);
     } in
     level_meets weighed

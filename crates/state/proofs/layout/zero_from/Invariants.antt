@@ -1,10 +1,9 @@
-use Prim.Native.Nat.{◌-◌}
-use Rattle.reclaiming.specs.StateBlock.{tail_at}
-use Rattle.state.proofs.layout.LayoutLaws.{SummedTo}
+use Prim.Native.Nat.{◌*◌, ◌≤◌}
+use mathlib.Core.Path.{◌≡◌}
+use lib.ListN.{take}
+use Rattle.std.specs.List.{sum}
+use Rattle.state.proofs.layout.LayoutLaws.{places_from}
 use Rattle.state.proofs.layout.zero_from.Given as goal
 
-abbrev pub invariant-loop-i : goal.invariant-loop-i
-invariant-loop-i l = SummedTo l.block l.at l.sum l.i
-
-abbrev pub decreases-loop-i : goal.decreases-loop-i
-decreases-loop-i l = tail_at - l.i
+abbrev pub invariant-loop-byte : goal.invariant-loop-byte
+invariant-loop-byte l = (l.sum ≡ sum (take l.byte-index (places_from l.block l.at))) × (l.sum ≤ 255 * l.byte-index)

@@ -1,7 +1,7 @@
 use Prim.Native.Nat.{ℕ}
 use mathlib.Core.List.{List}
 use native.Mathlib.Omega.{arith}
-use Rattle.state.proofs.tables.TableLaws.{Gathers, gathered_length, none_long, none_few, none_many, found_none, found_falling, found_rising}
+use Rattle.state.proofs.tables.TableLaws.{Gathers, gathered_length, none_long, none_few, none_many, found_falling, found_good, found_table}
 use Rattle.state.proofs.tables.own_table.Goals.{After-shared_slice_known-1, After-speeds_of-speeds}
 use Rattle.state.proofs.tables.own_table.Goals as goal
 
@@ -10,15 +10,15 @@ abbrev bytes : After-shared_slice_known-1 → List ℕ
 bytes c = c.args.block.now
 
 pub returns-then-block-ne-STATE_LENGTH : goal.returns-then-block-ne-STATE_LENGTH
-returns-then-block-ne-STATE_LENGTH c = found_none (bytes (goal.at.returns-then-block-ne-STATE_LENGTH c).After-shared_slice_known-1) (none_long (bytes (goal.at.returns-then-block-ne-STATE_LENGTH c).After-shared_slice_known-1) (omega arith)) c.no_table.ensures
+returns-then-block-ne-STATE_LENGTH c = none_long (bytes (goal.at.returns-then-block-ne-STATE_LENGTH c).After-shared_slice_known-1) (omega arith)
 
 pub returns-then-count-lt1 : goal.returns-then-count-lt1
 returns-then-count-lt1 c =
-    found_none (bytes (goal.at.returns-then-count-lt1 c).After-shared_slice_known-1) (none_few (bytes (goal.at.returns-then-count-lt1 c).After-shared_slice_known-1) (omega arith) (omega (arith, c.levels_at-count.ensures))) c.no_table-then-count-lt1.ensures
+    none_few (bytes (goal.at.returns-then-count-lt1 c).After-shared_slice_known-1) (omega arith) (omega (arith, c.levels_at-count.ensures))
 
 pub returns-then-count-gt-LEVEL_PLACES : goal.returns-then-count-gt-LEVEL_PLACES
 returns-then-count-gt-LEVEL_PLACES c =
-    found_none (bytes (goal.at.returns-then-count-gt-LEVEL_PLACES c).After-shared_slice_known-1) (none_many (bytes (goal.at.returns-then-count-gt-LEVEL_PLACES c).After-shared_slice_known-1) (omega arith) (omega (arith, c.levels_at-count.ensures))) c.no_table-then-count-gt-LEVEL_PLACES.ensures
+    none_many (bytes (goal.at.returns-then-count-gt-LEVEL_PLACES c).After-shared_slice_known-1) (omega arith) (omega (arith, c.levels_at-count.ensures))
 
 -- the speeds that were gathered
 gathers : (c : After-speeds_of-speeds) →
@@ -37,8 +37,12 @@ rises-requires c = (omega arith, gathered_length (gathers (goal.at.rises-require
 
 pub returns-then-not-rises : goal.returns-then-not-rises
 returns-then-not-rises c =
-    found_falling (gathers (goal.at.returns-then-not-rises c).After-speeds_of-speeds) c.rises.ensures c.if-not-rises.true c.no_table-then-not-rises.ensures
+    found_falling (gathers (goal.at.returns-then-not-rises c).After-speeds_of-speeds) c.rises.ensures c.if-not-rises.true
+
+pub invariant_of-result : goal.invariant_of-result
+invariant_of-result c = record { known = found_table (gathers (goal.at.invariant_of-result c).After-speeds_of-speeds) c.rises.ensures c.if-not-rises.false }
 
 pub returns : goal.returns
 returns c =
-    found_rising (gathers (goal.at.returns c).After-speeds_of-speeds) c.rises.ensures c.if-not-rises.false
+    let g = gathers (goal.at.returns c).After-speeds_of-speeds in
+    record { good = found_good g c.rises.ensures c.if-not-rises.false; levels = g.counted; speeds = g.gathered }

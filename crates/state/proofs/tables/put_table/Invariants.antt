@@ -1,4 +1,4 @@
-use Prim.Native.Nat.{ℕ, ◌-◌, ◌≤◌}
+use Prim.Native.Nat.{ℕ}
 use mathlib.Core.Path.{◌≡◌}
 use mathlib.Core.List.{List}
 use lib.ListN.{length}
@@ -9,9 +9,5 @@ use Rattle.state.proofs.tables.put_table.Given as goal
 -- whatever the block was before the count was stored in it
 abbrev pub invariant-loop-k : goal.invariant-loop-k
 invariant-loop-k l =
-    (l.k ≤ level_places)
-    × (length l.image ≡ state_length)
+    (length l.image ≡ state_length)
     × ((found : List ℕ) → StoredTo l.speeds l.levels found l.initial.image 0 → StoredTo l.speeds l.levels found l.image l.k)
-
-abbrev pub decreases-loop-k : goal.decreases-loop-k
-decreases-loop-k l = level_places - l.k

@@ -1,4 +1,3 @@
-use Prim.Native.Nat.{◌-◌, ◌≤◌}
 use mathlib.Core.Path.{◌≡◌}
 use Rattle.arith.specs.Arrays.{padded}
 use Rattle.arith.specs.Ranges.{list_to}
@@ -6,7 +5,4 @@ use Rattle.reclaiming.specs.StateBlock.{level_places, speed_in}
 use Rattle.state.proofs.tables.speeds_of.Given as goal
 
 abbrev pub invariant-loop-k : goal.invariant-loop-k
-invariant-loop-k l = (l.k ≤ level_places) × (l.speeds ≡ padded level_places 0 (list_to l.k (speed_in l.block)))
-
-abbrev pub decreases-loop-k : goal.decreases-loop-k
-decreases-loop-k l = level_places - l.k
+invariant-loop-k l = l.speed-items ≡ padded level_places 0 (list_to l.k (speed_in l.block))

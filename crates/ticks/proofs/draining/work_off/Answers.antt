@@ -8,30 +8,30 @@ use Rattle.ticks.proofs.draining.work_off.Goals.{After-rest_at-rest, Else-c-eq25
 use Rattle.ticks.proofs.draining.work_off.Goals as goal
 
 abbrev table : Start → List ℕ
-table c = loaded c.args.speeds.now c.args.levels
+table c = loaded c.args.table.now.speeds c.args.table.now.levels
 
 -- the order runs a task, and its job goes on
-running : (c : Else-c-eq255) → Running c.args.levels c.args.block.now c.args.c c.args.d c.args.finished
+running : (c : Else-c-eq255) → Running c.args.table.now.levels c.args.block.now c.args.c c.args.d c.args.finished
 running c = record {
-  size = c.requires.table.1;
-  short = c.requires.table.2;
+  size = c.requires.few_ticks.0;
+  short = c.requires.few_ticks.1;
   some = c.if-c-eq255.false;
   task = (c.requires.task_lt_places c.if-c-eq255.false).0;
   level = (c.requires.task_lt_places c.if-c-eq255.false).1;
 }
 
 working : (c : After-rest_at-rest) →
-    Working c.args.speeds.now c.args.levels c.args.block.now c.args.c c.args.d c.args.finished c.rest_at-rest.result
+    Working c.args.table.now.speeds c.args.table.now.levels c.args.block.now c.args.c c.args.d c.args.finished c.rest_at-rest.result
 working c =
-    let running : Running c.args.levels c.args.block.now c.args.c c.args.d c.args.finished = record {
-      size = c.requires.table.1;
-      short = c.requires.table.2;
+    let running : Running c.args.table.now.levels c.args.block.now c.args.c c.args.d c.args.finished = record {
+      size = c.requires.few_ticks.0;
+      short = c.requires.few_ticks.1;
       some = c.if-c-eq255.false;
       task = (c.requires.task_lt_places c.if-c-eq255.false).0;
       level = (c.requires.task_lt_places c.if-c-eq255.false).1;
     } in
     record {
-      table = c.requires.table.0;
+      table = c.args.table.now.known;
       running = running;
       goes_on = c.if-finished.false;
       rest_is = c.rest_at-rest.ensures.0;
@@ -59,9 +59,9 @@ rest_at-rest-requires c =
     let k = running (goal.at.rest_at-rest-requires c).Else-c-eq255 in
     (k.task, k.size)
 
-pub bounds-speeds-level : goal.bounds-speeds-level
-bounds-speeds-level c =
-    let k = working (goal.at.bounds-speeds-level c).After-rest_at-rest in
+pub bounds-table-level : goal.bounds-table-level
+bounds-table-level c =
+    let k = working (goal.at.bounds-table-level c).After-rest_at-rest in
     omega (arith, k.running.level, k.table.few)
 
 pub worn_by-requires : goal.worn_by-requires
