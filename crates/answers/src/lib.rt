@@ -7,7 +7,7 @@ ghost use Rattle.plan.specs.Numbers.{verdict_number};
 ghost use Rattle.reclaiming.specs.Numbers.{reply_number};
 
 use plan::{Admission, Refused};
-use reclaiming::Reply;
+use reclaiming::Order;
 
 // A count as one number.
 pub fn counted_number(answer: Result<usize, Refused>) -> u64
@@ -44,14 +44,14 @@ pub fn verdict_number(verdict: Result<Admission, Refused>) -> u64
 }
 
 // A reply as one number.
-pub fn reply_number(r: Reply) -> u64
-    requires { reply_number r < 2 ^ 64 }
-    ensures { result ≡ reply_number r }
+pub fn reply_number(reply: Result<Order, Refused>) -> u64
+    requires { reply_number reply < 2 ^ 64 }
+    ensures { result ≡ reply_number reply }
 {
-    match r {
-        Reply::Refused(n) => n as u64,
-        Reply::Idle { hold } => 512 + 4294967296 * (hold as u64),
-        Reply::Run { task, level, hold } => 256
+    match reply {
+        Err(refused) => refused.number as u64,
+        Ok(Order::Idle { hold }) => 512 + 4294967296 * (hold as u64),
+        Ok(Order::Run { task, level, hold }) => 256
             + 65536 * (task as u64)
             + 16777216 * (level as u64)
             + 4294967296 * (hold as u64),

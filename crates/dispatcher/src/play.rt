@@ -10,16 +10,16 @@ ghost use Rattle.reclaiming.specs.Play.{played_shown, played_queue, PlayedQueueS
 use crate::passes::play_all;
 use answers::reply_number;
 use plan::Refused;
-use reclaiming::Reply;
+use reclaiming::Order;
 use showing::show;
 use starting::start;
 use state::STATE_LENGTH;
 
 // Whether a reply is an order, and no refusal.
-fn is_order(r: Reply) -> bool
-    ensures { result ≡ is_order r }
+fn is_order(reply: Result<Order, Refused>) -> bool
+    ensures { result ≡ is_order reply }
 {
-    !matches!(r, Reply::Refused(_))
+    reply.is_ok()
 }
 
 // Starts a plan with its pairs over a level block and plays a list of passes on it. The start's reply is returned; those of the passes stand in the lent block.

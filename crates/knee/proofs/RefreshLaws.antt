@@ -18,16 +18,16 @@ use Rattle.plan.specs.Blocks.{tasks_in}
 use Rattle.schedule.specs.PlainSchedule.{Timing, Job, deadline, latest}
 use Rattle.schedule.specs.Feasibility.{In}
 use Rattle.schedule.specs.Served.{Arrived}
-use Rattle.reclaiming.specs.declared.Reply.{Reply}
-use Rattle.reclaiming.specs.declared.Reply.TheVariants as reply
+use Rattle.reclaiming.specs.declared.Order.TheVariants.{Run, Idle}
 use Rattle.reclaiming.specs.Allotments.{timing}
-use Rattle.reclaiming.specs.Replies.{is_order}
+use Rattle.reclaiming.specs.Replies.{Reply, is_order}
 use Rattle.reclaiming.specs.Passes.{Pass}
 use Rattle.reclaiming.specs.Books.{Answered, DispatcherBook, ordered, unopened_book, opened_book, closed_after, moved, booked, booked_all, actual_of, plain_of}
 use Rattle.reclaiming.specs.Promises.{OpenActual, OnTime, PassWithin, answer_at}
 use Rattle.reclaiming.specs.Play.{reply_from, answers_from, PlayedOnTime, PlayedWithin}
 use Rattle.knee.specs.Refresh.{PlayedRefreshApart, PlayedRefreshGoesOn, PlayedRefreshAge}
 use Rattle.knee.specs.Refresh.{valve_task, valve_job, Finishes, FinishedWithin, finish, RefreshApart, RefreshGoesOn, RefreshAge}
+use Rattle.std.specs.declared.result.Result.TheVariants.{Ok, Err}
 
 -- whether a job is in a list
 same_job_lem : (j k : Job) → Dec (j ≡ k)
@@ -49,14 +49,14 @@ member j (k ∷ l) = first_or_later (same_job_lem j k) (member j l)
 
 -- an order moves no clock and closes nothing
 ordered_clock : (b : DispatcherBook) (r : Reply) → (ordered b r).clock ≡ b.clock
-ordered_clock b (reply.Run task level hold) = refl
-ordered_clock b (reply.Idle hold) = refl
-ordered_clock b (reply.Refused n) = refl
+ordered_clock b (Ok (Run task level hold)) = refl
+ordered_clock b (Ok (Idle hold)) = refl
+ordered_clock b (Err e) = refl
 
 ordered_closed : (b : DispatcherBook) (r : Reply) → (ordered b r).closed ≡ b.closed
-ordered_closed b (reply.Run task level hold) = refl
-ordered_closed b (reply.Idle hold) = refl
-ordered_closed b (reply.Refused n) = refl
+ordered_closed b (Ok (Run task level hold)) = refl
+ordered_closed b (Ok (Idle hold)) = refl
+ordered_closed b (Err e) = refl
 
 module _ (speeds : List ℕ) (ts : List Task) where
   abbrev τ : Timing

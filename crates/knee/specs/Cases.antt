@@ -7,7 +7,7 @@ use Rattle.plan.specs.Times.{time_of, worn}
 use Rattle.plan.specs.LevelBlocks.{level_block, speeds_in}
 use Rattle.plan.specs.Blocks.{plan_block, tasks_in}
 use Rattle.schedule.specs.PlainSchedule.{Timing, more_urgent}
-use Rattle.reclaiming.specs.declared.Reply.TheVariants as reply
+use Rattle.reclaiming.specs.Replies.{run_task, stay_idle}
 use Rattle.reclaiming.specs.Allotments.{timing}
 use Rattle.reclaiming.specs.Passes.{Pass}
 use Rattle.reclaiming.specs.Books.{DispatcherBook}
@@ -42,10 +42,10 @@ slow_passes = pass true 1 ∷ pass false 1 ∷ pass true 2 ∷ []
 
 -- the replies to its start and its passes, as numbers
 abbrev slow_first : ℕ
-slow_first = reply_number (reply.Run 0 0 2)
+slow_first = reply_number (run_task 0 0 2)
 
 abbrev slow_replies : List ℕ
-slow_replies = map reply_number (reply.Idle 1 ∷ reply.Run 0 0 2 ∷ reply.Run 0 0 2 ∷ [])
+slow_replies = map reply_number (stay_idle 1 ∷ run_task 0 0 2 ∷ run_task 0 0 2 ∷ [])
 
 abbrev slow_timing : Timing
 slow_timing = timing (speeds_in slow_level) (tasks_in slow_block)

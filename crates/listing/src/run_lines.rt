@@ -9,20 +9,21 @@ ghost use Rattle.text.specs.Stores.{Put};
 ghost use Rattle.listing.specs.RunLines.{passes_text};
 
 use passing::pass;
-use reclaiming::Reply;
+use plan::Refused;
+use reclaiming::Order;
 use starting::start;
 use state::STATE_LENGTH;
 use text::lines::{refused_line, reply_line};
 
 // The clock of the dispatcher's book after a reply: it rises by d where the pass was accepted.
-fn clock_after(clock: u32, d: u32, r: Reply) -> u32
+fn clock_after(clock: u32, d: u32, reply: Result<Order, Refused>) -> u32
     requires { clock + d < 2 ^ 32 }
-    ensures by_index { (speeds : List ℕ) (ts : List Task) (b : DispatcherBook) (p : Pass) → b.clock ≡ clock → p.d ≡ d → (booked speeds ts b p r).clock ≡ result }
+    ensures by_index { (speeds : List ℕ) (ts : List Task) (b : DispatcherBook) (p : Pass) → b.clock ≡ clock → p.d ≡ d → (booked speeds ts b p reply).clock ≡ result }
     ensures upper_bound { result ≤ clock + d }
 {
-    match r {
-        Reply::Run { .. } | Reply::Idle { .. } => clock + d,
-        Reply::Refused(_) => clock,
+    match reply {
+        Ok(_) => clock + d,
+        Err(_) => clock,
     }
 }
 

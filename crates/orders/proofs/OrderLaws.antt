@@ -18,14 +18,13 @@ use Rattle.levels.specs.Code.{loaded, Table}
 use Rattle.levels.proofs.Tables.{levels_are, speed_is}
 use Rattle.schedule.specs.PlainSchedule.{Timing, Pending}
 use Rattle.orders.specs.declared.Choice.{Choice}
-use Rattle.reclaiming.specs.declared.Reply.TheVariants as reply
 use Rattle.reclaiming.specs.Orders.{next_arrival, allowance, lowest_level, running_time, hold_of, order_for}
 use Rattle.reclaiming.specs.StateBlock.{State, floor_of, remaining_of, rest_in, rest_of, decode, state_count, places}
 use Rattle.reclaiming.specs.States.{put_order, view_of, take_order}
 use Rattle.arith.specs.Ranges.{least_to}
 use Rattle.state.specs.Code.{Holds, entry_in, timing_in}
 use Rattle.urgency.specs.Code.{Keyed, no_key, deadline_in}
-use Rattle.orders.specs.Code.{choice_of, run_of, chosen_in, hold_by, order_of, Runnable, Enough}
+use Rattle.orders.specs.Code.{choice_of, run_of, chosen_in, hold_by, Runnable, Enough}
 use Rattle.reclaiming.proofs.Allowances.{allowance_is}
 use Rattle.reclaiming.proofs.Lone.{allowance_least}
 use Rattle.reclaiming.proofs.Lowest.{time_higher, lowest_le, lowest_above}
@@ -73,14 +72,6 @@ module _ (c : Choice) (next : ℕ) where
 
     pub hold_next : next ≤ c.time → next ≡ hold_by c next
     hold_next le = rw (ne_eqb c.task 255 some) (omega arith)
-
--- the order, by each way out
-module _ (c : Choice) (hold : ℕ) where
-  pub order_idle : c.task ≡ 255 → reply.Idle hold ≡ order_of c hold
-  order_idle e = simp (eq-eqb c.task 255 e)
-
-  pub order_run : (c.task ≡ 255 → ⊥) → reply.Run c.task c.level hold ≡ order_of c hold
-  order_run ne = simp (ne_eqb c.task 255 ne)
 
 -- no job is open
 pub chosen_none :

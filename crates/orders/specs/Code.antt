@@ -5,8 +5,7 @@ use Rattle.arith.specs.Choice.{pick}
 use Rattle.plan.specs.declared.Rest.{Rest}
 use Rattle.plan.specs.Times.{time_of}
 use Rattle.plan.specs.Levels.{speed_of}
-use Rattle.reclaiming.specs.declared.Reply.{Reply}
-use Rattle.reclaiming.specs.declared.Reply.TheVariants as reply
+use Rattle.reclaiming.specs.Replies.{Reply, run_task, stay_idle}
 use Rattle.reclaiming.specs.Orders.{running_time, hold_of, order_with}
 use Rattle.reclaiming.specs.StateBlock.{State, floor_of, remaining_of, rest_of, decode}
 use Rattle.reclaiming.specs.States.{chosen_state, view_of}
@@ -38,7 +37,7 @@ hold_by c next = pick (eqb c.task 255) next (min c.time next)
 
 -- an order with a hold, as it is answered
 abbrev pub order_of : Choice → ℕ → Reply
-order_of c hold = pick (eqb c.task 255) (reply.Idle hold) (reply.Run c.task c.level hold)
+order_of c hold = pick (eqb c.task 255) (stay_idle hold) (run_task c.task c.level hold)
 
 -- the order of a state is to stay idle, or runs one of its tasks at one of so many levels
 pub record Runnable (levels : ℕ) (s : State) : Type 0 where

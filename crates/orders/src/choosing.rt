@@ -1,5 +1,6 @@
 // Chooses an order, stores it and answers it.
 ghost use Rattle.std.specs.Prelude.{◌≡◌, ◌≤◌, length};
+ghost use Rattle.std.specs.declared.result.Result.TheVariants.{Ok};
 ghost use Rattle.levels.specs.Held.{speeds_of};
 ghost use Rattle.reclaiming.specs.StateBlock.{task_field, level_field, state_length, state_count, encode, decode};
 ghost use Rattle.reclaiming.specs.Orders.{next_arrival};
@@ -9,7 +10,7 @@ ghost use Rattle.orders.specs.Code.{chosen_in, chosen_reply, Enough};
 
 use crate::{Choice, chosen, hold_of, order_of};
 use levels::table::SpeedTable;
-use reclaiming::Reply;
+use reclaiming::Order;
 use state::{LEVEL_AT, LEVEL_WIDTH, PLACES, TASK_AT, TASK_WIDTH, clock_at, count_at};
 use urgency::next_arrival;
 
@@ -29,12 +30,12 @@ pub fn choose_until(
     keys: &[u64; PLACES],
     highest: usize,
     next: u32,
-) -> Reply
+) -> Order
     requires holds { Holds block.old × (encode (decode block.old) ≡ block.old) }
     requires enough { Enough (speeds_of table.now) (decode block.old) highest }
     requires keyed { Keyed (timing_in (speeds_of table.now) block.old) (decode block.old).clock keys.now }
     requires next_value { next ≡ next_arrival (timing_in (speeds_of table.now) block.old) (decode block.old).clock }
-    ensures value { result ≡ chosen_reply (speeds_of table.now) block.old }
+    ensures value { Ok result ≡ chosen_reply (speeds_of table.now) block.old }
     ensures block_after { block.new ≡ encode (chosen_in (speeds_of table.now) block.old) }
 {
     let c = chosen(table, block, keys, count_at(block), highest, next);
@@ -43,11 +44,11 @@ pub fn choose_until(
 }
 
 // The same where the next arrival is still to be found.
-pub fn choose(table: &SpeedTable, block: &mut [u8], keys: &[u64; PLACES], highest: usize) -> Reply
+pub fn choose(table: &SpeedTable, block: &mut [u8], keys: &[u64; PLACES], highest: usize) -> Order
     requires holds { Holds block.old × (1 ≤ state_count block.old) × (encode (decode block.old) ≡ block.old) }
     requires enough { Enough (speeds_of table.now) (decode block.old) highest }
     requires keyed { Keyed (timing_in (speeds_of table.now) block.old) (decode block.old).clock keys.now }
-    ensures value { result ≡ chosen_reply (speeds_of table.now) block.old }
+    ensures value { Ok result ≡ chosen_reply (speeds_of table.now) block.old }
     ensures block_after { block.new ≡ encode (chosen_in (speeds_of table.now) block.old) }
 {
     let next = next_arrival(keys, count_at(block), clock_at(block));

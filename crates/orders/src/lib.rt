@@ -5,6 +5,7 @@ pub mod choosing;
 pub mod lone;
 
 ghost use Rattle.std.specs.Prelude.{◌≡◌, ◌<◌, ◌≤◌, max};
+ghost use Rattle.std.specs.declared.result.Result.TheVariants.{Ok};
 ghost use Rattle.plan.specs.Times.{time_of};
 ghost use Rattle.plan.specs.Levels.{speed_of};
 ghost use Rattle.levels.specs.Held.{speeds_of};
@@ -17,7 +18,7 @@ ghost use Rattle.orders.specs.Code.{choice_of, run_of, chosen_in, hold_by, order
 use crate::lone::allowance_until;
 use levels::table::SpeedTable;
 use plan::Rest;
-use reclaiming::Reply;
+use reclaiming::Order;
 use state::{LEVEL_AT, PLACES, TASK_AT, WORK_AT, WORK_WIDTH, floor_at, rest_at};
 use urgency::{NO_KEY, most_urgent, task_in};
 
@@ -137,13 +138,13 @@ pub fn hold_of(c: Choice, next: u32) -> u32
 }
 
 // An order, with a hold.
-pub fn order_of(c: Choice, hold: u32) -> Reply
-    ensures { result ≡ order_of c hold }
+pub fn order_of(c: Choice, hold: u32) -> Order
+    ensures { Ok result ≡ order_of c hold }
 {
     if c.task == 255 {
-        return Reply::Idle { hold };
+        return Order::Idle { hold };
     }
-    Reply::Run {
+    Order::Run {
         task: c.task,
         level: c.level,
         hold,

@@ -8,12 +8,11 @@ use lib.ListN.{length, drop}
 use lib.Seq.{drop-length}
 use Rattle.arith.specs.Choice.{pick, both}
 use Rattle.arith.specs.Asking.{first_no}
+use Rattle.plan.specs.Counted.{refused}
 use Rattle.plan.specs.Answers.{stored_by}
 use Rattle.orders.specs.declared.Choice.{Choice}
-use Rattle.reclaiming.specs.declared.Reply.{Reply}
-use Rattle.reclaiming.specs.declared.Reply.TheVariants as reply
 use Rattle.reclaiming.specs.Allotments.{timing}
-use Rattle.reclaiming.specs.Replies.{replied_by}
+use Rattle.reclaiming.specs.Replies.{Reply, replied_by}
 use Rattle.reclaiming.specs.Passes.{pass_questions}
 use Rattle.reclaiming.specs.StateBlock.{encode, decode, plan_in}
 use Rattle.reclaiming.specs.States.{passed_state, view_of}
@@ -27,7 +26,7 @@ use Rattle.soundness.proofs.SoundFacts.{sound_size}
 use Rattle.passing.proofs.accepted.StepLaws.{Passing, letting, passed_few}
 
 -- a reply that is a refusal or an order, and the bytes that go with it
-replied_no : (n : ℕ) (order : Reply) → (n ≡ 0 → ⊥) → reply.Refused n ≡ replied_by n order
+replied_no : (n : ℕ) (order : Reply) → (n ≡ 0 → ⊥) → refused n ≡ replied_by n order
 replied_no zero order h = absurd (h refl)
 replied_no (suc n) order h = refl
 
@@ -63,12 +62,12 @@ module _ (speeds bytes : List ℕ) (d : ℕ) (finished : Bool) where
       × (m ≡ stored_by (numbered (sound_at speeds bytes)) after bytes)
 
   -- a refusal, and what it leaves
-  pub refused :
+  pub refuses :
       (n : ℕ) →
       n ≡ numbered (sound_at speeds bytes) →
       (n ≡ 0 → ⊥) →
-      Passes (reply.Refused n) bytes
-  refused n e h = (
+      Passes (refused n) bytes
+  refuses n e h = (
     replied_no n (pass_order speeds (decode bytes) d finished) h ∙ ap (λ (k : ℕ). replied_by k (pass_order speeds (decode bytes) d finished)) e,
     stored_no n after bytes h ∙ ap (λ (k : ℕ). stored_by k after bytes) e,
   )

@@ -1,5 +1,6 @@
 // A pass that the questions let through: what it makes of a state, in its bytes, and its order.
 ghost use Rattle.std.specs.Prelude.{◌≡◌, true, ◌≤◌};
+ghost use Rattle.std.specs.declared.result.Result.TheVariants.{Ok};
 ghost use Rattle.levels.specs.Held.{speeds_of};
 ghost use Rattle.arith.specs.Asking.{first_no};
 ghost use Rattle.reclaiming.specs.Orders.{next_arrival};
@@ -16,7 +17,7 @@ ghost use Rattle.soundness.specs.Code.{Good};
 use levels::table::SpeedTable;
 use orders::choosing::{choose, choose_until};
 use orders::{Choice, hold_of, order_of};
-use reclaiming::Reply;
+use reclaiming::Order;
 use state::{PLACES, clock_at, count_at};
 use ticks::{move_on, renewed};
 
@@ -42,12 +43,12 @@ pub fn passed(
     next: u32,
     d: u32,
     finished: bool,
-) -> Reply
+) -> Order
     requires owns { Owns block.old table.now.speeds table.now.levels × Good (speeds_of table.now) block.old keys.now highest }
     requires c_value { c ≡ choice_of (speeds_of table.now) (decode block.old) }
     requires next_value { next ≡ next_arrival (timing_in (speeds_of table.now) block.old) (decode block.old).clock }
     requires finished_value { first_no (pass_questions (speeds_of table.now) (timing_in (speeds_of table.now) block.old) (view_of (decode block.old)) d finished) ≡ 0 }
-    ensures value { result ≡ pass_order (speeds_of table.now) (decode block.old) d finished }
+    ensures value { Ok result ≡ pass_order (speeds_of table.now) (decode block.old) d finished }
     ensures block_after { block.new ≡ encode (passed_state (speeds_of table.now)
         (timing_in (speeds_of table.now) block.old)
         (decode block.old) d finished) }

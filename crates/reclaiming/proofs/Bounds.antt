@@ -21,10 +21,9 @@ use Rattle.plan.proofs.Facts.{FineList}
 use Rattle.schedule.specs.PlainSchedule.{Timing, Job, Book, deadline, opened}
 use Rattle.schedule.specs.Feasibility.{Fitting}
 use Rattle.schedule.proofs.Periods.{deadline_is_next}
-use Rattle.reclaiming.specs.declared.Reply.{Reply}
 use Rattle.reclaiming.specs.Allotments.{timing}
 use Rattle.reclaiming.specs.Orders.{next_arrival}
-use Rattle.reclaiming.specs.Replies.{is_order}
+use Rattle.reclaiming.specs.Replies.{Reply, is_order}
 use Rattle.reclaiming.specs.Passes.{pass_questions, Pass}
 use Rattle.reclaiming.specs.Books.{Answered, DispatcherBook, opened_book, ordered, moved, booked, booked_all, ran, actual_of, plain_of, ran_all}
 use Rattle.reclaiming.specs.Ideal.{view_of_books, ideal_first, ideal_order, ideal_reply, ideal_trace}

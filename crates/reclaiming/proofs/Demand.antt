@@ -42,12 +42,11 @@ use Rattle.schedule.proofs.QueueLaws.{queue_of_cong}
 use Rattle.schedule.proofs.Totals.{queue_total}
 use Rattle.schedule.proofs.Closing.{entered_new, entered_before}
 use Rattle.schedule.proofs.Span.{canonical_start}
-use Rattle.reclaiming.specs.declared.Reply.{Reply}
-use Rattle.reclaiming.specs.declared.Reply.TheVariants as reply
+use Rattle.reclaiming.specs.declared.Order.TheVariants.{Run, Idle}
 use Rattle.reclaiming.specs.declared.Entry.{Entry}
 use Rattle.reclaiming.specs.Allotments.{timing}
 use Rattle.reclaiming.specs.Orders.{next_arrival, running_time, hold_of, order_with, running}
-use Rattle.reclaiming.specs.Replies.{replied_by, is_order}
+use Rattle.reclaiming.specs.Replies.{Reply, replied_by, is_order}
 use Rattle.reclaiming.specs.Passes.{largest_clock, pass_questions, Pass}
 use Rattle.reclaiming.specs.Books.{DispatcherBook, moved, booked, booked_all, ran_all, unopened_book, opened_book, ordered}
 use Rattle.reclaiming.specs.StateBlock.{State, encode, decode, plan_in, work_of, remaining_of, rest_in, rest_of, no_entry, total_in, state_length}
@@ -67,14 +66,14 @@ use Rattle.reclaiming.proofs.Books.{OpenLatest, Held, held_start, Ended, ended_s
 use Rattle.reclaiming.proofs.OrderFacts.{Runs, Ordered, idles, runs, order_facts}
 use Rattle.reclaiming.proofs.Worked as worked
 use Rattle.reclaiming.proofs.Runs.{Tied, Kept, idle_level, kept_pass, stored_sound, stored_length, speeds_are, decoded, reply_is}
-use Rattle.std.specs.declared.result.Result.TheVariants.{Ok}
+use Rattle.std.specs.declared.result.Result.TheVariants.{Ok, Err}
 use Rattle.plan.specs.Counted.{counted_by}
 
 -- an order leaves a book's clock
 pub ordered_clock : (b : DispatcherBook) (r : Reply) → (ordered b r).clock ≡ b.clock
-ordered_clock b (reply.Run task level hold) = refl
-ordered_clock b (reply.Idle hold) = refl
-ordered_clock b (reply.Refused n) = refl
+ordered_clock b (Ok (Run task level hold)) = refl
+ordered_clock b (Ok (Idle hold)) = refl
+ordered_clock b (Err e) = refl
 
 -- what an accepted start has shown
 module _ (levels block pairs buffer : List ℕ) (ok : Started levels block pairs buffer) where

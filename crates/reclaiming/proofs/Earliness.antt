@@ -23,12 +23,10 @@ use Rattle.plan.proofs.Facts.{FineTasks, FineList, floor_at}
 use Rattle.schedule.specs.PlainSchedule.{Timing, Pending, Book, left_in, opened}
 use Rattle.schedule.specs.Feasibility.{In}
 use Rattle.schedule.proofs.QueueLaws.{in_queue_of}
-use Rattle.reclaiming.specs.declared.Reply.{Reply}
-use Rattle.reclaiming.specs.declared.Reply.TheVariants as reply
 use Rattle.reclaiming.specs.declared.Entry.{Entry}
 use Rattle.reclaiming.specs.Allotments.{timing}
 use Rattle.reclaiming.specs.Orders.{View, next_arrival, plain_allowance, is_lone, with_gap, allowance, open_jobs, lowest_level, hold_of, order_for, order_with, choose_order, new_order}
-use Rattle.reclaiming.specs.Replies.{replied_by, is_order}
+use Rattle.reclaiming.specs.Replies.{Reply, run_task, stay_idle, replied_by, is_order}
 use Rattle.reclaiming.specs.Passes.{chooses_anew, pass_questions, Pass}
 use Rattle.reclaiming.specs.Books.{DispatcherBook, unopened_book, booked_all, ran_all}
 use Rattle.reclaiming.specs.Ideal.{view_of_books, first_view, ticked_view, ideal_order, ideal_reply}
@@ -100,7 +98,7 @@ module _ (speeds : List ℕ) (rising : Rising speeds) (ts : List Task) where
             elim (tested (eqb x 255))
             as (λ b _.
             TakesEarliness speeds ts v
-            (pick b (reply.Idle hold) (reply.Run x (lowest_level speeds (v.floor x) (v.rest x) (allowance τ v x)) hold)))
+            (pick b (stay_idle hold) (run_task x (lowest_level speeds (v.floor x) (v.rest x) (allowance τ v x)) hold)))
             [ passed ↦ tt | failed ↦ full x below (subst (λ (g : ℕ → ℕ). g x < length speeds) (sym floors) (floor_at (length speeds) ts x plan.floors below)) ]
 
 -- a plan that was accepted, over a table of speeds

@@ -25,12 +25,11 @@ use Rattle.plan.proofs.Facts.{FineList}
 use Rattle.schedule.specs.PlainSchedule.{Timing, Pending, Book, queue_of, left_in, opened}
 use Rattle.schedule.specs.Feasibility.{In}
 use Rattle.schedule.proofs.QueueLaws.{Stands, queue_of_in, left_none, left_queue_of}
-use Rattle.reclaiming.specs.declared.Reply.{Reply}
-use Rattle.reclaiming.specs.declared.Reply.TheVariants as reply
+use Rattle.reclaiming.specs.declared.Order.TheVariants.{Run, Idle}
 use Rattle.reclaiming.specs.declared.Entry.{Entry}
 use Rattle.reclaiming.specs.Allotments.{timing}
 use Rattle.reclaiming.specs.Orders.{View, hold_of, with_order, order_for, order_with, new_order, open_jobs}
-use Rattle.reclaiming.specs.Replies.{is_order, replied_by}
+use Rattle.reclaiming.specs.Replies.{Reply, is_order, replied_by}
 use Rattle.reclaiming.specs.Passes.{arrives_at, chooses_anew, pass_questions, Pass}
 use Rattle.reclaiming.specs.Books.{Answered, DispatcherBook, unopened_book, opened_book, ordered, moved, booked, booked_all, ran}
 use Rattle.reclaiming.specs.Ideal.{view_of_books, ticked_view, ideal_first, ideal_order, ideal_reply, ideal_trace, ideal_replies}
@@ -43,12 +42,13 @@ use Rattle.reclaiming.proofs.Fine.{fine_floor, Accepted}
 use Rattle.reclaiming.proofs.Soundness.{plan_in_at, fine_length, pass_accepted}
 use Rattle.reclaiming.proofs.Runs.{Tied, Kept, idle_level, order_recorded, order_ran, tied_next, kept_pass, reply_is}
 use Rattle.reclaiming.proofs.Demand.{table, good, tied_start, kept_start, is_state, after_run}
+use Rattle.std.specs.declared.result.Result.TheVariants.{Ok, Err}
 
 -- an order leaves what is left
 pub ordered_left : (b : DispatcherBook) (r : Reply) → (ordered b r).left ≡ b.left
-ordered_left b (reply.Run task level hold) = refl
-ordered_left b (reply.Idle hold) = refl
-ordered_left b (reply.Refused n) = refl
+ordered_left b (Ok (Run task level hold)) = refl
+ordered_left b (Ok (Idle hold)) = refl
+ordered_left b (Err e) = refl
 
 -- of nothing the ticks leave nothing
 worn_none : (speed d : ℕ) → worn speed d no_rest ≡ no_rest
@@ -277,9 +277,9 @@ trace_take (suc n) bytes (p ∷ ps) =
 -- an order changes nothing but the order
 unordered :
     (ts : List Task) (b : DispatcherBook) (c : Book) (r : Reply) → with_order (view_of_books ts (ordered b r) c) 255 0 ≡ with_order (view_of_books ts b c) 255 0
-unordered ts b c (reply.Run task level hold) = refl
-unordered ts b c (reply.Idle hold) = refl
-unordered ts b c (reply.Refused n) = refl
+unordered ts b c (Ok (Run task level hold)) = refl
+unordered ts b c (Ok (Idle hold)) = refl
+unordered ts b c (Err e) = refl
 
 module _ (levels block pairs buffer : List ℕ) (ok : Started levels block pairs buffer) where
   abbrev speeds : List ℕ

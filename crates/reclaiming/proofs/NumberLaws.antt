@@ -15,10 +15,9 @@ use Rattle.plan.proofs.Facts.{FineList}
 use Rattle.arith.proofs.QuestionLaws.{Yes, all_yes, yes_all, first_no_most}
 use Rattle.schedule.specs.PlainSchedule.{Timing, Pending}
 use Rattle.schedule.proofs.QueueLaws.{queue_of-length}
-use Rattle.reclaiming.specs.declared.Reply.{Reply}
 use Rattle.reclaiming.specs.Allotments.{timing}
 use Rattle.reclaiming.specs.Orders.{next_arrival, hold_of, order_with}
-use Rattle.reclaiming.specs.Replies.{replied_by}
+use Rattle.reclaiming.specs.Replies.{Reply, replied_by}
 use Rattle.reclaiming.specs.Passes.{pass_questions}
 use Rattle.reclaiming.specs.StateBlock.{State, plan_in, decode, remaining_of}
 use Rattle.reclaiming.specs.States.{start_state, passed_state, view_of}

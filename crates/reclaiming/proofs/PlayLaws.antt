@@ -21,11 +21,10 @@ use Rattle.plan.proofs.LevelBlockLaws.{FineTable, few_levels}
 use Rattle.plan.proofs.Facts.{FineList}
 use Rattle.schedule.specs.PlainSchedule.{Timing, Book, canonical_at}
 use Rattle.schedule.specs.Served.{AllotmentsGiven}
-use Rattle.reclaiming.specs.declared.Reply.{Reply}
-use Rattle.reclaiming.specs.declared.Reply.TheVariants as reply
+use Rattle.reclaiming.specs.declared.Order.TheVariants.{Run, Idle}
 use Rattle.reclaiming.specs.Allotments.{timing}
 use Rattle.reclaiming.specs.Orders.{order_with, hold_of}
-use Rattle.reclaiming.specs.Replies.{replied_by, is_order}
+use Rattle.reclaiming.specs.Replies.{Reply, run_task, stay_idle, replied_by, is_order}
 use Rattle.reclaiming.specs.Passes.{pass_questions, Pass}
 use Rattle.reclaiming.specs.Books.{Answered, DispatcherBook, actual_of, plain_of}
 use Rattle.reclaiming.specs.StateBlock.{State, encode, decode, plan_in, state_length}
@@ -44,13 +43,14 @@ use Rattle.reclaiming.proofs.Ideal.{ideal_run, trace_take}
 use Rattle.reclaiming.proofs.Bounds.{passes_within}
 use Rattle.reclaiming.proofs.Earliness.{theorem_1, with_full_earliness}
 use Rattle.reclaiming.proofs.Demand.{demand_3, closes_in_time, runs_most_urgent, pairs_kept, never_crawls, total_told, room, after_length, untouched, one_schedule, every_arrival}
-use Rattle.std.specs.declared.result.Result.TheVariants.{Ok}
+use Rattle.std.specs.declared.result.Result.TheVariants.{Ok, Err}
+use Rattle.plan.specs.Counted.{refused}
 
 -- a reply whose parts each fit their place in the number
 abbrev pub Small : Reply → Type 0
-Small (reply.Run task level hold) = (task < 256) × (level < 256)
-Small (reply.Idle hold) = Unit {0}
-Small (reply.Refused n) = n < 256
+Small (Ok (Run task level hold)) = (task < 256) × (level < 256)
+Small (Ok (Idle hold)) = Unit {0}
+Small (Err e) = e.number < 256
 
 -- the lowest of two digits
 low : (x high digit : ℕ) → x ≡ high * 256 + digit → digit < 256 → x % 256 ≡ digit
@@ -59,27 +59,28 @@ low x high digit e h = ap (λ (y : ℕ). y % 256) e ∙ digits_mod high h
 -- what a number stands for, by its kind
 abbrev kinds : ℕ → Bool → Bool → Reply
 kinds x run idle =
-    pick run (reply.Run (x / 65536 % 256) (x / 16777216 % 256) (x / 4294967296))
-    (pick idle (reply.Idle (x / 4294967296)) (reply.Refused (x % 256)))
+    pick run (run_task (x / 65536 % 256) (x / 16777216 % 256) (x / 4294967296))
+    (pick idle (stay_idle (x / 4294967296)) (refused (x % 256)))
 
 pub from_number : (r : Reply) → Small r → reply_from (reply_number r) ≡ r
-from_number (reply.Run task level hold) small =
+from_number (Ok (Run task level hold)) small =
     let x : ℕ = 256 + 65536 * task + 16777216 * level + 4294967296 * hold in
     let kind : x / 256 % 256 ≡ 1 = low (x / 256) (task + 256 * level + 65536 * hold) 1 (omega arith) (omega arith) in
     let a : x / 65536 % 256 ≡ task = low (x / 65536) (level + 256 * hold) task (omega arith) small.0 in
     let b : x / 16777216 % 256 ≡ level = low (x / 16777216) hold level (omega arith) small.1 in
     let c : x / 4294967296 ≡ hold = omega arith in
     ap (λ (t : Bool). kinds x t (eqb (x / 256 % 256) 2)) (eq-eqb (x / 256 % 256) 1 kind)
-    ∙ ap₂ (λ (y z : ℕ). reply.Run y z (x / 4294967296)) a b
-    ∙ ap (λ (y : ℕ). reply.Run task level y) c
-from_number (reply.Idle hold) small =
+    ∙ ap₂ (λ (y z : ℕ). run_task y z (x / 4294967296)) a b
+    ∙ ap (λ (y : ℕ). run_task task level y) c
+from_number (Ok (Idle hold)) small =
     let x : ℕ = 512 + 4294967296 * hold in
     let kind : x / 256 % 256 ≡ 2 = low (x / 256) (65536 * hold) 2 (omega arith) (omega arith) in
     let c : x / 4294967296 ≡ hold = omega arith in
-    ap₂ (kinds x) (ne_eqb (x / 256 % 256) 1 (λ e. omega arith)) (eq-eqb (x / 256 % 256) 2 kind) ∙ ap (λ (y : ℕ). reply.Idle y) c
-from_number (reply.Refused n) small =
+    ap₂ (kinds x) (ne_eqb (x / 256 % 256) 1 (λ e. omega arith)) (eq-eqb (x / 256 % 256) 2 kind) ∙ ap (λ (y : ℕ). stay_idle y) c
+from_number (Err e) small =
+    let n : ℕ = e.number in
     let c : n % 256 ≡ n = omega arith in
-    ap₂ (kinds n) (ne_eqb (n / 256 % 256) 1 (λ e. omega arith)) (ne_eqb (n / 256 % 256) 2 (λ e. omega arith)) ∙ ap (λ (y : ℕ). reply.Refused y) c
+    ap₂ (kinds n) (ne_eqb (n / 256 % 256) 1 (λ e. omega arith)) (ne_eqb (n / 256 % 256) 2 (λ e. omega arith)) ∙ ap (λ (y : ℕ). refused y) c
 
 order_small : (s : State) (hold : ℕ) → (s.task < 256) × (s.level < 256) → Small (order_with (view_of s) hold)
 order_small s hold fits = elim (view_order s hold) as (λ r _. Small r) [ is_idle e ↦ tt | is_run_lem e ↦ fits ]

@@ -11,10 +11,9 @@ use Rattle.arith.proofs.QuestionLaws.{first_no_most}
 use Rattle.plan.specs.LevelBlocks.{speeds_in}
 use Rattle.plan.specs.Blocks.{tasks_in}
 use Rattle.schedule.specs.PlainSchedule.{Timing, opened}
-use Rattle.reclaiming.specs.declared.Reply.{Reply}
 use Rattle.reclaiming.specs.Allotments.{timing}
 use Rattle.reclaiming.specs.Orders.{hold_of, order_with}
-use Rattle.reclaiming.specs.Replies.{replied_by, is_order}
+use Rattle.reclaiming.specs.Replies.{Reply, replied_by, is_order}
 use Rattle.reclaiming.specs.Passes.{Pass}
 use Rattle.reclaiming.specs.Books.{Answered, ran_all}
 use Rattle.reclaiming.specs.StateBlock.{State, plan_in, state_length}

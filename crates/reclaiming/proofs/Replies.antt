@@ -9,25 +9,24 @@ use Rattle.arith.specs.Choice.{pick}
 use Rattle.arith.proofs.Tests.{eq_yes, eq_not, test_eq}
 use Rattle.plan.specs.declared.Task.{Task}
 use Rattle.schedule.specs.PlainSchedule.{Book}
-use Rattle.reclaiming.specs.declared.Reply.{Reply}
-use Rattle.reclaiming.specs.declared.Reply.TheVariants as reply
 use Rattle.reclaiming.specs.Allotments.{timing}
 use Rattle.reclaiming.specs.Orders.{order_with, running}
-use Rattle.reclaiming.specs.Replies.{replied_by, is_order}
+use Rattle.reclaiming.specs.Replies.{Reply, run_task, stay_idle, replied_by, is_order}
 use Rattle.reclaiming.specs.Passes.{Pass}
 use Rattle.reclaiming.specs.Books.{DispatcherBook, ordered, booked, ran}
 use Rattle.reclaiming.specs.StateBlock.{State}
 use Rattle.reclaiming.specs.States.{view_of}
 use Rattle.reclaiming.specs.Promises.{is_run, hold_in, order_after}
+use Rattle.plan.specs.Counted.{refused}
 
 -- it is to stay idle, or to run the state's task at its level
 pub data OrderView (s : State) (hold : ℕ) : Reply → Type 0 where
-  is_idle : s.task ≡ 255 → OrderView s hold (reply.Idle hold)
-  is_run_lem : (s.task ≡ 255 → ⊥) → OrderView s hold (reply.Run s.task s.level hold)
+  is_idle : s.task ≡ 255 → OrderView s hold (stay_idle hold)
+  is_run_lem : (s.task ≡ 255 → ⊥) → OrderView s hold (run_task s.task s.level hold)
 
 pub view_order : (s : State) (hold : ℕ) → OrderView s hold (order_with (view_of s) hold)
 view_order s hold =
-    elim (test_eq s.task 255) as (λ t _. OrderView s hold (pick t (reply.Idle hold) (reply.Run s.task s.level hold)))
+    elim (test_eq s.task 255) as (λ t _. OrderView s hold (pick t (stay_idle hold) (run_task s.task s.level hold)))
     [ eq_yes e ↦ is_idle e | eq_not e ↦ is_run_lem e ]
 
 -- what is read off it
@@ -63,7 +62,7 @@ module _ (s : State) (hold : ℕ) where
 -- 01: "A refused pass changes neither book."
 pub refused_neither :
     (speeds : List ℕ) (ts : List Task) (a : DispatcherBook) (b : Book) (p : Pass) (n : ℕ) →
-    (booked speeds ts a p (reply.Refused n) ≡ a) × (ran (timing speeds ts) b p (reply.Refused n) ≡ b)
+    (booked speeds ts a p (refused n) ≡ a) × (ran (timing speeds ts) b p (refused n) ≡ b)
 refused_neither speeds ts a b p n = (refl, refl)
 
 -- a reply that is no refusal had no question answered no

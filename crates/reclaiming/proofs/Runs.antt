@@ -33,10 +33,9 @@ use Rattle.schedule.proofs.Drain.{Quiet}
 use Rattle.schedule.proofs.QueueLaws.{queue_of_cong}
 use Rattle.schedule.proofs.Span.{canonical_span, after_add, renewed, nothing_old}
 use Rattle.schedule.proofs.Closing.{Entered}
-use Rattle.reclaiming.specs.declared.Reply.{Reply}
 use Rattle.reclaiming.specs.Allotments.{timing}
 use Rattle.reclaiming.specs.Orders.{next_arrival, hold_of, order_with}
-use Rattle.reclaiming.specs.Replies.{replied_by}
+use Rattle.reclaiming.specs.Replies.{Reply, replied_by}
 use Rattle.reclaiming.specs.Passes.{arrives_at, largest_clock, in_time, pass_questions, Pass}
 use Rattle.reclaiming.specs.Books.{DispatcherBook, ordered, moved, booked, ran, left_after}
 use Rattle.reclaiming.specs.StateBlock.{State, encode, decode, laid_out, plan_in, work_of, remaining_of, rest_of, state_length}

@@ -9,11 +9,11 @@ use Rattle.plan.specs.Times.{whole}
 use Rattle.plan.specs.Levels.{speed_of}
 use Rattle.plan.specs.Blocks.{no_task}
 use Rattle.schedule.specs.PlainSchedule.{Timing, Job, Book, latest, opened, after}
-use Rattle.reclaiming.specs.declared.Reply.{Reply}
-use Rattle.reclaiming.specs.declared.Reply.TheVariants as reply
+use Rattle.reclaiming.specs.declared.Order.TheVariants.{Run, Idle}
 use Rattle.reclaiming.specs.Allotments.{timing}
-use Rattle.reclaiming.specs.Replies.{is_order}
+use Rattle.reclaiming.specs.Replies.{Reply, is_order}
 use Rattle.reclaiming.specs.Passes.{Pass, worked_by, arrives_at}
+use Rattle.std.specs.declared.result.Result.TheVariants.{Ok, Err}
 
 -- a pass and the reply to it
 pub record Answered : Type 0 where
@@ -35,9 +35,9 @@ unopened_book ts = record { clock = 0; closed = []; task = 255; level = 0; left 
 
 -- the book with the order that a reply gives; a refusal leaves the last one
 abbrev pub ordered : DispatcherBook → Reply → DispatcherBook
-ordered b (reply.Run task level hold) = record { clock = b.clock; closed = b.closed; task = task; level = level; left = b.left }
-ordered b (reply.Idle hold) = record { clock = b.clock; closed = b.closed; task = 255; level = 0; left = b.left }
-ordered b (reply.Refused n) = b
+ordered b (Ok (Run task level hold)) = record { clock = b.clock; closed = b.closed; task = task; level = level; left = b.left }
+ordered b (Ok (Idle hold)) = record { clock = b.clock; closed = b.closed; task = 255; level = 0; left = b.left }
+ordered b (Err e) = b
 
 abbrev pub opened_book : List Task → Reply → DispatcherBook
 opened_book ts first = ordered (unopened_book ts) first
@@ -72,9 +72,9 @@ booked_all speeds ts b (a ∷ rest) = booked_all speeds ts (booked speeds ts b a
 
 -- 01: "The plain schedule's book is fed the plan and the d of each accepted pass, and runs d ticks for it."
 abbrev pub ran : Timing → Book → Pass → Reply → Book
-ran τ b p (reply.Refused n) = b
-ran τ b p (reply.Run task level hold) = after τ p.d b
-ran τ b p (reply.Idle hold) = after τ p.d b
+ran τ b p (Err e) = b
+ran τ b p (Ok (Run task level hold)) = after τ p.d b
+ran τ b p (Ok (Idle hold)) = after τ p.d b
 
 abbrev pub ran_all : Timing → Book → List Answered → Book
 ran_all τ b [] = b

@@ -8,10 +8,9 @@ use Rattle.plan.specs.LevelBlocks.{speeds_in}
 use Rattle.plan.specs.Blocks.{tasks_in}
 use Rattle.plan.specs.Answers.{written_by, stored_by}
 use Rattle.schedule.specs.PlainSchedule.{Pending, queue_of}
-use Rattle.reclaiming.specs.declared.Reply.{Reply}
 use Rattle.reclaiming.specs.Allotments.{timing}
 use Rattle.reclaiming.specs.Orders.{hold_of, order_with}
-use Rattle.reclaiming.specs.Replies.{replied_by}
+use Rattle.reclaiming.specs.Replies.{Reply, replied_by}
 use Rattle.reclaiming.specs.StateBlock.{State, remaining_of, plan_in, encode, total_in, decode}
 use Rattle.reclaiming.specs.States.{view_of, start_state, passed_state, passed_hold}
 use Rattle.reclaiming.specs.Questions.{starting, passing, showing, queueing}

@@ -7,10 +7,9 @@ use Rattle.arith.specs.Asking.{first_no}
 use Rattle.plan.specs.declared.Task.{Task}
 use Rattle.plan.specs.Blocks.{no_task}
 use Rattle.schedule.specs.PlainSchedule.{Timing, Book, after, opened, left_in}
-use Rattle.reclaiming.specs.declared.Reply.{Reply}
 use Rattle.reclaiming.specs.Allotments.{timing}
 use Rattle.reclaiming.specs.Orders.{View, hold_of, order_with, new_order}
-use Rattle.reclaiming.specs.Replies.{replied_by}
+use Rattle.reclaiming.specs.Replies.{Reply, replied_by}
 use Rattle.reclaiming.specs.Passes.{Pass, chooses_anew, pass_questions}
 use Rattle.reclaiming.specs.Books.{Answered, DispatcherBook, unopened_book, opened_book, moved, booked, ran}
 

@@ -8,8 +8,7 @@ use Rattle.plan.specs.declared.Rest.{Rest}
 use Rattle.plan.specs.Times.{time_of}
 use Rattle.plan.specs.Levels.{speed_of}
 use Rattle.schedule.specs.PlainSchedule.{Timing, Pending, deadline, more_urgent, latest, queue_of}
-use Rattle.reclaiming.specs.declared.Reply.{Reply}
-use Rattle.reclaiming.specs.declared.Reply.TheVariants as reply
+use Rattle.reclaiming.specs.Replies.{Reply, run_task, stay_idle}
 
 -- what is seen at a moment: its clock, the order that stands (255 and 0 for idle) and, by task number, each task's floor, what is left of its
 -- job and its plain ticks left
@@ -89,7 +88,7 @@ choose_order speeds τ v = order_for speeds τ v (open_jobs τ v)
 
 -- the order that stands, with a hold
 abbrev pub order_with : View → ℕ → Reply
-order_with v hold = pick (eqb v.task 255) (reply.Idle hold) (reply.Run v.task v.level hold)
+order_with v hold = pick (eqb v.task 255) (stay_idle hold) (run_task v.task v.level hold)
 
 -- a new order, with its hold
 abbrev pub new_order : List ℕ → Timing → View → Reply

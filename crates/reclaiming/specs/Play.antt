@@ -8,10 +8,8 @@ use Rattle.plan.specs.Blocks.{tasks_in}
 use Rattle.plan.specs.Pairs.{pairs_in}
 use Rattle.schedule.specs.PlainSchedule.{Timing, Book, canonical_at}
 use Rattle.schedule.specs.Served.{AllotmentsGiven}
-use Rattle.reclaiming.specs.declared.Reply.{Reply}
-use Rattle.reclaiming.specs.declared.Reply.TheVariants as reply
 use Rattle.reclaiming.specs.Allotments.{timing}
-use Rattle.reclaiming.specs.Replies.{is_order}
+use Rattle.reclaiming.specs.Replies.{Reply, run_task, stay_idle, is_order}
 use Rattle.reclaiming.specs.Passes.{Pass}
 use Rattle.reclaiming.specs.Books.{Answered, DispatcherBook, actual_of, plain_of}
 use Rattle.reclaiming.specs.StateBlock.{state_length}
@@ -20,7 +18,7 @@ use Rattle.reclaiming.specs.Run.{trace, bytes_after, started_bytes}
 use Rattle.reclaiming.specs.Promises.{OnTime, ClosesByArrival, EarlierClosed, AboveFloor, NamesMostUrgent, Shows, ticks_in, last_order, FollowsBooks, TakesEarliness, OfNewOrders, AllAhead, PassWithin}
 use Rattle.reclaiming.specs.Numbers.{reply_number}
 use Rattle.std.specs.declared.result.Result.TheVariants.{Ok}
-use Rattle.plan.specs.Counted.{Counted}
+use Rattle.plan.specs.Counted.{Counted, refused}
 
 -- a pass as a number: d in its lower 32 bits, and the next bit says whether the job finished
 abbrev pub pass_from : ℕ → Pass
@@ -30,8 +28,8 @@ pass_from x = record { d = x % 4294967296; finished = eqb (x / 4294967296 % 2) 1
 abbrev pub reply_from : ℕ → Reply
 reply_from x =
     pick (eqb (x / 256 % 256) 1)
-    (reply.Run (x / 65536 % 256) (x / 16777216 % 256) (x / 4294967296))
-    (pick (eqb (x / 256 % 256) 2) (reply.Idle (x / 4294967296)) (reply.Refused (x % 256)))
+    (run_task (x / 65536 % 256) (x / 16777216 % 256) (x / 4294967296))
+    (pick (eqb (x / 256 % 256) 2) (stay_idle (x / 4294967296)) (refused (x % 256)))
 
 -- as many passes as there is room for replies
 abbrev pub played_passes : List ℕ → ℕ → List Pass

@@ -14,11 +14,10 @@ use Rattle.plan.specs.Answers.{room_number, written_by, stored_by}
 use Rattle.schedule.specs.PlainSchedule.{Timing, Job, Pending, Book, deadline, left_in, more_urgent, latest, canonical_at}
 use Rattle.schedule.specs.Feasibility.{In}
 use Rattle.schedule.specs.Served.{Arrived, OpenPlain, AllotmentsGiven}
-use Rattle.reclaiming.specs.declared.Reply.{Reply}
-use Rattle.reclaiming.specs.declared.Reply.TheVariants as reply
+use Rattle.reclaiming.specs.declared.Order.TheVariants.{Run, Idle}
 use Rattle.reclaiming.specs.Allotments.{timing}
 use Rattle.reclaiming.specs.Orders.{View, next_arrival, plain_allowance}
-use Rattle.reclaiming.specs.Replies.{is_order}
+use Rattle.reclaiming.specs.Replies.{Reply, run_task, stay_idle, is_order}
 use Rattle.reclaiming.specs.Passes.{Pass, chooses_anew, largest_clock}
 use Rattle.reclaiming.specs.Books.{Answered, DispatcherBook, actual_of, plain_of}
 use Rattle.reclaiming.specs.Ideal.{view_of_books, first_view, ticked_view, ideal_first, ideal_replies}
@@ -28,8 +27,8 @@ use Rattle.reclaiming.specs.States.{view_of, state_with}
 use Rattle.reclaiming.specs.Questions.{sound}
 use Rattle.reclaiming.specs.Calls.{start_number, start_reply, pass_reply, queue_bytes, show_reply, show_buffer, queued_reply}
 use Rattle.reclaiming.specs.Run.{trace, bytes_after, started_bytes}
-use Rattle.std.specs.declared.result.Result.TheVariants.{Ok}
-use Rattle.plan.specs.Counted.{Counted}
+use Rattle.std.specs.declared.result.Result.TheVariants.{Ok, Err}
+use Rattle.plan.specs.Counted.{Counted, refused}
 
 -- a job is open in the dispatcher's book "from its arrival until the book closes it"
 pub record OpenActual (τ : Timing) (b : DispatcherBook) (j : Job) : Type 0 where
@@ -95,7 +94,7 @@ pub record JumpsNothing (τ : Timing) (before after : DispatcherBook) : Type 0 w
 
 -- the n-th pass of a run and the reply to it, from 0 on; past the last, a refusal
 abbrev pub answer_at : List Answered → ℕ → Answered
-answer_at answers n = get_or answers n (record { pass = record { d = 0; finished = false }; reply = reply.Refused 0 })
+answer_at answers n = get_or answers n (record { pass = record { d = 0; finished = false }; reply = refused 0 })
 
 -- both, of the n-th pass of a run as its caller sees it
 pub record PassWithin (speeds : List ℕ) (ts : List Task) (first : Reply) (answers : List Answered) (n : ℕ) : Type 0 where
@@ -111,9 +110,9 @@ pub record MostUrgent (τ : Timing) (b : DispatcherBook) (j : Job) : Type 0 wher
 
 -- an order names the most urgent job that is open in the dispatcher's book, and is to stay idle exactly if none is
 abbrev pub NamesMostUrgent : Timing → DispatcherBook → Reply → Type 0
-NamesMostUrgent τ b (reply.Run task level hold) = MostUrgent τ b (latest τ b.clock task)
-NamesMostUrgent τ b (reply.Idle hold) = (j : Job) → OpenActual τ b j → ⊥
-NamesMostUrgent τ b (reply.Refused n) = ⊥
+NamesMostUrgent τ b (Ok (Run task level hold)) = MostUrgent τ b (latest τ b.clock task)
+NamesMostUrgent τ b (Ok (Idle hold)) = (j : Job) → OpenActual τ b j → ⊥
+NamesMostUrgent τ b (Err e) = ⊥
 
 -- 02, No. 5: the job of a task "that arrived at the same tick" as the running one
 abbrev pub arrived_with : Timing → DispatcherBook → ℕ → Job
@@ -260,21 +259,21 @@ AskedBefore =
 
 -- an order to run
 abbrev pub is_run : Reply → Bool
-is_run (reply.Run task level hold) = true
-is_run (reply.Idle hold) = false
-is_run (reply.Refused n) = false
+is_run (Ok (Run task level hold)) = true
+is_run (Ok (Idle hold)) = false
+is_run (Err e) = false
 
 -- a reply's hold
 abbrev pub hold_in : Reply → ℕ
-hold_in (reply.Run task level hold) = hold
-hold_in (reply.Idle hold) = hold
-hold_in (reply.Refused n) = 0
+hold_in (Ok (Run task level hold)) = hold
+hold_in (Ok (Idle hold)) = hold
+hold_in (Err e) = 0
 
 -- the order that stands after a reply: a refusal leaves the last one
 abbrev pub order_after : Reply → Reply → Reply
-order_after last (reply.Run task level hold) = reply.Run task level hold
-order_after last (reply.Idle hold) = reply.Idle hold
-order_after last (reply.Refused n) = last
+order_after last (Ok (Run task level hold)) = run_task task level hold
+order_after last (Ok (Idle hold)) = stay_idle hold
+order_after last (Err e) = last
 
 abbrev pub last_order : Reply → List Answered → Reply
 last_order last [] = last
@@ -365,9 +364,9 @@ pub record FullEarliness (speeds : List ℕ) (ts : List Task) (v : View) (x leve
   pub lowest : (l : ℕ) → v.floor x ≤ l → l < level → full_time speeds ts v x < time_of (speed_of speeds l) (v.rest x)
 
 abbrev pub TakesEarliness : List ℕ → List Task → View → Reply → Type 0
-TakesEarliness speeds ts v (reply.Run x level hold) = FullEarliness speeds ts v x level
-TakesEarliness speeds ts v (reply.Idle hold) = Unit {0}
-TakesEarliness speeds ts v (reply.Refused n) = Unit {0}
+TakesEarliness speeds ts v (Ok (Run x level hold)) = FullEarliness speeds ts v x level
+TakesEarliness speeds ts v (Ok (Idle hold)) = Unit {0}
+TakesEarliness speeds ts v (Err e) = Unit {0}
 
 -- of every order of a run that is newly chosen, at the moment that the books then show: the first one, and that of an accepted pass in which
 -- a job finished or one arrived

@@ -14,10 +14,9 @@ pub struct Entry {
     pub unspent: u32,
 }
 
-// What starting and passing answer: an order, or a refusal's number.
-#[derive(Clone, Copy)]
-pub enum Reply {
+// What starting and passing answer where they refuse nothing: to run a task at a level, or to stay idle, and for how many ticks.
+#[derive(Clone, Copy, Debug, PartialEq, Eq)]
+pub enum Order {
     Run { task: u32, level: u32, hold: u32 },
     Idle { hold: u32 },
-    Refused(u32),
 }

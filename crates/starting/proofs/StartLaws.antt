@@ -27,11 +27,9 @@ use Rattle.plan.proofs.JudgedLaws.{judged_refused, Admitted, none_answered_no, p
 use Rattle.arith.proofs.QuestionLaws.{no_before, yes_before, yes_of}
 use Rattle.schedule.specs.PlainSchedule.{Timing}
 use Rattle.reclaiming.specs.declared.Entry.{Entry}
-use Rattle.reclaiming.specs.declared.Reply.{Reply}
-use Rattle.reclaiming.specs.declared.Reply.TheVariants as reply
 use Rattle.reclaiming.specs.Allotments.{timing}
 use Rattle.reclaiming.specs.Orders.{hold_of, order_with}
-use Rattle.reclaiming.specs.Replies.{replied_by}
+use Rattle.reclaiming.specs.Replies.{Reply, replied_by}
 use Rattle.reclaiming.specs.Fields.{width_of}
 use Rattle.reclaiming.specs.StateBlock.{State, no_entry, end_fields, total_field, rest_in, task_of, plan_in, state_length, state_count, encode, decode, places}
 use Rattle.reclaiming.specs.States.{chosen_state, new_entry, start_state, view_of}
@@ -85,7 +83,7 @@ module _ (speeds : List ℕ) where
       (number n : ℕ) (ts : List Task) (buffer : List ℕ) →
       0 < n →
       number ≡ n →
-      LeftBy speeds number ts buffer (reply.Refused n) buffer
+      LeftBy speeds number ts buffer (refused n) buffer
   left_refused number zero ts buffer h e = absurd (omega arith)
   left_refused number (suc n) ts buffer h e = (
     sym (ap (λ (k : ℕ). replied_by k (start_order speeds (start_state speeds ts))) e),
@@ -95,7 +93,7 @@ module _ (speeds : List ℕ) where
   pub left_short :
       (ts : List Task) (buffer : List ℕ) →
       length buffer < state_length →
-      LeftBy speeds (room_number state_length (length buffer)) ts buffer (reply.Refused 9) buffer
+      LeftBy speeds (room_number state_length (length buffer)) ts buffer (refused 9) buffer
   left_short ts buffer h =
       left_refused (room_number state_length (length buffer)) 9 ts buffer (omega arith) (ap (λ (b : Bool). pick {A = ℕ} b 0 9) (lt-leb state_length (length buffer) h))
 
@@ -275,7 +273,7 @@ module _ (speeds block pairs : List ℕ) where
       (buffer : List ℕ) {j : Judged} {n : ℕ} →
       j ≡ judged_by read_number speeds (tasks_in block) →
       j.verdict ≡ refused n →
-      Left speeds block pairs buffer (reply.Refused n) buffer
+      Left speeds block pairs buffer (refused n) buffer
   start_unread buffer {n = n} read told =
       let f : Refusal read_number n = judged_refused speeds read_number (tasks_in block) read told in
       left_refused speeds (start_no speeds block pairs (length buffer)) n (tasks_in block) buffer f.positive
@@ -309,7 +307,7 @@ module _ (levels block pairs buffer : List ℕ) where
   own = paired_reading (speeds_in levels) block pairs ++ (room_question state_length (length buffer) ∷ [])
 
   -- the level block is refused
-  pub start_unloaded : {n : ℕ} → Refusal (first_no (loading levels)) n → Started levels block pairs buffer (reply.Refused n) buffer
+  pub start_unloaded : {n : ℕ} → Refusal (first_no (loading levels)) n → Started levels block pairs buffer (refused n) buffer
   start_unloaded {n} f =
       left_refused (speeds_in levels) (start_number levels block pairs (length buffer)) n (tasks_in block) buffer f.positive
       (no_before (loading levels) own n f.positive f.is)

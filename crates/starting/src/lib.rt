@@ -22,14 +22,14 @@ use levels::reading::table_of;
 use levels::table::SpeedTable;
 use orders::choosing::choose;
 use pairs::reading::read_paired;
-use plan::Plan;
-use reclaiming::Reply;
+use plan::{Plan, Refused};
+use reclaiming::Order;
 use state::STATE_LENGTH;
 use state::storing::store;
 use urgency::keys_of;
 
 // Starting a plan that was accepted over a table of speeds, of which the nominal level is known: 9 for the 221 bytes.
-fn started(table: &SpeedTable, p: Plan, highest: usize, state: &mut [u8]) -> Reply
+fn started(table: &SpeedTable, p: Plan, highest: usize, state: &mut [u8]) -> Result<Order, Refused>
     requires padded { table.now.speeds ≡ padded 8 0 (speeds_of table.now) }
     requires p_value { first_no (judging (speeds_of table.now) p.count (tasks_of p)) ≡ 0 }
     requires highest_value { highest ≡ nominal (speeds_of table.now) (tasks_of p) }
@@ -39,19 +39,24 @@ fn started(table: &SpeedTable, p: Plan, highest: usize, state: &mut [u8]) -> Rep
         (encode (start_state (speeds_of table.now) (tasks_of p))) state.old }
 {
     if state.len() < STATE_LENGTH {
-        return Reply::Refused(9);
+        return Err(Refused { number: 9 });
     }
     let speed = table.speeds[highest];
     let mut image = fresh(&table.speeds, table.levels, p, speed);
     let keys = keys_of(&image, p.count, 0);
-    let r = choose(table, &mut image, &keys, highest);
+    let order = choose(table, &mut image, &keys, highest);
     store(state, &image);
-    r
+    Ok(order)
 }
 
 // Starting over a table of speeds whose numbers past its count are zero: those questions of the block that reading puts, 22 of its pairs,
 // then 9 for the 221 bytes.
-fn start_over(table: &SpeedTable, block: &[u8], pairs: &[u8], state: &mut [u8]) -> Reply
+fn start_over(
+    table: &SpeedTable,
+    block: &[u8],
+    pairs: &[u8],
+    state: &mut [u8],
+) -> Result<Order, Refused>
     requires { table.now.speeds ≡ padded 8 0 (speeds_of table.now) }
     ensures value { result ≡ replied_by
         (start_no (speeds_of table.now) block.now pairs.now (length state.old))
@@ -62,19 +67,15 @@ fn start_over(table: &SpeedTable, block: &[u8], pairs: &[u8], state: &mut [u8]) 
 {
     let j = read_paired(table, block, pairs);
     let p = j.plan;
-    match j.verdict {
-        Err(e) => Reply::Refused(e.number),
-        Ok(admission) => started(table, p, admission.nominal, state),
-    }
+    let admission = j.verdict?;
+    started(table, p, admission.nominal, state)
 }
 
 // Starting: the questions 18 to 20 of the level block, those of the plan's that reading puts, 22 of its pairs, then 9 for the 221 bytes.
-pub fn start(levels: &[u8], block: &[u8], pairs: &[u8], state: &mut [u8]) -> Reply
+pub fn start(levels: &[u8], block: &[u8], pairs: &[u8], state: &mut [u8]) -> Result<Order, Refused>
     ensures value { result ≡ start_reply levels.now block.now pairs.now (length state.old) }
     ensures state_after { state.new ≡ start_buffer levels.now block.now pairs.now state.old }
 {
-    match table_of(levels) {
-        Err(refused) => Reply::Refused(refused.number),
-        Ok(table) => start_over(&table, block, pairs, state),
-    }
+    let table = table_of(levels)?;
+    start_over(&table, block, pairs, state)
 }

@@ -2,10 +2,11 @@
 ghost use Rattle.std.specs.Prelude.{◌+◌, ◌≤◌, length};
 ghost use Rattle.transcript.specs.Listing.{plan_line, refused_line, reply_line};
 ghost use Rattle.text.specs.Stores.{Put};
-ghost use Rattle.reclaiming.specs.declared.Reply.TheVariants as reply;
+ghost use Rattle.reclaiming.specs.Replies.{run_task, stay_idle};
 
 use crate::{put_byte, put_decimal, put_spaced, put_word};
-use reclaiming::Reply;
+use plan::Refused;
+use reclaiming::Order;
 
 // Stores the line of a plan: its count, its nominal level and its hyperperiod.
 pub fn plan_line(out: &mut [u8], at: usize, count: usize, level: usize, span: u32) -> usize
@@ -32,7 +33,7 @@ pub fn refused_line(out: &mut [u8], at: usize, n: u32) -> usize
 // Stores the line of an order to run a task.
 fn run_line(out: &mut [u8], at: usize, clock: u32, task: u32, level: u32, hold: u32) -> usize
     requires { at + 52 ≤ length out.old }
-    ensures { Put 52 out.old at (reply_line clock (reply.Run task level hold)) result out.new }
+    ensures { Put 52 out.old at (reply_line clock (run_task task level hold)) result out.new }
 {
     let clocked = put_decimal(out, at, clock as u64);
     let worded = put_word(out, clocked, b" run");
@@ -45,7 +46,7 @@ fn run_line(out: &mut [u8], at: usize, clock: u32, task: u32, level: u32, hold: 
 // Stores the line of an order to stay idle.
 fn idle_line(out: &mut [u8], at: usize, clock: u32, hold: u32) -> usize
     requires { at + 52 ≤ length out.old }
-    ensures { Put 52 out.old at (reply_line clock (reply.Idle hold)) result out.new }
+    ensures { Put 52 out.old at (reply_line clock (stay_idle hold)) result out.new }
 {
     let clocked = put_decimal(out, at, clock as u64);
     let worded = put_word(out, clocked, b" idle");
@@ -54,13 +55,13 @@ fn idle_line(out: &mut [u8], at: usize, clock: u32, hold: u32) -> usize
 }
 
 // Stores the line of a reply at a clock.
-pub fn reply_line(out: &mut [u8], at: usize, clock: u32, r: Reply) -> usize
+pub fn reply_line(out: &mut [u8], at: usize, clock: u32, reply: Result<Order, Refused>) -> usize
     requires { at + 52 ≤ length out.old }
-    ensures { Put 52 out.old at (reply_line clock r) result out.new }
+    ensures { Put 52 out.old at (reply_line clock reply) result out.new }
 {
-    match r {
-        Reply::Run { task, level, hold } => run_line(out, at, clock, task, level, hold),
-        Reply::Idle { hold } => idle_line(out, at, clock, hold),
-        Reply::Refused(n) => refused_line(out, at, n),
+    match reply {
+        Ok(Order::Run { task, level, hold }) => run_line(out, at, clock, task, level, hold),
+        Ok(Order::Idle { hold }) => idle_line(out, at, clock, hold),
+        Err(refused) => refused_line(out, at, refused.number),
     }
 }

@@ -11,8 +11,8 @@ use Rattle.plan.specs.Blocks.{edition_in, count_in, block_length}
 use Rattle.reclaiming.specs.Passes.{Pass}
 use Rattle.reclaiming.specs.StateBlock.{state_length}
 use Rattle.reclaiming.specs.Run.{Line, run_lines}
-use Rattle.reclaiming.specs.declared.Reply.{Reply}
-use Rattle.reclaiming.specs.declared.Reply.TheVariants as reply
+use Rattle.reclaiming.specs.declared.Order.TheVariants.{Run, Idle}
+use Rattle.reclaiming.specs.Replies.{Reply}
 use Rattle.transcript.specs.Text.{decimal, spaced, line_end, plan_word, run_word, idle_word, refused_word}
 
 -- 01: "First line: count, nominal level, hyperperiod."
@@ -25,10 +25,10 @@ refused_line n = refused_word ++ (spaced n ++ line_end)
 
 -- 01: "clock, then run, task, level, hold; or idle, hold"
 abbrev pub reply_line : ℕ → Reply → List ℕ
-reply_line clock (reply.Run task level hold) =
+reply_line clock (Ok (Run task level hold)) =
     decimal clock ++ (32 ∷ run_word ++ (spaced task ++ (spaced level ++ (spaced hold ++ line_end))))
-reply_line clock (reply.Idle hold) = decimal clock ++ (32 ∷ idle_word ++ (spaced hold ++ line_end))
-reply_line clock (reply.Refused n) = refused_line n
+reply_line clock (Ok (Idle hold)) = decimal clock ++ (32 ∷ idle_word ++ (spaced hold ++ line_end))
+reply_line clock (Err e) = refused_line e.number
 
 -- 02, No. 1: "In the bench input it precedes the plan, is cut by its count too": as many bytes as the count needs, or all there are if
 -- fewer, or if the count is bad

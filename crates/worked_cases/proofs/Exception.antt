@@ -21,8 +21,7 @@ use Rattle.schedule.specs.PlainSchedule.{Timing, Job, Book, more_urgent, opened}
 use Rattle.schedule.specs.Feasibility.{In}
 use Rattle.schedule.specs.Served.{OpenPlain}
 use Rattle.schedule.proofs.Members.{every_in}
-use Rattle.reclaiming.specs.declared.Reply.{Reply}
-use Rattle.reclaiming.specs.declared.Reply.TheVariants as reply
+use Rattle.reclaiming.specs.Replies.{Reply, run_task}
 use Rattle.reclaiming.specs.Allotments.{timing}
 use Rattle.reclaiming.specs.Orders.{next_arrival}
 use Rattle.reclaiming.specs.Passes.{Pass}
@@ -57,12 +56,12 @@ started = refl
 
 -- the run's replies, computed first: the books are read off them
 abbrev first : Reply
-first = reply.Run 0 1 1
+first = run_task 0 1 1
 
 abbrev answered : List Answered
 answered =
-    record { pass = pass true 1; reply = reply.Run 1 0 2 }
-    ∷ record { pass = pass false 1; reply = reply.Run 1 0 1 }
+    record { pass = pass true 1; reply = run_task 1 0 2 }
+    ∷ record { pass = pass false 1; reply = run_task 1 0 1 }
     ∷ []
 
 first_is : start_reply two_levels lone_plan [] (length buffer) ≡ first

@@ -14,11 +14,10 @@ use Rattle.plan.specs.LevelBlocks.{level_block, read_levels}
 use Rattle.plan.specs.Levels.{base_speeds, speed_of, hyperperiod, demand_within, nominal}
 use Rattle.plan.specs.Blocks.{plan_block, plan_of}
 use Rattle.schedule.specs.PlainSchedule.{Book, more_urgent}
-use Rattle.reclaiming.specs.declared.Reply.{Reply}
-use Rattle.reclaiming.specs.declared.Reply.TheVariants as reply
+use Rattle.reclaiming.specs.declared.Order.TheVariants.{Run, Idle}
 use Rattle.reclaiming.specs.Allotments.{timing}
 use Rattle.reclaiming.specs.Orders.{View}
-use Rattle.reclaiming.specs.Replies.{reply_answer}
+use Rattle.reclaiming.specs.Replies.{Reply, run_task, stay_idle, reply_answer}
 use Rattle.reclaiming.specs.Passes.{Pass}
 use Rattle.reclaiming.specs.Books.{DispatcherBook, opened_book, booked, ran}
 use Rattle.reclaiming.specs.Ideal.{ticked_view, ideal_first, ideal_reply, ideal_replies}
@@ -26,7 +25,8 @@ use Rattle.reclaiming.specs.Earliness.{earliness}
 use Rattle.reclaiming.specs.StateBlock.{same_bytes, tail_at, state_length}
 use Rattle.reclaiming.specs.Calls.{start_reply, pass_reply, show_reply, show_buffer}
 use Rattle.reclaiming.specs.Run.{Line, bytes_after, started_bytes, line, lines_from, run_lines}
-use Rattle.plan.specs.Counted.{counted_answer}
+use Rattle.plan.specs.Counted.{counted_answer, refused}
+use Rattle.std.specs.declared.result.Result.TheVariants.{Ok, Err}
 
 abbrev pub task : ℕ → ℕ → Task
 task p w = record { period = p; worst = w; fixed = 0; floor = 0 }
@@ -68,13 +68,13 @@ bench_lines = run_lines base_levels bench_block [] (replicate state_length 0) be
 -- the example's lines after the first; 02, No. 4: "the line at 14 becomes "14 run 1 6 5", [..] and the idle line becomes "19 idle 1""
 abbrev pub listed_lines : List Line
 listed_lines =
-    line 0 (reply.Run 0 7 4)
-    ∷ line 1 (reply.Run 1 5 7)
-    ∷ line 8 (reply.Run 2 7 2)
-    ∷ line 10 (reply.Run 0 7 4)
-    ∷ line 14 (reply.Run 1 6 5)
-    ∷ line 19 (reply.Idle 1)
-    ∷ line 20 (reply.Run 0 6 5)
+    line 0 (run_task 0 7 4)
+    ∷ line 1 (run_task 1 5 7)
+    ∷ line 8 (run_task 2 7 2)
+    ∷ line 10 (run_task 0 7 4)
+    ∷ line 14 (run_task 1 6 5)
+    ∷ line 19 (stay_idle 1)
+    ∷ line 20 (run_task 0 6 5)
     ∷ []
 
 -- a run from the two books alone: the first order and the replies to the passes, with the clock of the dispatcher's book
@@ -85,9 +85,9 @@ ideal_lines speeds ts passes =
 
 -- the paper's earliness of the job that each reply of a run says to run, at the moment at which it is chosen; 0 for every other reply
 abbrev pub earliness_of : List ℕ → List Task → View → Reply → ℕ
-earliness_of speeds ts v (reply.Run x level hold) = earliness speeds ts v x
-earliness_of speeds ts v (reply.Idle hold) = 0
-earliness_of speeds ts v (reply.Refused n) = 0
+earliness_of speeds ts v (Ok (Run x level hold)) = earliness speeds ts v x
+earliness_of speeds ts v (Ok (Idle hold)) = 0
+earliness_of speeds ts v (Err e) = 0
 
 abbrev pub earliness_along : List ℕ → List Task → DispatcherBook → Book → List Pass → List ℕ
 earliness_along speeds ts a b [] = []
@@ -101,12 +101,12 @@ edge_passes = pass false 0 ∷ pass true 11 ∷ pass false 4 ∷ pass true 5 ∷
 
 abbrev pub edge_lines : List Line
 edge_lines =
-    line 0 (reply.Run 0 7 4)
-    ∷ line 0 (reply.Refused 11)
-    ∷ line 0 (reply.Refused 12)
-    ∷ line 0 (reply.Refused 14)
-    ∷ line 0 (reply.Refused 14)
-    ∷ (take 5 (drop 1 listed_lines) ++ (line 19 (reply.Refused 13) ∷ []))
+    line 0 (run_task 0 7 4)
+    ∷ line 0 (refused 11)
+    ∷ line 0 (refused 12)
+    ∷ line 0 (refused 14)
+    ∷ line 0 (refused 14)
+    ∷ (take 5 (drop 1 listed_lines) ++ (line 19 (refused 13) ∷ []))
 
 -- an answer as numbers: a refusal is its number alone; else 0, then the answer's values
 abbrev pub told : Answer → List ℕ

@@ -8,7 +8,7 @@ use Rattle.plan.specs.declared.Task.{Task}
 use Rattle.plan.specs.Times.{time_of, worn}
 use Rattle.plan.specs.Blocks.{plan_bits, plan_block}
 use Rattle.schedule.specs.PlainSchedule.{more_urgent}
-use Rattle.reclaiming.specs.declared.Reply.TheVariants as reply
+use Rattle.reclaiming.specs.Replies.{run_task, stay_idle}
 use Rattle.reclaiming.specs.Passes.{Pass}
 use Rattle.reclaiming.specs.StateBlock.{state_length}
 use Rattle.reclaiming.specs.Run.{Line, bytes_after, started_bytes, line, run_lines}
@@ -44,11 +44,11 @@ angle_lines = run_lines base_levels angle_plan [] (replicate state_length 0) ang
 
 abbrev pub wanted_lines : List Line
 wanted_lines =
-    line 0 (reply.Run 0 0 1)
-    ∷ line 1 (reply.Run 1 0 5)
-    ∷ line 6 (reply.Run 0 0 1)
-    ∷ line 7 (reply.Run 1 0 4)
-    ∷ line 8 (reply.Idle 4)
+    line 0 (run_task 0 0 1)
+    ∷ line 1 (run_task 1 0 5)
+    ∷ line 6 (run_task 0 0 1)
+    ∷ line 7 (run_task 1 0 4)
+    ∷ line 8 (stay_idle 4)
     ∷ []
 
 -- the table; in a state the sensor's work left stands in bytes 25 to 27, its fixed ticks in byte 30, those left in byte 31

@@ -13,8 +13,7 @@ use Rattle.plan.specs.Pairs.{pair_number}
 use Rattle.plan.specs.Answers.{verdict_answer, judged_plan, write_plan, copy_number}
 use Rattle.plan.specs.Numbers.{plan_from}
 use Rattle.schedule.specs.PlainSchedule.{more_urgent}
-use Rattle.reclaiming.specs.declared.Reply.TheVariants as reply
-use Rattle.reclaiming.specs.Replies.{reply_answer}
+use Rattle.reclaiming.specs.Replies.{run_task, stay_idle, reply_answer}
 use Rattle.reclaiming.specs.Passes.{Pass}
 use Rattle.reclaiming.specs.StateBlock.{entry_with, encode, state_length}
 use Rattle.reclaiming.specs.States.{state_with}
@@ -62,11 +61,11 @@ valve_lines = run_lines base_levels valve_plan [] (replicate state_length 0) val
 -- the valve runs at level 5, at 0 one of several and at 14 alone; the other task, without a floor, at the lowest that will do
 abbrev pub floored_lines : List Line
 floored_lines =
-    line 0 (reply.Run 0 5 2)
-    ∷ line 2 (reply.Run 1 1 8)
-    ∷ line 10 (reply.Run 1 0 4)
-    ∷ line 14 (reply.Run 0 5 2)
-    ∷ line 16 (reply.Idle 4)
+    line 0 (run_task 0 5 2)
+    ∷ line 2 (run_task 1 1 8)
+    ∷ line 10 (run_task 1 0 4)
+    ∷ line 14 (run_task 0 5 2)
+    ∷ line 16 (stay_idle 4)
     ∷ []
 
 -- speeds 1 and 2, one task (8, 4) with floor 1: it runs at level 1 with 4 units and no plain ticks left

@@ -10,7 +10,7 @@ use Rattle.plan.specs.LevelBlocks.{level_block, speeds_in}
 use Rattle.plan.specs.Blocks.{plan_block, tasks_in}
 use Rattle.schedule.specs.PlainSchedule.{Job, more_urgent}
 use Rattle.schedule.specs.Served.{OpenPlain}
-use Rattle.reclaiming.specs.declared.Reply.TheVariants as reply
+use Rattle.reclaiming.specs.Replies.{run_task}
 use Rattle.reclaiming.specs.Allotments.{timing}
 use Rattle.reclaiming.specs.Orders.{next_arrival}
 use Rattle.reclaiming.specs.Passes.{Pass}
@@ -19,6 +19,7 @@ use Rattle.reclaiming.specs.States.{state_with, passed_state}
 use Rattle.reclaiming.specs.Run.{Line, bytes_after, started_bytes, line, run_lines}
 use Rattle.reclaiming.specs.Promises.{OpenActual, Started, time_left, actual_book, plain_book}
 use Rattle.worked_cases.specs.Cases.{Case, task, pass, case, bench_after, start_values, pass_values, shown_values}
+use Rattle.plan.specs.Counted.{refused}
 
 -- speeds 1 and 2, and two tasks of which the second is alone from tick 1 on
 abbrev pub two_levels : List ℕ
@@ -42,11 +43,11 @@ lone_lines = run_lines two_levels lone_plan [] (replicate state_length 0) lone_p
 -- at 1 the gap is 2 ticks and 01's allowance 1; at 2 the plain job is closed, and an unfinished tick would reach the arrival
 abbrev pub gap_lines : List Line
 gap_lines =
-    line 0 (reply.Run 0 1 1)
-    ∷ line 1 (reply.Run 1 0 2)
-    ∷ line 2 (reply.Run 1 0 1)
-    ∷ line 2 (reply.Refused 14)
-    ∷ line 3 (reply.Run 0 1 1)
+    line 0 (run_task 0 1 1)
+    ∷ line 1 (run_task 1 0 2)
+    ∷ line 2 (run_task 1 0 1)
+    ∷ line 2 (refused 14)
+    ∷ line 3 (run_task 0 1 1)
     ∷ []
 
 -- one level of speed 1, tasks (4, 3) and (8, 2): task 0 has so much work left, task 1 has 2 units and no plain ticks left

@@ -9,20 +9,21 @@ use lib.Seq.{take_all}
 use Rattle.plan.specs.declared.Task.{Task}
 use Rattle.plan.specs.LevelBlocks.{speeds_in}
 use Rattle.plan.specs.Blocks.{tasks_in}
-use Rattle.reclaiming.specs.declared.Reply.{Reply}
-use Rattle.reclaiming.specs.declared.Reply.TheVariants as reply
+use Rattle.reclaiming.specs.declared.Order.TheVariants.{Run, Idle}
+use Rattle.reclaiming.specs.Replies.{Reply}
 use Rattle.reclaiming.specs.Books.{opened_book}
 use Rattle.reclaiming.specs.StateBlock.{state_length}
 use Rattle.reclaiming.specs.Calls.{start_reply, start_buffer}
 use Rattle.reclaiming.specs.Run.{trace, started_bytes, lines_from}
 use Rattle.transcript.specs.Listing.{reply_line, passes_in, odd_line, lines_text, started_lines}
 use Rattle.listing.specs.RunLines.{passes_text}
+use Rattle.std.specs.declared.result.Result.TheVariants.{Ok, Err}
 
 -- a book is opened at clock 0, whatever the start replied
 pub opened_clock : (ts : List Task) (r : Reply) → (opened_book ts r).clock ≡ 0
-opened_clock ts (reply.Run task level hold) = refl
-opened_clock ts (reply.Idle hold) = refl
-opened_clock ts (reply.Refused n) = refl
+opened_clock ts (Ok (Run task level hold)) = refl
+opened_clock ts (Ok (Idle hold)) = refl
+opened_clock ts (Err e) = refl
 
 -- the lines from the start on
 pub started_is :

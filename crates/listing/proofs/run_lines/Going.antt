@@ -12,8 +12,8 @@ use Rattle.std.specs.Simd.{first_chunks}
 use Rattle.arith.specs.Choice.{pick}
 use Rattle.plan.specs.declared.Task.{Task}
 use Rattle.plan.specs.Times.{no_rest}
-use Rattle.reclaiming.specs.declared.Reply.{Reply}
-use Rattle.reclaiming.specs.declared.Reply.TheVariants as reply
+use Rattle.reclaiming.specs.declared.Order.TheVariants.{Run, Idle}
+use Rattle.reclaiming.specs.Replies.{Reply}
 use Rattle.reclaiming.specs.Passes.{Pass}
 use Rattle.reclaiming.specs.Books.{Answered, DispatcherBook, booked}
 use Rattle.reclaiming.specs.Calls.{pass_reply, pass_bytes}
@@ -23,14 +23,15 @@ use Rattle.text.specs.Stores.{Put}
 use Rattle.listing.specs.RunLines.{passes_text}
 use Rattle.arith.proofs.Stores.{sets_append}
 use Rattle.text.proofs.Puts.{as_text}
+use Rattle.std.specs.declared.result.Result.TheVariants.{Ok, Err}
 
 -- the lines tell of a book its clock alone
 module _ (speeds vs : List ℕ) (ts us : List Task) where
   same_clock :
       (b c : DispatcherBook) → b.clock ≡ c.clock → (p : Pass) (r : Reply) → (booked speeds ts b p r).clock ≡ (booked vs us c p r).clock
-  same_clock b c e p (reply.Run task level hold) = ap (λ (k : ℕ). k + p.d) e
-  same_clock b c e p (reply.Idle hold) = ap (λ (k : ℕ). k + p.d) e
-  same_clock b c e p (reply.Refused n) = e
+  same_clock b c e p (Ok (Run task level hold)) = ap (λ (k : ℕ). k + p.d) e
+  same_clock b c e p (Ok (Idle hold)) = ap (λ (k : ℕ). k + p.d) e
+  same_clock b c e p (Err x) = e
 
   same_lines :
       (b c : DispatcherBook) → b.clock ≡ c.clock → (answers : List Answered) → lines_from speeds ts b answers ≡ lines_from vs us c answers

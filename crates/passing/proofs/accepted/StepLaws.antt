@@ -19,7 +19,7 @@ use Rattle.plan.proofs.Facts.{FineList, floor_at}
 use Rattle.schedule.specs.PlainSchedule.{Timing}
 use Rattle.reclaiming.specs.declared.Entry.{Entry}
 use Rattle.orders.specs.declared.Choice.{Choice}
-use Rattle.reclaiming.specs.declared.Reply.{Reply}
+use Rattle.reclaiming.specs.Replies.{Reply}
 use Rattle.reclaiming.specs.Allotments.{timing}
 use Rattle.reclaiming.specs.Orders.{next_arrival, running_time, hold_of, order_with}
 use Rattle.reclaiming.specs.Passes.{arrives_at, chooses_anew, largest_clock, pass_questions}

@@ -1,6 +1,8 @@
 use Prim.Native.Nat.{ℕ}
 use mathlib.Core.Path.{◌≡◌, sym, subst, ap, ◌∙◌}
 use native.Mathlib.Omega.{arith}
+use Rattle.std.specs.declared.result.Result.TheVariants.{Ok}
+use Rattle.std.proofs.lemmas.Result.{err_from_is_err_and}
 use Rattle.levels.specs.Code.{loaded}
 use Rattle.levels.proofs.Tables.{levels_are}
 use Rattle.plan.proofs.LevelBlockLaws.{few_levels}
@@ -19,7 +21,7 @@ use Rattle.soundness.proofs.SoundLaws.{tested_good}
 use Rattle.passing.specs.Questions.{time_questions}
 use Rattle.passing.proofs.questions.QuestionSteps.{none_refused, first_refused, asked_is}
 use Rattle.passing.proofs.accepted.StepLaws.{Passing}
-use Rattle.passing.proofs.PassLaws.{number_is, refused, accepts, over_own}
+use Rattle.passing.proofs.PassLaws.{number_is, refuses, accepts, over_own}
 use Rattle.passing.proofs.pass_over.Goals.{After-pass_asked, In-Some}
 use Rattle.passing.proofs.pass_over.Goals as goal
 
@@ -71,24 +73,26 @@ pass_asked-requires c =
     )
 
 -- before that of its length, so that a refused pass which changes a byte is refused here
-pub returns-in-Err : goal.returns-in-Err
-returns-in-Err c =
-    let k = first_refused _ c.in-Err.ensures in
+pub returns-in_err-pass_asked : goal.returns-in_err-pass_asked
+returns-in_err-pass_asked c =
+    let p = err_from_is_err_and c.from_residual.result c.from_residual.ensures.1 in
+    let n : ℕ = c.in_err-pass_asked.field-0.0.number in
+    let k = first_refused _ {e = c.in_err-pass_asked.field-0.0} c.in_err-pass_asked.ensures in
     let all = over_own c.requires c.args.d c.args.finished _ _
-    (refused (loaded c.args.table.now.speeds c.args.table.now.levels) c.args.state.now c.args.d c.args.finished c.in-Err.refused.number
-    (number_is (loaded c.args.table.now.speeds c.args.table.now.levels) c.args.state.now c.args.d c.args.finished c.in-Some.ensures.sound c.in-Err.refused.number
-    (k.0 ∙ asked (goal.at.returns-in-Err c).After-pass_asked))
+    (refuses (loaded c.args.table.now.speeds c.args.table.now.levels) c.args.state.now c.args.d c.args.finished n
+    (number_is (loaded c.args.table.now.speeds c.args.table.now.levels) c.args.state.now c.args.d c.args.finished c.in-Some.ensures.sound n
+    (k.0 ∙ asked (goal.at.returns-in_err-pass_asked c).After-pass_asked))
     k.1) in
-    record { value = all.0; state_after = all.1 }
+    record { value = rw (p.1, p.2) all.0; state_after = all.1 }
 
 pub passed-requires : goal.passed-requires
 passed-requires c =
-    let k = passing (goal.at.passed-requires c).After-pass_asked (none_refused _ c.in_default-pass_asked.ensures) in
+    let k = passing (goal.at.passed-requires c).After-pass_asked (none_refused _ c.in_ok-pass_asked.ensures) in
     record { owns = (c.requires, k.good); c_value = k.order; next_value = k.arrival; finished_value = k.clear }
 
 pub returns : goal.returns
 returns c =
     let all = over_own c.requires c.args.d c.args.finished _ _
-    (accepts (passing (goal.at.returns c).After-pass_asked (none_refused _ c.in_default-pass_asked.ensures)) c.passed.result c.passed.new.block
+    (accepts (passing (goal.at.returns c).After-pass_asked (none_refused _ c.in_ok-pass_asked.ensures)) (Ok c.passed.result) c.passed.new.block
     c.passed.ensures.value c.passed.ensures.block_after) in
     record { value = all.0; state_after = all.1 }

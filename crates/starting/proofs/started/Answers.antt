@@ -5,6 +5,7 @@ use mathlib.Core.List.{List}
 use native.Mathlib.Omega.{arith}
 use borrow.Author.Rules.{rules}
 use lib.ListN.{length}
+use Rattle.std.specs.declared.result.Result.TheVariants.{Ok}
 use Rattle.arith.specs.Choice.{every}
 use Rattle.arith.proofs.Loops.{length_mapped}
 use Rattle.plan.specs.Blocks.{tasks_of}
@@ -73,10 +74,10 @@ keys_of-keys-requires c =
       by_index = λ i h. new_periods (new (goal.at.keys_of-keys-requires c).After-fresh-image) i (omega (arith, count_is k.plan.held));
     }
 
-pub choose-r-requires : goal.choose-r-requires
-choose-r-requires c =
-    let k = new (goal.at.choose-r-requires c).After-fresh-image in
-    let r = new_ready k (sym (count_is (accepted (goal.at.choose-r-requires c).Start).plan.held)) c.keys_of-keys.ensures c.args.highest c.requires.highest_value in record {
+pub choose-order-requires : goal.choose-order-requires
+choose-order-requires c =
+    let k = new (goal.at.choose-order-requires c).After-fresh-image in
+    let r = new_ready k (sym (count_is (accepted (goal.at.choose-order-requires c).Start).plan.held)) c.keys_of-keys.ensures c.args.highest c.requires.highest_value in record {
       holds = (r.0.0, r.0.1, r.0.2);
       enough = r.1.0;
       keyed = r.1.1;
@@ -84,7 +85,7 @@ choose-r-requires c =
 
 pub returns : goal.returns
 returns c =
-    let all = new_left_lem (new (goal.at.returns c).After-fresh-image) c.args.state.now (omega arith) c.choose-r.ensures.value c.choose-r.ensures.block_after c.store.ensures in record {
+    let all = new_left_lem (new (goal.at.returns c).After-fresh-image) c.args.state.now {r = Ok c.choose-order.result} (omega arith) c.choose-order.ensures.value c.choose-order.ensures.block_after c.store.ensures in record {
       value = all.0;
       state_after = all.1;
     }

@@ -4,7 +4,7 @@ use native.Mathlib.Omega.{arith}
 use Rattle.plan.specs.declared.Task.{Task}
 use Rattle.plan.specs.LevelBlocks.{speeds_in}
 use Rattle.plan.specs.Blocks.{tasks_in}
-use Rattle.reclaiming.specs.declared.Reply.{Reply}
+use Rattle.reclaiming.specs.Replies.{Reply}
 use Rattle.reclaiming.specs.Books.{opened_book}
 use Rattle.text.proofs.Puts.{◌then◌, as_text}
 use Rattle.listing.proofs.run_lines.Beginning.{opened_clock, started_is}

@@ -1,6 +1,7 @@
 use mathlib.Core.Path.{◌≡◌, sym, ◌∙◌}
 use mathlib.Core.Bool.{true, false}
 use native.Mathlib.Omega.{arith}
+use Rattle.std.specs.declared.result.Result.TheVariants.{Ok}
 use Rattle.levels.specs.Code.{loaded}
 use Rattle.plan.proofs.LevelBlockLaws.{few_levels}
 use Rattle.state.proofs.tables.TableLaws.{owned_fine, owned_stored}
@@ -59,7 +60,7 @@ overflow_sub-hold_of c = omega (arith, hold_enough (passing (goal.at.overflow_su
 pub returns-then-not-anew : goal.returns-then-not-anew
 returns-then-not-anew c =
     let k = moved (goal.at.returns-then-not-anew c).After-move_on (passing (goal.at.returns-then-not-anew c).Start) in record {
-      value = kept_reply k (stays (goal.at.returns-then-not-anew c).Then-not-anew) c.hold_of.result c.hold_of.ensures c.order_of.result c.order_of.ensures;
+      value = kept_reply k (stays (goal.at.returns-then-not-anew c).Then-not-anew) c.hold_of.result c.hold_of.ensures (Ok c.order_of.result) c.order_of.ensures;
       block_after = kept_bytes k (stays (goal.at.returns-then-not-anew c).Then-not-anew);
     }
 
@@ -78,7 +79,7 @@ choose_until-requires c =
 pub returns-then-d-next : goal.returns-then-d-next
 returns-then-d-next c =
     let k = moved (goal.at.returns-then-d-next c).After-move_on (passing (goal.at.returns-then-d-next c).Start) in record {
-      value = chosen_reply_lem k (anew (goal.at.returns-then-d-next c).Else-not-anew) c.choose_until.result c.choose_until.ensures.value;
+      value = chosen_reply_lem k (anew (goal.at.returns-then-d-next c).Else-not-anew) (Ok c.choose_until.result) c.choose_until.ensures.value;
       block_after = chosen_bytes k (anew (goal.at.returns-then-d-next c).Else-not-anew) c.choose_until.new.block c.choose_until.ensures.block_after;
     }
 
@@ -107,6 +108,6 @@ choose-requires c =
 pub returns : goal.returns
 returns c =
     let k = moved (goal.at.returns c).After-move_on (passing (goal.at.returns c).Start) in record {
-      value = chosen_reply_lem k (anew (goal.at.returns c).Else-not-anew) c.choose.result c.choose.ensures.value;
+      value = chosen_reply_lem k (anew (goal.at.returns c).Else-not-anew) (Ok c.choose.result) c.choose.ensures.value;
       block_after = chosen_bytes k (anew (goal.at.returns c).Else-not-anew) c.choose.new.block c.choose.ensures.block_after;
     }
