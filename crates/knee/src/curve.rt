@@ -2,7 +2,7 @@
 ghost use Rattle.std.specs.Prelude.{◌≡◌, ◌<◌};
 ghost use Rattle.knee.specs.Curve.{points, curve_at};
 
-// One byte an entry: the table is laid out anew at each call, and wider entries would take longer.
+// One byte an entry: no damping of the curve is above 255.
 const CURVE: [u8; 1301] = [
     // 0 degrees
     12, 12, 12, 12, 12, 12, 12, 12, 12, 12,

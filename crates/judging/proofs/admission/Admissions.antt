@@ -1,4 +1,4 @@
--- Whether a plan is admitted: what each loop has made so far, and what each way out says of the questions 6, 7 and 8.
+-- Whether a plan is admitted: what each loop has made so far, and what follows once the questions 6 and 24 are answered.
 -- Assumes nothing.
 use Prim.Native.Nat.{ℕ, zero, suc, ◌+◌, ◌*◌, ◌/◌, ◌<◌, ◌≤◌}
 use mathlib.Core.Path.{◌≡◌, refl, sym, subst, ap, ap₂, ◌∙◌}
@@ -6,7 +6,7 @@ use mathlib.Core.Bool.{Bool, true, false}
 use mathlib.Core.List.{List, [], ◌∷◌}
 use native.Mathlib.Omega.{arith}
 use native.Mathlib.Numerals.{add-one}
-use borrow.Author.Tests.{le-leb, lt-leb, le-ltb}
+use borrow.Author.Tests.{le-leb, lt-leb}
 use native.Mathlib.Nat.{mul-le-mul, div-le_self}
 use lib.Dec.{leb}
 use lib.ListN.{length, get_or}
@@ -17,17 +17,16 @@ use Rattle.arith.specs.Sum.{sum_to}
 use Rattle.arith.specs.Asking.{Question, first_no}
 use Rattle.plan.specs.declared.Task.{Task}
 use Rattle.plan.specs.declared.Plan.{Plan}
-use Rattle.plan.specs.Answers.{Verdict, accepted_with, answered}
+use Rattle.plan.specs.Answers.{Verdict, answered}
 use Rattle.plan.specs.Counted.{refused}
 use Rattle.plan.specs.Times.{task_time}
 use Rattle.plan.specs.Levels.{Rising, hyperperiod, demand_within, speed_of, nominal, admits}
 use Rattle.plan.specs.Blocks.{no_task, tasks_of}
 use Rattle.plan.specs.Questions.{range_question, floor_question, span_question, level_question, task_questions}
 use Rattle.arith.proofs.ArrayLaws.{value_at}
-use Rattle.arith.proofs.QuestionLaws.{ask_no, ask_yes, no_before, Yes, all_yes}
+use Rattle.arith.proofs.QuestionLaws.{no_before, Yes, all_yes}
 use Rattle.arith.proofs.Searches.{first_found, first_next, first_none, first_weaker}
 use Rattle.arith.proofs.Sums.{sum_to_eq, sum_of_taken}
-use Rattle.plan.proofs.Facts.{span_asked, level_asked}
 use Rattle.plan.proofs.Held.{Ranged, listed, task_at_lem}
 use Rattle.plan.proofs.LevelLaws.{admits_covers}
 use Rattle.plan.proofs.TimeLaws.{task_short}
@@ -175,28 +174,3 @@ module _ (speeds : List ℕ) (ts : List Task) where
   ranged_yes z e =
       let yes : Yes ranged = all_yes ranged refl (sym e ∙ z) in
       (yes.0, yes.1.0)
-
-  pub refused_7 :
-      ((range_question ts).reply ≡ true) × ((floor_question speeds ts).reply ≡ true) → 1000000 < hyperperiod ts → refused 7 ≡ verdict_of speeds ts
-  refused_7 (six, floor) over = told {n = 7} (ask_yes 6 six (ask_yes 24 floor (ask_no 7 _ (lt-leb (hyperperiod ts) 1000000 over))))
-
--- 6, 24 and 7 are answered yes, and the level is known
-pub record Levelled (speeds : List ℕ) (ts : List Task) (span level : ℕ) : Type 0 where
-  pub ranges : ((range_question ts).reply ≡ true) × ((floor_question speeds ts).reply ≡ true)
-  pub span_is : span ≡ hyperperiod ts
-  pub small : span ≤ 1000000
-  pub level_is : level ≡ nominal speeds ts
-
-module _ {speeds : List ℕ} {ts : List Task} {span level : ℕ} (k : Levelled speeds ts span level) where
-  levelled : (n : ℕ) → first_no (level_question speeds ts ∷ []) ≡ n → answered n speeds ts ≡ verdict_of speeds ts
-  levelled n e =
-      told speeds ts {n = n}
-      (ask_yes 6 k.ranges.0 (ask_yes 24 k.ranges.1 (ask_yes 7 (span_asked ts (subst (λ (x : ℕ). x ≤ 1000000) k.span_is k.small)) e)))
-
-  pub refused_8 : length speeds ≤ level → refused 8 ≡ verdict_of speeds ts
-  refused_8 h = levelled 8 (ask_no 8 _ (le-ltb (nominal speeds ts) (length speeds) (subst (λ (n : ℕ). length speeds ≤ n) k.level_is h)))
-
-  pub admitted_at : level < length speeds → accepted_with level span ≡ verdict_of speeds ts
-  admitted_at h =
-      ap₂ (λ (l x : ℕ). accepted_with l x) k.level_is k.span_is
-      ∙ levelled 0 (ask_yes 8 (level_asked speeds ts (subst (λ (n : ℕ). n < length speeds) k.level_is h)) refl)
