@@ -46,7 +46,7 @@ fn demand(p: Plan, jobs: &[u32; 16], speed: u32) -> u64
 fn slowest_for(table: &SpeedTable, work: u64, span: u32) -> Option<usize>
     ensures { MatchOption result
         (first (λ (speed : ℕ). leb work (span * speed)) (speeds_of table.now) ≡ table.now.levels)
-        (λ level. level ≡ first (λ (speed : ℕ). leb work (span * speed)) (speeds_of table.now)) }
+        (λ level. (level ≡ first (λ (speed : ℕ). leb work (span * speed)) (speeds_of table.now)) × (level < table.now.levels)) }
 {
     for level in 0..table.levels {
         let speed = table.speeds[level];
@@ -54,7 +54,7 @@ fn slowest_for(table: &SpeedTable, work: u64, span: u32) -> Option<usize>
             return Some(level);
         }
     }
-    None
+    None // the fastest is too slow
 }
 
 // The lowest level that admits a plan of this hyperperiod, which question 8 asks about. A level too slow for the plain work is passed over at

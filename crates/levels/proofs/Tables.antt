@@ -40,6 +40,32 @@ module _ {held : List ℕ} {levels : ℕ} (t : Table held levels) where
     pub speed_most : get_or held level 0 ≤ 1000
     speed_most = t.most level h
 
+  -- some of its levels are a table too
+  pub table_cut : {fewer : ℕ} → fewer ≤ levels → Table held fewer
+  table_cut {fewer} cut =
+      let at : (level : ℕ) → level < fewer → get_or (loaded held fewer) level 0 ≡ get_or held level 0 =
+      λ level l. get_or-take fewer held level 0 l in
+      let kept : length (loaded held fewer) ≡ fewer = length-take-le fewer held (omega (arith, t.size, t.few, cut)) in
+      record {
+        size = t.size;
+        few = omega (arith, t.few, cut);
+        rising =
+            record {
+              positive =
+                  λ level l. subst (λ (s : ℕ). 0 < s) (sym (at level (omega (arith, l, kept)))) (speed_positive level (omega (arith, l, kept, cut)));
+              faster =
+                  λ low high h l.
+                  let first : low < fewer = omega (arith, h, l, kept) in
+                  let second : high < fewer = omega (arith, l, kept) in
+                  let whole : get_or (loaded held levels) low 0 < get_or (loaded held levels) high 0 =
+                  t.rising.faster low high h (omega (arith, second, cut, levels_are)) in
+                  let x : get_or (loaded held levels) low 0 ≡ get_or held low 0 = get_or-take levels held low 0 (omega (arith, first, cut)) in
+                  let y : get_or (loaded held levels) high 0 ≡ get_or held high 0 = get_or-take levels held high 0 (omega (arith, second, cut)) in
+                  omega (arith, whole, x, y, at low first, at high second);
+            };
+        most = λ level l. t.most level (omega (arith, l, cut));
+      }
+
 -- a table that was found to rise
 pub rises_table : (held : List ℕ) (levels : ℕ) → length held ≡ 8 → levels ≤ 8 → rises_from 0 (loaded held levels) ≡ true → Table held levels
 rises_table held levels size few h =

@@ -65,8 +65,8 @@ pub fn kilmstra_plan_write(levels: &[u8], count: usize, numbers: &[u32], buffer:
         write_buffer levels.now (plan_from count numbers.now) buffer.old }
 {
     let p = plan_from(count, numbers);
-    let w = write(levels, p, buffer);
-    counted_number(w)
+    let written = write(levels, p, buffer);
+    counted_number(written)
 }
 
 // Reads a block over a level block and writes it again, with an answer as writing has.
@@ -78,6 +78,6 @@ pub fn kilmstra_plan_copy(levels: &[u8], block: &[u8], buffer: &mut [u8]) -> u64
         (copy_number levels.now block.now (length buffer.old))
         block.now buffer.old }
 {
-    let w = copy(levels, block, buffer);
-    counted_number(w)
+    let copied = copy(levels, block, buffer);
+    counted_number(copied)
 }

@@ -434,3 +434,8 @@ tested_good {speeds} {bytes} rising k =
           (keyed_in speeds bytes (sound_plan_yes speeds rising bytes k.sound) holds.few (sound_clock speeds bytes k.sound));
       nominal = k.nominal;
     }
+
+pub tested_next :
+    {speeds bytes : List ℕ} {found : Bool} {t : Tested} →
+    TestedBlock speeds found bytes t → t.next ≡ next_arrival (timing_in speeds bytes) (decode bytes).clock
+tested_next k = k.next

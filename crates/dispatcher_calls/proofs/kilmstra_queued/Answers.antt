@@ -1,7 +1,6 @@
-use mathlib.Core.Path.{ap, ◌∙◌}
-use Rattle.plan.specs.Counted.{counted_number}
+use Rattle.std.proofs.Common.{rules}
 use Rattle.dispatcher_calls.proofs.kilmstra_queued.Goals as goal
 
--- first, so that a wrong answer is refused here
+-- neither call is cited by its name, so that a wrong answer is refused here, and no other
 pub returns : goal.returns
-returns c = c.total_number.ensures ∙ ap counted_number c.queued-q.ensures
+returns c = search rules

@@ -16,11 +16,11 @@ returns-clause-value c =
     let moved : write_plan c.args.levels.now c.plan_from-p.result (length c.args.buffer.now)
     ≡ write_plan c.args.levels.now (plan_from c.args.count c.args.numbers.now) (length c.args.buffer.now) =
     ap (λ (p : Plan). write_plan c.args.levels.now p (length c.args.buffer.now)) c.plan_from-p.ensures in
-    cc
+    search (rules, moved)
 
 pub returns-clause-buffer_after : goal.returns-clause-buffer_after
 returns-clause-buffer_after c =
     let moved : write_buffer c.args.levels.now c.plan_from-p.result c.args.buffer.now
     ≡ write_buffer c.args.levels.now (plan_from c.args.count c.args.numbers.now) c.args.buffer.now =
     ap (λ (p : Plan). write_buffer c.args.levels.now p c.args.buffer.now) c.plan_from-p.ensures in
-    cc
+    search (rules, moved)

@@ -38,8 +38,10 @@ overflow_mul-span c =
     omega (arith, mul-le-mul span (slow (goal.at.overflow_mul-span c).In-loop-level))
 
 pub returns-then-work-span : goal.returns-then-work-span
-returns-then-work-span c =
-    level_found (trying (goal.at.returns-then-work-span c).In-loop-level) (le-leb c.args.work (c.args.span * speed (goal.at.returns-then-work-span c).In-loop-level) (omega (arith, c.if-work-span.true)))
+returns-then-work-span c = (
+  level_found (trying (goal.at.returns-then-work-span c).In-loop-level) (le-leb c.args.work (c.args.span * speed (goal.at.returns-then-work-span c).In-loop-level) (omega (arith, c.if-work-span.true))),
+  c.loop-level-test.true,
+)
 
 pub loop-level-preserved : goal.loop-level-preserved
 loop-level-preserved c =

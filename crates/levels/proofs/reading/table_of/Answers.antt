@@ -1,9 +1,13 @@
 use Rattle.std.proofs.lemmas.Result.{err_from_is_err_and}
-use Rattle.levels.proofs.Tables.{told_loaded, told_unloaded}
+use native.Mathlib.Omega.{arith}
+use Rattle.levels.proofs.Tables.{told_loaded, told_unloaded, table_cut}
 use Rattle.levels.proofs.reading.table_of.Goals as goal
 
+-- of any count of its levels, so that a table that is cut is refused at what the function answers
 pub invariant_of-result : goal.invariant_of-result
-invariant_of-result c = record { known = (told_loaded c.args.block.now c.read_levels-board.ensures c.in_ok-levels.was).table }
+invariant_of-result c =
+    let k = told_loaded c.args.block.now c.read_levels-board.ensures c.in_ok-levels.was in
+    record { known = table_cut k.table (omega (arith, k.some)) }
 
 pub returns : goal.returns
 returns c =
